@@ -1,0 +1,25 @@
+-- Running a source on a grid: what it gives, and what the lent memory holds afterwards.
+use mathlib.Core.Bool.{Bool, true, false}
+use mathlib.Core.List.{List}
+use Prim.Native.Nat.{ℕ}
+use lib.ListN.{length, replicate}
+use Rattle.value.specs.Choice.{if_then_else_}
+use Rattle.token.specs.Bytes.{between}
+use Rattle.grammar.specs.Reader.{Result, ok, fail}
+use Rattle.grammar.specs.Source.{Accepted}
+use Rattle.grammar.specs.Checking.{read-source}
+use Rattle.stepper.specs.Admission.{Request}
+use Rattle.stepper.specs.Report.{Counting, Report, refused, run}
+
+-- a run reads the source first
+abbrev pub run-read : Counting → Request → Result Accepted → Report
+run-read counting q (ok a) = run counting (a .program) q
+run-read counting q (fail number place) = refused number place (q .grid)
+
+-- the report that a run of a source gives, full or quiet, with the grid that it leaves
+unfoldable pub run-source : Counting → Bool → List ℕ → Request → Report
+run-source counting fit source q = run-read counting q (read-source fit source)
+
+-- scratch or marks after a run: zeros after one that began, even with 0 steps, else as they were
+unfoldable pub room-after : {A : Type 0} → A → Report → List A → List A
+room-after none r old = if between 1 24 (r .number) then old else replicate (length old) none

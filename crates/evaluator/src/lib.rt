@@ -1,0 +1,1 @@
+// Evaluating one cell, off the word table.

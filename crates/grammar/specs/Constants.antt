@@ -1,0 +1,135 @@
+-- Constants, ranges and constant declarations.
+use mathlib.Core.Bool.{Bool, true, false, _&&_, _||_}
+use Prim.Native.Nat.{ℕ, _+_}
+use lib.Dec.{leb, ltb}
+use lib.IntN.{ℤ, pos, negℤ}
+use Rattle.value.specs.Choice.{if_then_else_}
+use Rattle.value.specs.Number.{in-range, within}
+use Rattle.value.specs.Worked.{decode-of, encode-of, span-of}
+use Rattle.token.specs.declared.Token.{Token}
+use Rattle.token.specs.Kind.{kind}
+use Rattle.names.specs.Names.{name-kind, is}
+use Rattle.program.specs.Syntax.{Range, range}
+use Rattle.grammar.specs.Reader.{Reader, _>>=_, _>>_, return, unit, nothing, Turn, again, done, repeat, turns, refuse, refuse-last, note, is-kind, next-token, position, advance, put, put-both, expect, opening, is-name, by-name, entry-in, declare, fresh-name, use-name}
+
+-- ---- constants and ranges
+
+unfoldable pub is-sign : Token → Bool
+is-sign t = is-kind t (kind .plus) || is-kind t (kind .minus)
+
+-- over the name in a slot, which must be that of a simple constant; its value
+unfoldable pub named-constant : ℕ → Reader ℤ
+named-constant slot =
+    entry-in slot >>= λ e.
+    if is e (name-kind .constant) then use-name slot >> return (decode-of (e .word))
+    else refuse 8
+
+-- a constant: a literal, or the name of a simple constant
+unfoldable pub read-constant : Reader ℤ
+read-constant =
+    next-token >>= λ t.
+    if is-kind t (kind .literal) then advance >> return (decode-of (t .value))
+    else if is-name t then by-name t false named-constant (refuse 8)
+    else refuse 7
+
+-- behind a minus: the negative, refused 11 out of range
+unfoldable pub negated : ℤ → Reader ℤ
+negated z = if in-range (negℤ z) then return (negℤ z) else refuse-last 11
+
+-- a constant with at most one sign
+unfoldable pub read-signed : Reader ℤ
+read-signed =
+    next-token >>= λ t.
+    if is-kind t (kind .minus) then advance >> read-constant >>= negated
+    else if is-kind t (kind .plus) then advance >> read-constant
+    else read-constant
+
+-- low..high, of at least one value and at most so many, else refused 10 at the upper bound's constant
+unfoldable pub read-range : ℕ → Reader Range
+read-range most = do
+  low ← read-signed
+  expect (kind .dots)
+  high ← read-signed
+  if ltb 0 (span-of low high) && leb (span-of low high) most then return (range low high) else refuse-last 10
+
+-- a range of any length
+abbrev pub any-range : Reader Range
+any-range = read-range 4294967296
+
+-- ---- constant declarations
+
+-- the k-th value of an array constant of a size, and what stands behind it. The value is noted in word 3 of the k-th token of the list,
+-- which begins at position `first`. Too many values are refused 10 at the comma, too few are noted at the token after the last
+unfoldable pub value-turn : ℕ → ℕ → ℕ → Reader (Turn ℕ Unit)
+value-turn size first k = do
+  z ← read-signed
+  put (first + k) 3 (encode-of z)
+  t ← next-token
+  if is-kind t (kind .comma) then (if leb size (k + 1) then refuse 10 else advance >> return (again (k + 1)))
+      else if leb size (k + 1) then return (done unit)
+      else note 10 >> return (done unit)
+
+-- the list of values
+unfoldable pub read-values : ℕ → ℕ → Reader Unit
+read-values size first = repeat turns (value-turn size first) 0
+
+-- the size of an array constant, else refused 10
+unfoldable pub read-size : Reader ℤ
+read-size = read-constant >>= λ z. if within (pos 1) (pos 1024) z then return z else refuse-last 10
+
+-- from the `[` behind the name up to the size
+unfoldable pub array-head : Bool → Reader ℤ
+array-head room = do
+  opening room
+  expect (kind .unbracket)
+  expect (kind .for-word)
+  read-size
+
+-- from the `[` behind the name, which stands at position i, on. The size and the list's position are noted at the name; until the source
+-- is read, the record's value is i
+unfoldable pub array-constant : Bool → ℕ → Reader Unit
+array-constant room i = do
+  z ← array-head room
+  expect (kind .assign)
+  first ← position
+  read-values (encode-of z) first
+  put-both i (encode-of z) first
+  declare i (name-kind .array) i
+  nothing
+
+-- from the `:=` behind the name, which stands at position i, on
+unfoldable pub simple-constant : ℕ → Reader Unit
+simple-constant i = do
+  advance
+  z ← read-signed
+  declare i (name-kind .constant) (encode-of z)
+  nothing
+
+-- what stands behind the name of a constant
+unfoldable pub constant-value : Bool → ℕ → Reader Unit
+constant-value room i =
+    next-token >>= λ t.
+    if is-kind t (kind .assign) then simple-constant i
+    else if is-kind t (kind .bracket) then array-constant room i
+    else refuse 7
+
+-- a declaration, from `const` on. The name holds from the declaration's end on, and this position is noted at `const`
+unfoldable pub read-declaration : Bool → Reader Unit
+read-declaration room = do
+  c ← position
+  advance
+  i ← fresh-name
+  constant-value room i
+  past ← position
+  put c 3 past
+
+-- one more declaration, if there is one
+unfoldable pub constants-turn : Unit {0} → Reader (Turn Unit Unit)
+constants-turn x =
+    next-token >>= λ t.
+    if is-kind t (kind .const-word) then read-declaration true >> return (again unit)
+    else return (done unit)
+
+-- the constants before the cell declaration
+unfoldable pub read-constants : Reader Unit
+read-constants = repeat turns constants-turn unit

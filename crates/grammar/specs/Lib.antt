@@ -1,0 +1,9 @@
+-- What a source means, or the reply that refuses it. Read in this order.
+pub mod Complaint
+pub mod Reader
+pub mod Constants
+pub mod Expressions
+pub mod Statements
+pub mod Source
+pub mod Checking
+pub mod Answer

@@ -1,0 +1,2 @@
+-- The name list.
+pub mod Names

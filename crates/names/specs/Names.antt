@@ -1,0 +1,90 @@
+-- The name list as flat words: four words a name (start, length, kind, value), one name for each declaration, in order of declaration.
+use mathlib.Core.Bool.{Bool, true, false, not, _&&_, _||_}
+use mathlib.Core.List.{List, [], _∷_}
+use mathlib.Core.Option.{Option, none, some}
+use Prim.Native.Nat.{ℕ, zero, suc, _+_, _*_}
+use lib.ListN.{getD, set}
+use lib.Dec.{eqb}
+use Rattle.value.specs.Choice.{if_then_else_}
+use Rattle.token.specs.Bytes.{fold, same}
+use Rattle.names.specs.declared.Entry.{Entry}
+
+-- the kinds of names
+abbrev pub name-kind :
+    record {
+      constant : ℕ;
+      array : ℕ;
+      field : ℕ;
+      variable : ℕ;
+      index : ℕ;
+      const-field : ℕ;
+    }
+name-kind = record { constant = 1; array = 2; field = 3; variable = 4; index = 5; const-field = 6 }
+
+-- at most so many names
+abbrev pub most-names : ℕ
+most-names = 256
+
+-- the words of the whole name list
+abbrev pub name-words : ℕ
+name-words = 4 * most-names
+
+-- the name in a slot
+unfoldable pub entry-at : List ℕ → ℕ → Entry
+entry-at names slot =
+    record {
+      start = getD names (4 * slot) 0;
+      len = getD names (4 * slot + 1) 0;
+      kind = getD names (4 * slot + 2) 0;
+      word = getD names (4 * slot + 3) 0;
+    }
+
+-- so many names from a slot on
+unfoldable pub entries-from : List ℕ → ℕ → ℕ → List Entry
+entries-from names slot zero = []
+entries-from names slot (suc n) = entry-at names slot ∷ entries-from names (slot + 1) n
+
+-- the words with a name written into a slot
+abbrev pub with-entry : List ℕ → ℕ → Entry → List ℕ
+with-entry names slot e =
+    set (set (set (set names (4 * slot) (e .start)) (4 * slot + 1) (e .len)) (4 * slot + 2) (e .kind)) (4 * slot + 3) (e .word)
+
+-- the words with a new value for the name in a slot
+abbrev pub with-value : List ℕ → ℕ → ℕ → List ℕ
+with-value names slot v = set names (4 * slot + 3) v
+
+-- ---- which names are seen
+
+abbrev pub is : Entry → ℕ → Bool
+is e k = eqb (e .kind) k
+
+-- fields, const fields too, have a name space of their own
+unfoldable pub is-field : Entry → Bool
+is-field e = is e (name-kind .field) || is e (name-kind .const-field)
+
+-- what an expression or a left side can name: no field, and an index only while its loop is open (its value is then not 0)
+unfoldable pub is-visible : Entry → Bool
+is-visible e = not (is-field e) && not (is e (name-kind .index) && eqb (e .word) 0)
+
+-- a name space: that of fields, or that of all other visible names
+unfoldable pub in-space : Bool → Entry → Bool
+in-space fields e = if fields then is-field e else is-visible e
+
+-- ---- spelling
+
+-- n bytes of the source from a place on, without letter case
+unfoldable pub letters : List ℕ → ℕ → ℕ → List ℕ
+letters source start zero = []
+letters source start (suc n) = fold (getD source start 0) ∷ letters source (start + 1) n
+
+-- the number, from `slot` on, of the first name that satisfies the test and is spelled so
+unfoldable pub find : List ℕ → (Entry → Bool) → List ℕ → ℕ → List Entry → Option ℕ
+find source test word slot [] = none
+find source test word slot (e ∷ es) =
+    if test e && same word (letters source (e .start) (e .len)) then some slot
+    else find source test word (slot + 1) es
+
+-- the slot of the name of a name space that is spelled as the n bytes from a place on
+unfoldable pub find-name : List ℕ → List ℕ → ℕ → Bool → ℕ → ℕ → Option ℕ
+find-name source names count fields start n =
+    find source (in-space fields) (letters source start n) 0 (entries-from names 0 count)

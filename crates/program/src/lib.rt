@@ -1,0 +1,1 @@
+// The word table of a program: four words a token.

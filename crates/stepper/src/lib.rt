@@ -1,0 +1,1 @@
+// Steps and runs of a program on a grid.

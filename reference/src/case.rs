@@ -1,0 +1,171 @@
+//! Cases, their replies, and their binary form.
+
+use crate::interpret::{run_full, Report, WORDS};
+use crate::names::MAX_NAMES;
+use crate::open::run_quiet;
+use crate::parse::{check, Reply};
+
+/// One run: the source, what is lent, and the times.
+#[derive(Clone, Debug)]
+pub struct RunCase {
+    pub source: Vec<u8>,
+    pub words: usize,
+    pub names: usize,
+    pub shape: Vec<u32>,
+    pub grid: Vec<i32>,
+    pub scratch: usize,
+    pub marks: usize,
+    pub start: i64,
+    pub steps: i64,
+}
+
+/// What a run gave: the report, the grid, and the words for scratch and marks.
+#[derive(Clone, Debug, PartialEq, Eq)]
+pub struct Outcome {
+    pub report: Report,
+    pub grid: Vec<i32>,
+    pub scratch: &'static str,
+    pub marks: &'static str,
+}
+
+impl RunCase {
+    /// A case in which all that is lent has the right length for `shape` and
+    /// `grid`.
+    pub fn new(source: Vec<u8>, shape: &[u32], grid: Vec<i32>, start: i64, steps: i64) -> RunCase {
+        RunCase {
+            source,
+            words: WORDS,
+            names: MAX_NAMES,
+            shape: shape.to_vec(),
+            scratch: grid.len(),
+            marks: cells_of(shape),
+            grid,
+            start,
+            steps,
+        }
+    }
+}
+
+/// The number of cells of a shape, held at 65,536 for sizes that are wrong.
+pub fn cells_of(shape: &[u32]) -> usize {
+    let mut cells: u64 = 1;
+    for &size in shape {
+        cells = (cells * u64::from(size)).min(65_536);
+    }
+    cells as usize
+}
+
+pub fn scratch_on_entry(length: usize) -> Vec<i32> {
+    (0..length).map(|i| ((i * 7 + 3) % 1000) as i32).collect()
+}
+
+pub fn marks_on_entry(length: usize) -> Vec<u8> {
+    (0..length).map(|i| ((i * 5 + 1) % 256) as u8).collect()
+}
+
+fn began(number: u32) -> bool {
+    number == 0 || number >= 30
+}
+
+fn word<T: PartialEq + Default>(after: &[T], before: &[T], began: bool) -> &'static str {
+    let zero = after.iter().all(|entry| *entry == T::default());
+    let same = after == before;
+    match (zero, same) {
+        (true, true) if began => "zero",
+        (true, true) => "same",
+        (true, false) => "zero",
+        (false, true) => "same",
+        (false, false) => "other",
+    }
+}
+
+/// Runs a case, full or quiet.
+pub fn run_case(case: &RunCase, quiet: bool) -> Outcome {
+    let mut grid = case.grid.clone();
+    let scratch_before = scratch_on_entry(case.scratch);
+    let marks_before = marks_on_entry(case.marks);
+    let mut scratch = scratch_before.clone();
+    let mut marks = marks_before.clone();
+    let run = if quiet { run_quiet } else { run_full };
+    let report = run(
+        &case.source,
+        case.words,
+        case.names,
+        &case.shape,
+        &mut grid,
+        &mut scratch,
+        &mut marks,
+        case.start,
+        case.steps,
+    );
+    let began = began(report.number);
+    Outcome {
+        report,
+        grid,
+        scratch: word(&scratch, &scratch_before, began),
+        marks: word(&marks, &marks_before, began),
+    }
+}
+
+/// The line that `check` writes.
+pub fn check_line(reply: Reply) -> String {
+    if reply.number == 0 {
+        "accepted\n".to_string()
+    } else {
+        format!("refused {} at {}\n", reply.number, reply.place)
+    }
+}
+
+/// The reply line of a run.
+pub fn run_line(outcome: &Outcome) -> String {
+    let report = &outcome.report;
+    let mut line = format!(
+        "{} {} {} {} {} {} {} :",
+        report.number,
+        report.place,
+        report.cell,
+        report.steps,
+        report.count,
+        outcome.scratch,
+        outcome.marks
+    );
+    for value in &outcome.grid {
+        line.push(' ');
+        line.push_str(&value.to_string());
+    }
+    line.push('\n');
+    line
+}
+
+pub fn check_reply(source: &[u8]) -> String {
+    check_line(check(source).reply)
+}
+
+fn put_u32(out: &mut Vec<u8>, value: u32) {
+    out.extend_from_slice(&value.to_le_bytes());
+}
+
+/// The binary form of a check.
+pub fn put_check(out: &mut Vec<u8>, source: &[u8]) {
+    put_u32(out, source.len() as u32);
+    out.extend_from_slice(source);
+}
+
+/// The binary form of a run.
+pub fn put_run(out: &mut Vec<u8>, case: &RunCase) {
+    put_check(out, &case.source);
+    put_u32(out, case.words as u32);
+    put_u32(out, case.names as u32);
+    put_u32(out, case.shape.len() as u32);
+    for &size in &case.shape {
+        put_u32(out, size);
+    }
+    put_u32(out, case.grid.len() as u32);
+    for &value in &case.grid {
+        out.extend_from_slice(&value.to_le_bytes());
+    }
+    put_u32(out, case.scratch as u32);
+    put_u32(out, case.marks as u32);
+    out.extend_from_slice(&case.start.to_le_bytes());
+    out.extend_from_slice(&case.steps.to_le_bytes());
+}

@@ -1,0 +1,24 @@
+//! A second, independent reading of the rules: it checks sources, runs them
+//! full or quiet, and makes test cases with their replies.
+
+pub mod case;
+pub mod damage;
+pub mod generate;
+pub mod interpret;
+pub mod json;
+pub mod lex;
+pub mod limits;
+pub mod names;
+pub mod open;
+pub mod parse;
+pub mod random;
+pub mod runs;
+pub mod soup;
+pub mod text;
+pub mod tree;
+pub mod vectors;
+pub mod written;
+
+pub use interpret::{run_full, Report};
+pub use open::run_quiet;
+pub use parse::{check, Checked, Reply};

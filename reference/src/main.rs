@@ -1,0 +1,278 @@
+//! The program: `reference SUBCOMMAND ...`; see `USAGE`.
+
+use reference::case::{check_line, check_reply, put_check, put_run, run_case, run_line};
+use reference::{check, json, vectors, Report};
+use std::io::{self, BufWriter, Read, Write};
+use std::path::Path;
+use std::process::ExitCode;
+
+const USAGE: &str = "\
+usage: reference check                        one source on standard input
+       reference names                        one source on standard input
+       reference run FILE                     one run, as JSON
+       reference cases checks|runs SEED COUNT [--small]
+       reference stream checks|runs SEED COUNT [--small] [--replies | --quiet-replies]
+       reference vectors DIR
+       reference verify ROOT
+       reference count SEED COUNT
+";
+
+fn main() -> ExitCode {
+    let mut words: Vec<String> = std::env::args().skip(1).collect();
+    let mut flag = |name: &str| {
+        let before = words.len();
+        words.retain(|word| word != name);
+        words.len() != before
+    };
+    let small = flag("--small");
+    let replies = flag("--replies");
+    let quiet_replies = flag("--quiet-replies");
+    let words: Vec<&str> = words.iter().map(String::as_str).collect();
+    let done = match words.as_slice() {
+        ["check"] => check_input(),
+        ["names"] => names_input(),
+        ["run", file] => run_file(file),
+        ["cases", what @ ("checks" | "runs"), seed, count] => match numbers(seed, count) {
+            Some((seed, count)) => cases(*what == "runs", seed, count, small),
+            None => return usage(),
+        },
+        ["stream", what @ ("checks" | "runs"), seed, count] => match numbers(seed, count) {
+            Some((seed, count)) => {
+                let wanted = match (replies, quiet_replies) {
+                    (_, true) => Wanted::QuietReplies,
+                    (true, _) => Wanted::Replies,
+                    _ => Wanted::Cases,
+                };
+                stream(*what == "runs", seed, count, small, wanted)
+            }
+            None => return usage(),
+        },
+        ["vectors", folder] => write_vectors(Path::new(folder)),
+        ["verify", root] => verify(Path::new(root)),
+        ["count", seed, count] => match numbers(seed, count) {
+            Some((seed, count)) => count_replies(seed, count),
+            None => return usage(),
+        },
+        _ => return usage(),
+    };
+    match done {
+        Ok(code) => code,
+        Err(error) => {
+            eprintln!("{error}");
+            ExitCode::from(2)
+        }
+    }
+}
+
+fn usage() -> ExitCode {
+    eprint!("{USAGE}");
+    ExitCode::from(2)
+}
+
+fn numbers(seed: &str, count: &str) -> Option<(u64, usize)> {
+    Some((seed.parse().ok()?, count.parse().ok()?))
+}
+
+fn read_source() -> io::Result<Vec<u8>> {
+    let mut source = Vec::new();
+    io::stdin().take(65_536).read_to_end(&mut source)?;
+    Ok(source)
+}
+
+fn check_input() -> io::Result<ExitCode> {
+    let line = check_reply(&read_source()?);
+    io::stdout().write_all(line.as_bytes())?;
+    Ok(ExitCode::SUCCESS)
+}
+
+fn names_input() -> io::Result<ExitCode> {
+    let checked = check(&read_source()?);
+    let Some(program) = checked.program else {
+        print!("{}", check_line(checked.reply));
+        return Ok(ExitCode::from(1));
+    };
+    for record in &program.names {
+        println!(
+            "{} {} {} {}",
+            record.start, record.length, record.kind, record.value
+        );
+    }
+    Ok(ExitCode::SUCCESS)
+}
+
+fn print_report(title: &str, report: &Report) {
+    println!(
+        "{title} number {} place {} cell {} steps {} count {}",
+        report.number, report.place, report.cell, report.steps, report.count
+    );
+}
+
+fn run_file(file: &str) -> io::Result<ExitCode> {
+    let text = std::fs::read(file)?;
+    let Some(case) = json::read(&text).as_ref().and_then(json::run_case_of) else {
+        eprintln!("not a run: {file}");
+        return Ok(ExitCode::from(2));
+    };
+    let full = run_case(&case, false);
+    let quiet = run_case(&case, true);
+    print_report("full", &full.report);
+    let grid: Vec<String> = full.grid.iter().map(|value| value.to_string()).collect();
+    println!("grid {}", grid.join(" "));
+    print_report("quiet", &quiet.report);
+    Ok(ExitCode::SUCCESS)
+}
+
+fn cases(of_runs: bool, seed: u64, count: usize, small: bool) -> io::Result<ExitCode> {
+    let mut out = BufWriter::new(io::stdout().lock());
+    if of_runs {
+        for case in vectors::runs(seed, count, small) {
+            out.write_all(json::run_line(&case).as_bytes())?;
+        }
+    } else {
+        for source in vectors::checks(seed, count, small) {
+            out.write_all(json::check_line(&source).as_bytes())?;
+        }
+    }
+    out.flush()?;
+    Ok(ExitCode::SUCCESS)
+}
+
+#[derive(Clone, Copy, PartialEq, Eq)]
+enum Wanted {
+    Cases,
+    Replies,
+    QuietReplies,
+}
+
+fn stream(
+    of_runs: bool,
+    seed: u64,
+    count: usize,
+    small: bool,
+    wanted: Wanted,
+) -> io::Result<ExitCode> {
+    let mut out = BufWriter::new(io::stdout().lock());
+    let mut bytes = Vec::new();
+    if of_runs {
+        for case in vectors::runs(seed, count, small) {
+            bytes.clear();
+            match wanted {
+                Wanted::Cases => put_run(&mut bytes, &case),
+                _ => {
+                    let quiet = wanted == Wanted::QuietReplies;
+                    bytes.extend(run_line(&run_case(&case, quiet)).bytes());
+                }
+            }
+            out.write_all(&bytes)?;
+        }
+    } else {
+        for source in vectors::checks(seed, count, small) {
+            bytes.clear();
+            match wanted {
+                Wanted::Cases => put_check(&mut bytes, &source),
+                _ => bytes.extend(check_reply(&source).bytes()),
+            }
+            out.write_all(&bytes)?;
+        }
+    }
+    out.flush()?;
+    Ok(ExitCode::SUCCESS)
+}
+
+fn write_vectors(folder: &Path) -> io::Result<ExitCode> {
+    std::fs::create_dir_all(folder)?;
+    let files = vectors::files();
+    let contents = [
+        ("check.stdin", &files.check_in),
+        ("check.stdout", &files.check_out),
+        ("run.stdin", &files.run_in),
+        ("run_full.stdout", &files.full_out),
+        ("run_quiet.stdout", &files.quiet_out),
+    ];
+    for (name, content) in contents {
+        std::fs::write(folder.join(name), content)?;
+        println!("{name}: {} bytes", content.len());
+    }
+    println!("{} checks, {} runs", files.checks, files.runs);
+    Ok(ExitCode::SUCCESS)
+}
+
+fn verify(root: &Path) -> io::Result<ExitCode> {
+    let files = vectors::files();
+    let crates = [
+        ("check_vectors", &files.check_in, &files.check_out),
+        ("run_vectors", &files.run_in, &files.full_out),
+        ("quiet_vectors", &files.run_in, &files.quiet_out),
+    ];
+    for (name, input, output) in crates {
+        let folder = root.join("crates").join(name);
+        if !folder.exists() {
+            println!("crates/{name}: not there yet, skipped");
+            continue;
+        }
+        for (file, expected) in [("stdin", input), ("stdout", output)] {
+            let title = format!("crates/{name}/{file}");
+            let stored = match std::fs::read(folder.join(file)) {
+                Ok(stored) => stored,
+                Err(error) => {
+                    println!("{title}: {error}");
+                    return Ok(ExitCode::from(1));
+                }
+            };
+            if stored != *expected {
+                let same = stored.iter().zip(expected).take_while(|(a, b)| a == b);
+                println!("{title}: differs from byte {}", same.count());
+                return Ok(ExitCode::from(1));
+            }
+            println!("{title}: the same, {} bytes", stored.len());
+        }
+    }
+    Ok(ExitCode::SUCCESS)
+}
+
+fn count_replies(seed: u64, count: usize) -> io::Result<ExitCode> {
+    let mut checks = [0usize; 64];
+    let mut runs = [0usize; 64];
+    for source in vectors::checks(seed, count, false) {
+        checks[check(&source).reply.number as usize] += 1;
+    }
+    let mut quieter = 0;
+    for case in vectors::runs(seed, count / 10, false) {
+        let full = run_case(&case, false).report;
+        let quiet = run_case(&case, true).report;
+        runs[full.number as usize] += 1;
+        if quiet.count < full.count {
+            quieter += 1;
+        }
+    }
+    println!("number checks runs");
+    for number in 0..64 {
+        if checks[number] + runs[number] > 0 {
+            println!("{number} {} {}", checks[number], runs[number]);
+        }
+    }
+    println!("runs whose quiet count is less than the full one: {quieter}");
+    let wanted = [0]
+        .into_iter()
+        .chain(2..=10)
+        .chain(12..=15)
+        .chain(20..=24)
+        .chain(30..=33);
+    let mut missing = false;
+    for number in wanted {
+        let found = if number < 20 {
+            checks[number]
+        } else {
+            runs[number]
+        };
+        if found == 0 {
+            println!("never: {number}");
+            missing = true;
+        }
+    }
+    Ok(if missing {
+        ExitCode::from(1)
+    } else {
+        ExitCode::SUCCESS
+    })
+}

@@ -1,0 +1,201 @@
+//! The stored vectors, and rows of generated cases.
+
+use crate::case::{check_reply, put_check, put_run, run_case, run_line, RunCase};
+use crate::damage::{damage_bytes, damage_tokens, VOCABULARY};
+use crate::generate::{program, Wish};
+use crate::limits;
+use crate::random::Random;
+use crate::runs;
+use crate::soup::{soup, HALVES};
+use crate::text::{any_style, write, Style};
+use crate::written;
+
+/// A generated source. In `small` ones there are at most about 120 tokens.
+pub fn any_check(random: &mut Random, small: bool) -> Vec<u8> {
+    loop {
+        let source = one_check(random, small);
+        if !small || (source.len() <= 700 && crate::lex::lex(&source).len() <= 121) {
+            return source;
+        }
+    }
+}
+
+fn one_check(random: &mut Random, small: bool) -> Vec<u8> {
+    let kind = random.below(100);
+    if kind < 34 {
+        let tokens = soup(random);
+        let style = any_style(random);
+        let mut source = write(random, &tokens, style);
+        if random.chance(3) {
+            damage_bytes(random, &mut source);
+        }
+        return source;
+    }
+    if kind >= 97 {
+        return limits::any(random, small);
+    }
+    let wish = Wish {
+        tokens: if small || random.chance(60) {
+            20 + random.below(80)
+        } else {
+            20 + random.below(300)
+        },
+        reach: random.between(1, 9),
+        turns: 50,
+        safe: [100, 90, 60, 0][random.below(4)],
+        time: random.chance(60),
+    };
+    let mut tokens = program(random, wish);
+    if (55..85).contains(&kind) {
+        damage_tokens(random, &mut tokens);
+        while random.chance(20) {
+            damage_tokens(random, &mut tokens);
+        }
+    }
+    let style = any_style(random);
+    let mut source = write(random, &tokens, style);
+    if kind >= 85 {
+        damage_bytes(random, &mut source);
+        while random.chance(20) {
+            damage_bytes(random, &mut source);
+        }
+    }
+    source
+}
+
+/// Generated sources, in order.
+pub fn checks(seed: u64, count: usize, small: bool) -> impl Iterator<Item = Vec<u8>> {
+    let mut random = Random::new(seed);
+    (0..count).map(move |_| any_check(&mut random, small))
+}
+
+/// Generated runs, in order.
+pub fn runs(seed: u64, count: usize, small: bool) -> impl Iterator<Item = RunCase> {
+    let mut random = Random::new(seed.wrapping_add(1 << 40));
+    (0..count).map(move |_| runs::any(&mut random, small, 120))
+}
+
+/// Sources from the papers' own examples.
+const EXAMPLES: [&str; 34] = [
+    "",
+    "1 dimensions of 0..1 ",
+    "1 dimensions of 0..1 x := y",
+    "1 dimensions of 0..1 cell := 1 < 2 < 3",
+    "1 dimensions of 0..1 cell := (1 < 2) < 3",
+    "4 dimensions of 0..1",
+    "const a[] for 1 := 1 1 dimensions of 0..1 cell := a )",
+    "const a[] for 1 := 1 1 dimensions of 0..1 cell := a + 1",
+    "const a[] for 1 := 1 1 dimensions of 0..1 cell := a",
+    "const a[] for 1 := 1 1 dimensions of 0..1 if a",
+    "const a := a 1 dimensions of 0..1",
+    "1 dimensions of a of 0..1 end cell",
+    "1 dimensions of 0..1 if 1 then",
+    "1 dimensions of 0..1 forall x",
+    "1 dimensions of end",
+    "1 dimensions of 0..1 exit",
+    "1 dimensions of 0..1 forall i : 0..1 exit end",
+    "1 dimensions of 0..1 cell := 1 otherwise",
+    "1 dimensions of 0..1 cell := 1 when 1 := 0 otherwise",
+    "const n := 1 1 dimensions of n..n",
+    "const n := 1 1 dimensions of n of n..n end",
+    "1 dimensions of cell..1",
+    "1 dimensions of cell of 0..1 end",
+    "1 dimensions of zz..1",
+    "const min_value := -15 const max_value := -min_value const size := 5 const rates[ ] for 3 := \
+     1, 2, 3 const times[ ] for size := 1, 2, 3, 4, 5 1 dimensions of min_value..max_value",
+    "const groups[ ] for 256 := \"groups_table\" 1 dimensions of 0..1",
+    "2 dimensions of 0..255",
+    "const dims := 3 dims dimensions of const x, y of -9..9 distance of 0..999 end",
+    "const size := 4 2 dimensions of count of 0..3 const value[] for size of -9..9 end",
+    "1 dimensions of 0..1 forall i : 0..1 end i := 1 forall i : 0..1 end",
+    "1 dimensions of 0..1 forall i : 0..1 end forall i : 0..1 end i := 1",
+    "1 dimensions of 0..1 forall i : agent end",
+    "1 dimensions of 0..1 cell := 1 -> 2",
+    "1 dimensions of i of 0..1 end i := cell.i forall j : 0..1 cell.i := [j].i when i = j end",
+];
+
+/// The stored checks.
+pub fn stored_checks() -> Vec<Vec<u8>> {
+    let mut row: Vec<Vec<u8>> = EXAMPLES
+        .iter()
+        .map(|text| text.as_bytes().to_vec())
+        .collect();
+    let mut random = Random::new(1);
+    for half in HALVES {
+        for word in VOCABULARY.iter().chain(&[""]) {
+            let text = format!("{half} {word}");
+            let tokens: Vec<String> = text.split_whitespace().map(str::to_string).collect();
+            let style = if random.chance(80) {
+                Style::Plain
+            } else {
+                any_style(&mut random)
+            };
+            row.push(write(&mut random, &tokens, style));
+        }
+    }
+    row.extend(limits::small());
+    row.extend(limits::name_counts());
+    row.extend(limits::token_counts());
+    row.extend(checks(2, 2_500, true));
+    row.extend(checks(3, 500, false).filter(|source| source.len() < 3_000));
+    row.extend(limits::lengths());
+    row
+}
+
+/// The stored runs.
+pub fn stored_runs() -> Vec<RunCase> {
+    let mut row = written::runs();
+    row.extend(runs(4, 2_100, false));
+    row.extend(runs(5, 300, true));
+    let mut random = Random::new(6);
+    let mut large = 0;
+    while large < 16 {
+        let case = runs::any(&mut random, false, 3_000);
+        if (700..=4_096).contains(&case.grid.len()) {
+            row.push(case);
+            large += 1;
+        }
+    }
+    // Sources that are refused.
+    row.extend(checks(7, 60, true).map(|source| RunCase::new(source, &[2], vec![0, 1], 0, 2)));
+    row
+}
+
+/// The five files of vectors.
+pub struct Files {
+    pub check_in: Vec<u8>,
+    pub check_out: Vec<u8>,
+    pub run_in: Vec<u8>,
+    pub full_out: Vec<u8>,
+    pub quiet_out: Vec<u8>,
+    pub checks: usize,
+    pub runs: usize,
+}
+
+pub fn files() -> Files {
+    let checks = stored_checks();
+    let runs = stored_runs();
+    let mut files = Files {
+        check_in: Vec::new(),
+        check_out: Vec::new(),
+        run_in: Vec::new(),
+        full_out: Vec::new(),
+        quiet_out: Vec::new(),
+        checks: checks.len(),
+        runs: runs.len(),
+    };
+    for source in &checks {
+        put_check(&mut files.check_in, source);
+        files.check_out.extend(check_reply(source).bytes());
+    }
+    for case in &runs {
+        put_run(&mut files.run_in, case);
+        files
+            .full_out
+            .extend(run_line(&run_case(case, false)).bytes());
+        files
+            .quiet_out
+            .extend(run_line(&run_case(case, true)).bytes());
+    }
+    files
+}

@@ -1,0 +1,45 @@
+#!/usr/bin/env python3
+"""Writes into crates/cellang/specs/Cases.antt the names of all definitions that a worked case computes with.
+
+Run it after a definition was added, renamed or removed. It rewrites the `use` lines of whole modules and the `unfolding` line of `holds`.
+"""
+import os
+import re
+import textwrap
+
+ROOT = os.path.dirname(os.path.dirname(os.path.abspath(__file__)))
+CASES = os.path.join(ROOT, "crates/cellang/specs/Cases.antt")
+# the modules of definitions, in reading order
+DEFINITIONS = [
+    ("automaton", ["Listed", "Step", "Shape", "Grid"]),
+    ("token", ["Bytes", "Lexeme", "Scanning"]),
+    ("names", ["Names"]),
+    ("grammar", ["Complaint", "Reader", "Constants", "Expressions", "Statements", "Source", "Checking"]),
+    ("evaluator", ["Operators", "Evaluation", "Written"]),
+    ("stepper", ["Reach", "Admission", "Report"]),
+    ("cellang", ["Services"]),
+]
+
+
+def modules():
+    """(crate, module, names) for each module of definitions."""
+    for crate, listed in DEFINITIONS:
+        for module in listed:
+            text = open(os.path.join(ROOT, "crates", crate, "specs", module + ".antt")).read()
+            yield crate, module, re.findall(r"^ *unfoldable pub (\S+)", text, re.M)
+
+
+def main():
+    uses, opened = [], ["same-report"]
+    for crate, module, names in modules():
+        path = "Rattle.cellang.specs" if crate == "cellang" else "Rattle.%s.specs" % crate
+        uses.append("use %s.%s" % (path, module))
+        opened += ["%s.%s" % (module, name) for name in names]
+    text = open(CASES).read()
+    text = re.sub(r"(?:^use Rattle·\S+\.\w+\n)+", "\n".join(uses) + "\n", text, count=1, flags=re.M)
+    line = textwrap.fill("unfolding " + " ".join(opened), 125, subsequent_indent="    ", break_long_words=False, break_on_hyphens=False)
+    text = re.sub(r"^unfolding [^\n]*(?:\n    [^\n]*)*(?=\nholds)", lambda _: line, text, flags=re.M)
+    open(CASES, "w").write(text)
+
+
+main()
