@@ -10,8 +10,8 @@ A case is one line of JSON, as `reference cases` writes it:
 A run may also have "words", "names", "scratch" and "marks", the lengths of what is lent, where they are not the right ones.
 
 It copies the crates into target/definitions, adds to crate cellang a module with lists of N cases and for each list the claim that no
-case fails, and checks it. A list that is refused, for a failing case or for the step limit, is checked again case by case. It prints the failing cases' numbers (from 0), how many
-cases there were and the time; its exit status is 0 only if all hold.
+case fails, and checks it. A list that is refused, for a failing case or for the step limit, is checked again case by case. It prints
+the failing cases' numbers (from 0), how many cases there were and the time; its exit status is 0 only if all hold.
 """
 import json
 import os

@@ -9,6 +9,7 @@ use std::process::ExitCode;
 const USAGE: &str = "\
 usage: reference check                        one source on standard input
        reference names                        one source on standard input
+       reference answer                       sources on standard input, as in the vectors of checks
        reference run FILE                     one run, as JSON
        reference cases checks|runs SEED COUNT [--small]
        reference stream checks|runs SEED COUNT [--small] [--replies | --quiet-replies]
@@ -31,6 +32,7 @@ fn main() -> ExitCode {
     let done = match words.as_slice() {
         ["check"] => check_input(),
         ["names"] => names_input(),
+        ["answer"] => answer_input(),
         ["run", file] => run_file(file),
         ["cases", what @ ("checks" | "runs"), seed, count] => match numbers(seed, count) {
             Some((seed, count)) => cases(*what == "runs", seed, count, small),
@@ -82,6 +84,20 @@ fn read_source() -> io::Result<Vec<u8>> {
 fn check_input() -> io::Result<ExitCode> {
     let line = check_reply(&read_source()?);
     io::stdout().write_all(line.as_bytes())?;
+    Ok(ExitCode::SUCCESS)
+}
+
+/// A line for each source on standard input, which stands behind its length.
+fn answer_input() -> io::Result<ExitCode> {
+    let mut input = io::stdin().lock();
+    let mut out = BufWriter::new(io::stdout().lock());
+    let mut head = [0; 4];
+    while input.read_exact(&mut head).is_ok() {
+        let mut source = vec![0; u32::from_le_bytes(head) as usize];
+        input.read_exact(&mut source)?;
+        out.write_all(check_reply(&source).as_bytes())?;
+    }
+    out.flush()?;
     Ok(ExitCode::SUCCESS)
 }
 

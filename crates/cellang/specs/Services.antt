@@ -5,16 +5,17 @@ use Prim.Native.Nat.{ℕ}
 use lib.ListN.{length, replicate}
 use Rattle.value.specs.Choice.{if_then_else_}
 use Rattle.token.specs.Bytes.{between}
-use Rattle.grammar.specs.Reader.{Result, ok, fail}
 use Rattle.grammar.specs.Source.{Accepted}
-use Rattle.grammar.specs.Checking.{read-source}
+use Rattle.grammar.specs.Checking as checking
+use Rattle.grammar.specs.Checking.{Outcome, turned-away, accepted, read-source}
 use Rattle.stepper.specs.Admission.{Request}
 use Rattle.stepper.specs.Report.{Counting, Report, refused, run}
 
 -- a run reads the source first
-abbrev pub run-read : Counting → Request → Result Accepted → Report
-run-read counting q (ok a) = run counting (a .program) q
-run-read counting q (fail number place) = refused number place (q .grid)
+abbrev pub run-read : Counting → Request → Outcome → Report
+run-read counting q (turned-away number place) = refused number place (q .grid)
+run-read counting q (checking.refused number place) = refused number place (q .grid)
+run-read counting q (accepted a) = run counting (a .program) q
 
 -- the report that a run of a source gives, full or quiet, with the grid that it leaves
 unfoldable pub run-source : Counting → Bool → List ℕ → Request → Report

@@ -2,3 +2,6 @@
 pub mod Operators
 pub mod Evaluation
 pub mod Written
+-- What it is for a program to stand in the word table, and what the evaluators promise.
+pub mod Stands
+pub mod Working

@@ -1,5 +1,5 @@
 -- What checking a source gives, and what the lent memory holds afterwards.
-use mathlib.Core.Bool.{Bool, true, false, _&&_}
+use mathlib.Core.Bool.{Bool, true, false, not, _&&_}
 use mathlib.Core.List.{List}
 use Prim.Native.Nat.{ℕ}
 use lib.ListN.{length, replicate}
@@ -11,28 +11,46 @@ use Rattle.grammar.specs.Complaint.{Complaint, complaint, no-complaint}
 use Rattle.grammar.specs.Reader.{Result, ok, fail}
 use Rattle.grammar.specs.Source.{Accepted, parse}
 
+-- at most so many bytes
+abbrev pub most-bytes : ℕ
+most-bytes = 65535
+
 -- the word table and the name list, as flat words, are of the right length
 unfoldable pub rooms-fit : ℕ → ℕ → Bool
 rooms-fit words names = eqb words table-words && eqb names name-words
 
--- reading a source: reply 1, where the rooms do not fit, goes before all others
-unfoldable pub read-source : Bool → List ℕ → Result Accepted
-read-source fit source =
-    let r = parse source in
-    if fit then r else fail 1 0
+-- how reading a source ends: turned away before any token, with 1 or 2; refused, with 3 to 15; or accepted
+pub data Outcome : Type 0 where
+  turned-away : (number place : ℕ) → Outcome
+  refused : (number place : ℕ) → Outcome
+  accepted : Accepted → Outcome
 
-abbrev pub reply-of : Result Accepted → Complaint
-reply-of (ok a) = no-complaint
-reply-of (fail number place) = complaint number place
+abbrev pub outcome-of : Result Accepted → Outcome
+outcome-of (ok a) = accepted a
+outcome-of (fail number place) = refused number place
+
+-- reading a source, whether or not the rooms fit
+unfoldable pub read-source : Bool → List ℕ → Outcome
+read-source fit source =
+    let read = outcome-of (parse source) in
+    if not fit then turned-away 1 0
+    else if ltb most-bytes (length source) then turned-away 2 most-bytes
+    else read
+
+abbrev pub reply-of : Outcome → Complaint
+reply-of (turned-away number place) = complaint number place
+reply-of (refused number place) = complaint number place
+reply-of (accepted a) = no-complaint
 
 -- the number and place that a check gives; number 0: accepted
 unfoldable pub check : Bool → List ℕ → Complaint
 check fit source = reply-of (read-source fit source)
 
 -- a room after reading, where `old` stood before: 1 and 2 touch nothing; 3 to 15 leave zeros; an accepted source leaves the program
-abbrev pub room-left : List ℕ → (Accepted → List ℕ) → Result Accepted → List ℕ
-room-left old new (ok a) = new a
-room-left old new (fail number place) = if ltb number 3 then old else replicate (length old) 0
+abbrev pub room-left : List ℕ → (Accepted → List ℕ) → Outcome → List ℕ
+room-left old new (turned-away number place) = old
+room-left old new (refused number place) = replicate (length old) 0
+room-left old new (accepted a) = new a
 
 -- the word table after a check or a run
 unfoldable pub words-after : Bool → List ℕ → List ℕ → List ℕ

@@ -158,14 +158,8 @@ abbrev pub what-is-read : Result (Accepted × State) → Result Accepted
 what-is-read (ok r) = ok (r .0)
 what-is-read (fail number place) = fail number place
 
--- at most so many bytes
-abbrev pub most-bytes : ℕ
-most-bytes = 65535
-
--- what a source means, or the reply that refuses it
+-- what a source of allowed length means, or the number and place of the reply that refuses it
 unfoldable pub parse : List ℕ → Result Accepted
 parse source =
     let scanned = scan source in
-    let input : Input = record { source = source; scan = scan-of scanned } in
-    if ltb most-bytes (length source) then fail 2 most-bytes
-    else what-is-read (read-program input (start-state scanned))
+    what-is-read (read-program (record { source = source; scan = scan-of scanned }) (start-state scanned))

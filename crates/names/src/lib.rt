@@ -1,4 +1,13 @@
 // The name list on flat words: four words a name, in order of declaration.
+ghost use mathlib.Core.Path.{_≡_};
+ghost use mathlib.Core.Bool.{_&&_};
+ghost use Prim.Native.Nat.{_<_, _≤_};
+ghost use lib.ListN.{length, getD};
+ghost use Rattle.token.specs.Bytes.{fold, same};
+ghost use Rattle.names.specs.Names.{most-names, name-words, entry-at, with-entry, with-value, is-field, is-visible, in-space, letters};
+ghost use Rattle.names.specs.Finding.{Matches, Finds};
+
+pub mod kind;
 
 // A name: the place of its first byte, its length, its kind, and its value as a word.
 pub struct Entry {
@@ -6,4 +15,153 @@ pub struct Entry {
     pub len: u32,
     pub kind: u32,
     pub word: u32,
+}
+
+// The slot of a name, or that there is none.
+pub enum Found {
+    At(usize),
+    Missing,
+}
+
+// ---- slots
+
+// The name in a slot.
+pub fn entry_in(names: &[u32], slot: usize) -> Entry
+    requires { ⌜ (slot < most-names) × (length (now names) ≡ name-words) ⌝ }
+    ensures { λ r. ⌜ r ≡ entry-at (now (names .entry)) slot ⌝ }
+{
+    Entry {
+        start: names[4 * slot],
+        len: names[4 * slot + 1],
+        kind: names[4 * slot + 2],
+        word: names[4 * slot + 3],
+    }
+}
+
+// Writes a name into a slot.
+pub fn write_entry(names: &mut [u32], slot: usize, e: Entry)
+    requires { ⌜ (slot < most-names) × (length (now names) ≡ name-words) ⌝ }
+    ensures { λ _. ⌜ now (names .exit) ≡ with-entry (now (names .entry)) slot e ⌝ }
+{
+    names[4 * slot] = e.start;
+    names[4 * slot + 1] = e.len;
+    names[4 * slot + 2] = e.kind;
+    names[4 * slot + 3] = e.word;
+}
+
+// Gives the name in a slot a new value.
+pub fn write_value(names: &mut [u32], slot: usize, v: u32)
+    requires { ⌜ (slot < most-names) × (length (now names) ≡ name-words) ⌝ }
+    ensures { λ _. ⌜ now (names .exit) ≡ with-value (now (names .entry)) slot v ⌝ }
+{
+    names[4 * slot + 3] = v;
+}
+
+// ---- which names are seen
+
+// Whether a name is a field's.
+pub fn is_field(e: Entry) -> bool
+    ensures { λ r. ⌜ r ≡ is-field e ⌝ }
+{
+    if e.kind == kind::FIELD {
+        return true;
+    }
+    e.kind == kind::CONST_FIELD
+}
+
+// Whether an expression or a left side can name it: no field, and an index only while its loop is open.
+pub fn is_visible(e: Entry) -> bool
+    ensures { λ r. ⌜ r ≡ is-visible e ⌝ }
+{
+    if is_field(e) {
+        return false;
+    }
+    if e.kind == kind::INDEX {
+        return e.word != 0;
+    }
+    true
+}
+
+// Whether a name is of a name space: that of fields, or that of all other visible names.
+pub fn in_space(fields: bool, e: Entry) -> bool
+    ensures { λ r. ⌜ r ≡ in-space fields e ⌝ }
+{
+    if fields {
+        return is_field(e);
+    }
+    is_visible(e)
+}
+
+// ---- spelling
+
+// A byte of the source without letter case; 0 behind the source's end.
+pub fn folded(source: &[u8], i: usize) -> u32
+    ensures { λ r. ⌜ r ≡ fold (getD (now (source .entry)) i 0) ⌝ }
+{
+    if i < source.len() {
+        let b = source[i] as u32;
+        if 65 <= b {
+            if b <= 90 {
+                return b + 32;
+            }
+        }
+        return b;
+    }
+    0
+}
+
+// Whether the n bytes from a on and the n bytes from b on spell the same.
+pub fn same_spelling(source: &[u8], a: u32, b: u32, n: u32) -> bool
+    ensures { λ r. ⌜ r ≡ same (letters (now (source .entry)) a n) (letters (now (source .entry)) b n) ⌝ }
+{
+    let x = a as usize;
+    let y = b as usize;
+    let size = n as usize;
+    let mut k: usize = 0;
+    while k < size {
+        let p = folded(source, x + k);
+        let q = folded(source, y + k);
+        if p != q {
+            return false;
+        }
+        k += 1;
+    }
+    true
+}
+
+// Whether the name in a slot is of the name space and spelled as the bytes from start on. A name of another length is no match, whatever it is.
+fn matches(source: &[u8], names: &[u32], slot: usize, fields: bool, start: u32, len: u32) -> bool
+    requires { ⌜ (slot < most-names) × (length (now names) ≡ name-words) ⌝ }
+    ensures { λ r. ⌜ Matches (now (source .entry)) (now (names .entry)) slot fields start len r ⌝ }
+{
+    if names[4 * slot + 1] != len {
+        return false;
+    }
+    let e = entry_in(names, slot);
+    if in_space(fields, e) {
+        return same_spelling(source, start, e.start, len);
+    }
+    false
+}
+
+// The slot of the first of so many names that is of the name space and spelled as the bytes from start on.
+pub fn find_name(
+    source: &[u8],
+    names: &[u32],
+    count: usize,
+    fields: bool,
+    start: u32,
+    len: u32,
+) -> Found
+    requires { ⌜ (count ≤ most-names) × (length (now names) ≡ name-words) ⌝ }
+    ensures { λ r. ⌜ Finds (now (source .entry)) (now (names .entry)) count fields start len r ⌝ }
+{
+    let mut i: usize = 0;
+    while i < count {
+        if matches(source, names, i, fields, start, len) {
+            return Found::At(i);
+        }
+        i += 1;
+    }
+    Found::Missing
 }

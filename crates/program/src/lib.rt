@@ -1,1 +1,54 @@
 // The word table of a program: four words a token.
+ghost use mathlib.Core.Path.{_≡_};
+ghost use Prim.Native.Nat.{_<_, _≤_};
+ghost use lib.ListN.{length};
+ghost use Rattle.token.specs.Scanning.{most-tokens, table-words};
+ghost use Rattle.program.specs.Table.{word-at, with-word};
+ghost use Rattle.program.specs.Standing.{Stands};
+use token::Scan;
+use token::Token;
+
+pub mod kind;
+
+// The token at position i, or the stop behind the last one.
+pub fn token_at(words: &[u32], scan: Scan, i: usize) -> Token
+    requires { ⌜ (scan .count ≤ most-tokens) × (length (now words) ≡ table-words) ⌝ }
+    ensures { λ r. ⌜ Stands (now (words .entry)) scan i r ⌝ }
+{
+    if i < scan.count {
+        let span = words[4 * i + 1];
+        return Token {
+            kind: words[4 * i],
+            start: span % 65536,
+            len: span / 65536,
+            value: words[4 * i + 2],
+        };
+    }
+    Token {
+        kind: kind::STOP,
+        start: scan.place,
+        len: 0,
+        value: scan.number,
+    }
+}
+
+// Word w of the token at position i; 0 behind the table's end.
+pub fn word_at(words: &[u32], i: usize, w: usize) -> u32
+    requires { ⌜ (w < 4) × (length (now words) ≡ table-words) ⌝ }
+    ensures { λ r. ⌜ r ≡ word-at (now (words .entry)) i w ⌝ }
+{
+    if i < 4096 {
+        return words[4 * i + w];
+    }
+    0
+}
+
+// Writes word w of the token at position i; behind the table's end there is nothing to write.
+pub fn put_word(words: &mut [u32], i: usize, w: usize, v: u32)
+    requires { ⌜ (w < 4) × (length (now words) ≡ table-words) ⌝ }
+    ensures { λ _. ⌜ now (words .exit) ≡ with-word (now (words .entry)) i w v ⌝ }
+{
+    if i < 4096 {
+        words[4 * i + w] = v;
+    }
+}

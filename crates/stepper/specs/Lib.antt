@@ -2,3 +2,4 @@
 pub mod Reach
 pub mod Admission
 pub mod Report
+pub mod Locality

@@ -1,4 +1,28 @@
 // Tokens: the bytes of a source sorted into tokens, and the stop behind the last of them.
+ghost use mathlib.Core.Path.{_≡_};
+ghost use Prim.Native.Nat.{_≤_, _<_};
+ghost use lib.ListN.{length, drop};
+ghost use mathlib.Core.Bool.{false};
+ghost use Rattle.token.specs.Scanning.{blanks};
+ghost use Rattle.token.specs.Promises.{Walks, Reads, Scans};
+
+pub mod bytes;
+mod lexing;
+mod runs;
+mod scanning;
+mod spelling;
+
+// Kinds of tokens that reading tells apart: where no token can be read, an identifier, a literal, and a form that is not taken.
+pub const STOP: u32 = 0;
+
+pub const NAME: u32 = 1;
+
+pub const LITERAL: u32 = 2;
+
+pub const REFUSED: u32 = 18;
+
+// At most so many tokens.
+pub const MOST_TOKENS: usize = 4096;
 
 // A token: its kind, the place of its first byte, its length in bytes, and a literal's value (else 0).
 pub struct Token {
@@ -13,4 +37,62 @@ pub struct Scan {
     pub count: usize,
     pub number: u32,
     pub place: u32,
+}
+
+// A reading position, handed by value from token to token.
+pub struct Cursor {
+    pub at: usize,
+}
+
+// A token that was read, and the position behind it.
+pub struct Lexed {
+    pub token: Token,
+    pub next: Cursor,
+}
+
+impl Cursor {
+    // The beginning of a source.
+    pub fn start() -> Cursor
+        ensures { λ r. ⌜ r .at ≡ 0 ⌝ }
+    {
+        Cursor { at: 0 }
+    }
+
+    // The position behind the separators and comments that stand here.
+    pub fn past_blanks(self, source: &[u8]) -> Cursor
+        ensures { λ r. ⌜ Walks (blanks false (drop (self .at) (now (source .entry)))) (now (source .entry)) (self .at) (r .at) ⌝ }
+    {
+        let at = runs::blanks_end(source, self.at);
+        Cursor { at }
+    }
+
+    // The token that stands here, where neither a separator nor a comment stands; where no token can be read, a stop with its number.
+    pub fn next(self, source: &[u8]) -> Lexed
+        requires { ⌜ (self .at < length (now source)) × (length (now source) ≤ 65535) ⌝ }
+        ensures { λ r. ⌜ Reads (now (source .entry)) (self .at) r ⌝ }
+    {
+        let at = self.at;
+        let kind = bytes::kind_at(source, at);
+        if kind == bytes::LETTER {
+            return lexing::read_word(source, at);
+        }
+        if kind == bytes::DIGIT {
+            return lexing::read_digits(source, at);
+        }
+        if kind == bytes::SIGN {
+            return lexing::read_sign(source, at);
+        }
+        lexing::token_of(STOP, at, 1, 3)
+    }
+}
+
+// Scans a source: its tokens stand in the word table, four words a token, with zeros behind them, whatever the table held before.
+pub fn scan_source(source: &[u8], words: &mut [u32]) -> Scan
+    requires { ⌜ (length (now source) ≤ 65535) × (length (now words) ≡ 16384) ⌝ }
+    ensures { λ r. ⌜ Scans (now (source .entry)) r (now (words .exit)) ⌝ }
+{
+    let scan = scanning::read_tokens(source, &mut *words);
+    let from = 4 * scan.count;
+    scanning::clear(&mut words[from..]);
+    scan
 }

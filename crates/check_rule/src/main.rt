@@ -1,0 +1,16 @@
+// Checks the source on standard input, and writes one line: `accepted`, or for example `refused 8 at 26`.
+use libc::STDIN_FILENO;
+use libc::STDOUT_FILENO;
+
+// One byte more is read than a source may have, so that a source that is too long is seen to be.
+fn main() {
+    let mut source = io::large_buffer();
+    let n = io::read_full(STDIN_FILENO, &mut source);
+    let mut words = [0u32; 16384];
+    let mut names = [0u32; 1024];
+    let reply = checker::check(&source[..n], &mut words, &mut names);
+    let mut line = [0u8; 33];
+    let end = checker::write_line(reply.number, reply.place, &mut line);
+    let written = io::count(end as isize, &line);
+    io::write_all(STDOUT_FILENO, &line[..written]);
+}

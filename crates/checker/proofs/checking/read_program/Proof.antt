@@ -1,0 +1,174 @@
+use native.Mathlib.Omega.{arith}
+use mathlib.Core.Path.{_∙_}
+use Rattle.grammar.specs.Source.{read-program}
+use Rattle.reader.proofs.Steps.{on, off}
+use Rattle.reader.proofs.Going.{went}
+use Rattle.checker.proofs.Finishing.{few-left, cell-is, in-cell}
+use borrow.Author.Needs.{needs}
+use Rattle.checker.proofs.checking.read_program.Statement.{statement}
+use Rattle.checker.proofs.checking.read_program.Tie as tie
+
+read-constants-requires : tie.Need-read-constants-requires
+read-constants-requires c κs =
+    let pre = c .before .before .before .before .before .pre in
+    record { tokens = pre .0; table = pre .1; list = pre .2; here = omega arith; few = omega arith }
+
+enum-known-a : tie.Need-enum-known-a
+enum-known-a c = search needs
+
+enum-told : tie.Need-enum-told
+enum-told c = search needs
+
+same-length : tie.Need-same-length
+same-length c = search needs
+
+same-length-2 : tie.Need-same-length-2
+same-length-2 c = search needs
+
+returns : tie.Need-returns
+unfolding read-program
+returns c =
+    let read-constants = c .before .before .before .before .before .before .read-constants in
+    let enum-told = c .enum-told in
+    let y = enum-told .given .1 in
+    (off _ (read-constants .ensures .gives) y, record { few = rw y tt })
+
+read-cell-requires : tie.Need-read-cell-requires
+read-cell-requires c κs =
+    let pre = c .before .before .before .before .before .before .before .before .before .before .before .before .before .before .before .pre in
+    let read-constants = c .before .before .before .before .before .before .before .before .before .read-constants in
+    let a = c .before .before .before .a in
+    let u = went (read-constants .ensures .onward) (a .given .1) in
+    record { tokens = pre .0; table = read-constants .kept .1 .1 .0 ∙ pre .1; list = read-constants .kept .1 .0 ∙ pre .2; here = u .within; few = u .few }
+
+enum-known-r : tie.Need-enum-known-r
+enum-known-r c = search needs
+
+enum-told-2 : tie.Need-enum-told-2
+enum-told-2 c = search needs
+
+same-length-3 : tie.Need-same-length-3
+same-length-3 c = search needs
+
+same-length-4 : tie.Need-same-length-4
+same-length-4 c = search needs
+
+returns-2 : tie.Need-returns-2
+unfolding read-program
+returns-2 c =
+    let read-constants = c .before .before .before .before .before .before .before .before .before .before .before .before .before .before .before .before .read-constants in
+    let a = c .before .before .before .before .before .before .before .before .before .before .a in
+    let read-cell = c .before .before .before .before .before .before .read-cell in
+    let enum-told2 = c .enum-told2 in
+    let y = enum-told2 .given .1 in
+    (on _ (read-constants .ensures .gives) (a .given .1) (λ _ _. off _ (read-cell .ensures .gives) y), record { few = rw y tt })
+
+read-block-requires : tie.Need-read-block-requires
+read-block-requires c κs =
+    let pre = c .before .before .before .before .before .before .before .before .before .before .before .before .before .before .before .before .before .before .before .before .before .before .before .before .before .pre in
+    let read-constants = c .before .before .before .before .before .before .before .before .before .before .before .before .before .before .before .before .before .before .before .read-constants in
+    let read-cell = c .before .before .before .before .before .before .before .before .before .read-cell in
+    let r = c .before .before .before .r in
+    let u = went (read-cell .ensures .onward) (r .given .1) in
+    (record { tokens = pre .0; table = read-cell .kept .1 .1 .0 ∙ read-constants .kept .1 .1 .0 ∙ pre .1; list = read-cell .kept .1 .0 ∙ read-constants .kept .1 .0 ∙ pre .2; here = u .within; few = u .few }, omega arith)
+
+enum-known-e : tie.Need-enum-known-e
+enum-known-e c = search needs
+
+enum-told-3 : tie.Need-enum-told-3
+enum-told-3 c = search needs
+
+same-length-5 : tie.Need-same-length-5
+same-length-5 c =
+    let read-constants = c .before .before .before .before .before .before .before .before .before .before .before .before .before .before .before .before .before .before .before .before .before .before .before .before .before .before .read-constants in
+    let read-cell = c .before .before .before .before .before .before .before .before .before .before .before .before .before .before .before .before .read-cell in
+    let read-block = c .before .before .before .before .before .before .read-block in
+    read-block .kept .1 .0 ∙ read-cell .kept .1 .0 ∙ read-constants .kept .1 .0
+
+same-length-6 : tie.Need-same-length-6
+same-length-6 c =
+    let read-constants = c .before .before .before .before .before .before .before .before .before .before .before .before .before .before .before .before .before .before .before .before .before .before .before .before .before .before .read-constants in
+    let read-cell = c .before .before .before .before .before .before .before .before .before .before .before .before .before .before .before .before .read-cell in
+    let read-block = c .before .before .before .before .before .before .read-block in
+    read-block .kept .1 .1 .0 ∙ read-cell .kept .1 .1 .0 ∙ read-constants .kept .1 .1 .0
+
+returns-3 : tie.Need-returns-3
+unfolding read-program
+returns-3 c =
+    let read-constants = c .before .before .before .before .before .before .before .before .before .before .before .before .before .before .before .before .before .before .before .before .before .before .before .before .before .before .read-constants in
+    let a = c .before .before .before .before .before .before .before .before .before .before .before .before .before .before .before .before .before .before .before .before .a in
+    let read-cell = c .before .before .before .before .before .before .before .before .before .before .before .before .before .before .before .before .read-cell in
+    let r = c .before .before .before .before .before .before .before .before .before .before .r in
+    let read-block = c .before .before .before .before .before .before .read-block in
+    let enum-told3 = c .enum-told3 in
+    let y = enum-told3 .given .1 in (
+      on _ (read-constants .ensures .gives) (a .given .1)
+          (λ _ _. on _ (read-cell .ensures .gives) (r .given .1)
+          (λ d x. off _ (in-cell (cell-is x) (read-block .ensures .gives)) y)),
+      record { few = rw y tt },
+    )
+
+finish-requires : tie.Need-finish-requires
+finish-requires c κs =
+    let pre = c .before .before .before .before .before .before .before .before .before .before .before .before .before .before .before .before .before .before .before .before .before .before .before .before .before .before .before .before .before .before .before .before .before .before .pre in
+    let read-constants = c .before .before .before .before .before .before .before .before .before .before .before .before .before .before .before .before .before .before .before .before .before .before .before .before .before .before .before .before .read-constants in
+    let read-cell = c .before .before .before .before .before .before .before .before .before .before .before .before .before .before .before .before .before .before .read-cell in
+    let read-block = c .before .before .before .before .before .before .before .before .read-block in
+    (pre .0, read-block .kept .1 .1 .0 ∙ read-cell .kept .1 .1 .0 ∙ read-constants .kept .1 .1 .0 ∙ pre .1)
+
+same-length-7 : tie.Need-same-length-7
+same-length-7 c =
+    let read-constants = c .before .before .before .before .before .before .before .before .before .before .before .before .before .before .before .before .before .before .before .before .before .before .before .before .before .before .before .before .before .read-constants in
+    let read-cell = c .before .before .before .before .before .before .before .before .before .before .before .before .before .before .before .before .before .before .before .read-cell in
+    let read-block = c .before .before .before .before .before .before .before .before .before .read-block in
+    read-block .kept .1 .0 ∙ read-cell .kept .1 .0 ∙ read-constants .kept .1 .0
+
+same-length-8 : tie.Need-same-length-8
+same-length-8 c =
+    let read-constants = c .before .before .before .before .before .before .before .before .before .before .before .before .before .before .before .before .before .before .before .before .before .before .before .before .before .before .before .before .before .read-constants in
+    let read-cell = c .before .before .before .before .before .before .before .before .before .before .before .before .before .before .before .before .before .before .before .read-cell in
+    let read-block = c .before .before .before .before .before .before .before .before .before .read-block in
+    read-block .kept .1 .1 .0 ∙ read-cell .kept .1 .1 .0 ∙ read-constants .kept .1 .1 .0
+
+returns-4 : tie.Need-returns-4
+unfolding read-program
+returns-4 c =
+    let read-constants = c .before .before .before .before .before .before .before .before .before .before .before .before .before .before .before .before .before .before .before .before .before .before .before .before .before .before .before .before .before .read-constants in
+    let a = c .before .before .before .before .before .before .before .before .before .before .before .before .before .before .before .before .before .before .before .before .before .before .before .a in
+    let read-cell = c .before .before .before .before .before .before .before .before .before .before .before .before .before .before .before .before .before .before .before .read-cell in
+    let r = c .before .before .before .before .before .before .before .before .before .before .before .before .before .r in
+    let read-block = c .before .before .before .before .before .before .before .before .before .read-block in
+    let e = c .before .before .before .e in
+    let finish = c .finish in (
+      on _ (read-constants .ensures .gives) (a .given .1)
+          (λ _ _. on _ (read-cell .ensures .gives) (r .given .1)
+          (λ d x. on _ (in-cell (cell-is x) (read-block .ensures .gives)) (e .given .1) (λ b _. finish .ensures .gives _ _ d b))),
+      few-left (finish .ensures) (went (read-block .ensures .onward) (e .given .1) .few),
+    )
+
+pub read-program-spec : {M : Type 1} → statement M
+read-program-spec =
+    tie.close
+    (tie.spec
+    read-constants-requires
+    enum-known-a
+    enum-told
+    same-length
+    same-length-2
+    returns
+    read-cell-requires
+    enum-known-r
+    enum-told-2
+    same-length-3
+    same-length-4
+    returns-2
+    read-block-requires
+    enum-known-e
+    enum-told-3
+    same-length-5
+    same-length-6
+    returns-3
+    finish-requires
+    same-length-7
+    same-length-8
+    returns-4)

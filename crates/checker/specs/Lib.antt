@@ -1,0 +1,3 @@
+-- What checking a source and writing its line promise.
+pub mod Line
+pub mod Promises

@@ -1,0 +1,98 @@
+use Rattle.grammar.specs.Constants.{constant-value}
+use Rattle.reader.proofs.Steps.{so, other, token, refused}
+use Rattle.reader.proofs.Going.{nowhere}
+use borrow.Author.Tests.{eq-eqb, ne-eqb}
+use borrow.Author.Needs.{needs}
+use Rattle.constants.proofs.constant_value.Statement.{statement}
+use Rattle.constants.proofs.constant_value.Tie as tie
+
+token-at-requires : tie.Need-token-at-requires
+token-at-requires c κs = search needs
+
+simple-constant-requires : tie.Need-simple-constant-requires
+simple-constant-requires c κs = search needs
+
+same-length : tie.Need-same-length
+same-length c = search needs
+
+same-length-2 : tie.Need-same-length-2
+same-length-2 c = search needs
+
+returns : tie.Need-returns
+unfolding constant-value
+returns c =
+    let token-at = c .before .before .before .before .before .before .before .before .before .token-at in
+    let if1 = c .before .before .before .before .before .before .before .if1 in
+    let simple-constant = c .before .before .before .before .simple-constant in
+    record {
+      gives =
+          token _ (token-at .ensures)
+          (so _ _ (eq-eqb _ _ (if1 .taken))
+          (simple-constant .ensures .gives));
+      onward = simple-constant .ensures .onward;
+    }
+
+array-constant-requires : tie.Need-array-constant-requires
+array-constant-requires c κs = search needs
+
+same-length-3 : tie.Need-same-length-3
+same-length-3 c = search needs
+
+same-length-4 : tie.Need-same-length-4
+same-length-4 c = search needs
+
+returns-2 : tie.Need-returns-2
+unfolding constant-value
+returns-2 c =
+    let token-at = c .before .before .before .before .before .before .before .before .before .before .before .token-at in
+    let if1 = c .before .before .before .before .before .before .before .before .before .if1 in
+    let if2 = c .before .before .before .before .before .before .before .if2 in
+    let array-constant = c .before .before .before .before .array-constant in
+    record {
+      gives =
+          token _ (token-at .ensures)
+          (other _ _ (ne-eqb _ _ (if1 .left))
+          (so _ _ (eq-eqb _ _ (if2 .taken))
+          (array-constant .ensures .gives)));
+      onward = array-constant .ensures .onward;
+    }
+
+refuse-requires : tie.Need-refuse-requires
+refuse-requires c κs = search needs
+
+same-length-5 : tie.Need-same-length-5
+same-length-5 c = search needs
+
+returns-3 : tie.Need-returns-3
+unfolding constant-value
+returns-3 c =
+    let token-at = c .before .before .before .before .before .before .token-at in
+    let if1 = c .before .before .before .before .if1 in
+    let if2 = c .before .before .if2 in
+    let refuse = c .refuse in
+    let y = refuse .ensures in
+    record {
+      gives =
+          token _ (token-at .ensures)
+          (other _ _ (ne-eqb _ _ (if1 .left))
+          (other _ _ (ne-eqb _ _ (if2 .left))
+          (refused _ y)));
+      onward = nowhere y;
+    }
+
+pub constant-value-spec : {M : Type 1} → statement M
+constant-value-spec =
+    tie.close
+    (tie.spec
+    token-at-requires
+    simple-constant-requires
+    same-length
+    same-length-2
+    returns
+    array-constant-requires
+    same-length-3
+    same-length-4
+    returns-2
+    refuse-requires
+    same-length-5
+    returns-3)

@@ -1,0 +1,224 @@
+use Rattle.reader.proofs.Steps.{on, on-told, so, other, token, named, found-it, missed-it, below-slot, refused, carried, advanced, used}
+use Rattle.value.specs.Worked.{decode-of}
+use Rattle.grammar.specs.Constants.{read-constant, named-constant}
+use Rattle.reader.proofs.Going.{nowhere, goes-on}
+use native.Mathlib.Omega.{arith}
+use mathlib.Core.Path.{_∙_, refl, sym, ap}
+use borrow.Author.Tests.{eq-eqb, ne-eqb}
+use borrow.Author.Needs.{needs}
+use Rattle.constants.proofs.read_constant.Statement.{statement}
+use Rattle.constants.proofs.read_constant.Tie as tie
+
+token-at-requires : tie.Need-token-at-requires
+token-at-requires c κs = search needs
+
+moved-requires : tie.Need-moved-requires
+moved-requires c κs = search needs
+
+carrying-requires : tie.Need-carrying-requires
+carrying-requires c κs = search needs
+
+same-length : tie.Need-same-length
+same-length c = search needs
+
+returns : tie.Need-returns
+unfolding read-constant
+returns c =
+    let token-at = c .before .before .before .before .token-at in
+    let if1 = c .before .before .if1 in
+    let moved = c .before .moved in
+    let carrying = c .carrying in
+    let m = moved .ensures in
+    let k = carrying .ensures in
+    record {
+      gives =
+          token _ (token-at .ensures)
+          (so _ _ (eq-eqb _ _ (if1 .taken))
+          (on _ (advanced m) refl
+          (λ _ _. carried _ k (ap decode-of (sym (k .word))))));
+      onward =
+          goes-on
+          (omega (arith, m .at, k .at))
+          (omega (arith, m .at, k .at, token-at .ensures .inside, if1 .taken))
+          (omega (arith, m .count, k .count));
+    }
+
+is-name-requires : tie.Need-is-name-requires
+is-name-requires c κs = search needs
+
+find-name-requires : tie.Need-find-name-requires
+find-name-requires c κs = search needs
+
+enum-known-f : tie.Need-enum-known-f
+enum-known-f c = search needs
+
+enum-told : tie.Need-enum-told
+enum-told c = search needs
+
+refuse-requires : tie.Need-refuse-requires
+refuse-requires c κs = search needs
+
+same-length-2 : tie.Need-same-length-2
+same-length-2 c = search needs
+
+returns-2 : tie.Need-returns-2
+unfolding read-constant
+returns-2 c =
+    let token-at = c .before .before .before .before .before .before .before .before .before .token-at in
+    let if1 = c .before .before .before .before .before .before .before .if1 in
+    let is-name = c .before .before .before .before .before .before .is-name in
+    let if2 = c .before .before .before .before .before .if2 in
+    let find-name = c .before .before .before .before .find-name in
+    let enum-told = c .before .before .enum-told in
+    let refuse = c .refuse in
+    let y = refuse .ensures in
+    record {
+      gives =
+          token _ (token-at .ensures)
+          (other _ _ (ne-eqb _ _ (if1 .left))
+          (so _ _ (sym (is-name .ensures .is) ∙ if2 .taken)
+          (missed-it _ _ _ (find-name .ensures) (enum-told .given .1)
+          (refused _ y))));
+      onward = nowhere y;
+    }
+
+entry-in-requires : tie.Need-entry-in-requires
+entry-in-requires c κs =
+    let pre = c .before .before .before .before .before .before .before .before .before .before .before .before .before .pre in
+    let find-name = c .before .before .before .find-name in
+    let f = c .before .f in
+    (omega (arith, below-slot (find-name .ensures .below) (f .given .1), pre .few), pre .list)
+
+use-name-requires : tie.Need-use-name-requires
+use-name-requires c κs =
+    let pre = c .before .before .before .before .before .before .before .before .before .before .before .before .before .before .before .before .before .pre in
+    let token-at = c .before .before .before .before .before .before .before .before .before .before .before .before .token-at in
+    let is-name = c .before .before .before .before .before .before .before .before .before .is-name in
+    let if2 = c .before .before .before .before .before .before .before .before .if2 in
+    let find-name = c .before .before .before .before .before .before .before .find-name in
+    let f = c .before .before .before .before .before .f in (
+      pre .table,
+      omega (arith, token-at .ensures .inside, is-name .ensures .kind (if2 .taken), pre .tokens),
+      omega (arith, below-slot (find-name .ensures .below) (f .given .1), pre .few),
+    )
+
+carrying-requires-2 : tie.Need-carrying-requires-2
+carrying-requires-2 c κs = search needs
+
+same-length-3 : tie.Need-same-length-3
+same-length-3 c = search needs
+
+returns-3 : tie.Need-returns-3
+unfolding read-constant named-constant
+returns-3 c =
+    let token-at = c .before .before .before .before .before .before .before .before .before .before .before .before .before .before .before .before .token-at in
+    let if1 = c .before .before .before .before .before .before .before .before .before .before .before .before .before .before .if1 in
+    let is-name = c .before .before .before .before .before .before .before .before .before .before .before .before .before .is-name in
+    let if2 = c .before .before .before .before .before .before .before .before .before .before .before .before .if2 in
+    let find-name = c .before .before .before .before .before .before .before .before .before .before .before .find-name in
+    let f = c .before .before .before .before .before .before .before .before .before .f in
+    let entry-in = c .before .before .before .before .before .before .before .entry-in in
+    let if3 = c .before .before .before .before .before .if3 in
+    let use-name = c .before .before .before .use-name in
+    let carrying2 = c .carrying2 in
+    let u = use-name .ensures in
+    let k = carrying2 .ensures in
+    record {
+      gives =
+          token _ (token-at .ensures)
+          (other _ _ (ne-eqb _ _ (if1 .left))
+          (so _ _ (sym (is-name .ensures .is) ∙ if2 .taken)
+          (found-it _ _ _ (find-name .ensures) (f .given .1)
+          (named _ _ (entry-in .ensures)
+          (so _ _ (eq-eqb _ _ (if3 .taken))
+          (on-told _ (used _ (entry-in .ensures) u) refl
+          (carried _ k (ap decode-of (sym (k .word))))))))));
+      onward =
+          goes-on
+          (omega (arith, u .at, k .at))
+          (omega (arith, u .at, k .at, token-at .ensures .inside, is-name .ensures .kind (if2 .taken)))
+          (omega (arith, u .count, k .count));
+    }
+
+refuse-requires-2 : tie.Need-refuse-requires-2
+refuse-requires-2 c κs = search needs
+
+same-length-4 : tie.Need-same-length-4
+same-length-4 c = search needs
+
+returns-4 : tie.Need-returns-4
+unfolding read-constant named-constant
+returns-4 c =
+    let token-at = c .before .before .before .before .before .before .before .before .before .before .before .before .before .token-at in
+    let if1 = c .before .before .before .before .before .before .before .before .before .before .before .if1 in
+    let is-name = c .before .before .before .before .before .before .before .before .before .before .is-name in
+    let if2 = c .before .before .before .before .before .before .before .before .before .if2 in
+    let find-name = c .before .before .before .before .before .before .before .before .find-name in
+    let f = c .before .before .before .before .before .before .f in
+    let entry-in = c .before .before .before .before .entry-in in
+    let if3 = c .before .before .if3 in
+    let refuse2 = c .refuse2 in
+    let y = refuse2 .ensures in
+    record {
+      gives =
+          token _ (token-at .ensures)
+          (other _ _ (ne-eqb _ _ (if1 .left))
+          (so _ _ (sym (is-name .ensures .is) ∙ if2 .taken)
+          (found-it _ _ _ (find-name .ensures) (f .given .1)
+          (named _ _ (entry-in .ensures)
+          (other _ _ (ne-eqb _ _ (if3 .left))
+          (refused _ y))))));
+      onward = nowhere y;
+    }
+
+refuse-requires-3 : tie.Need-refuse-requires-3
+refuse-requires-3 c κs = search needs
+
+same-length-5 : tie.Need-same-length-5
+same-length-5 c = search needs
+
+returns-5 : tie.Need-returns-5
+unfolding read-constant
+returns-5 c =
+    let token-at = c .before .before .before .before .before .before .token-at in
+    let if1 = c .before .before .before .before .if1 in
+    let is-name = c .before .before .before .is-name in
+    let if2 = c .before .before .if2 in
+    let refuse3 = c .refuse3 in
+    let y = refuse3 .ensures in
+    record {
+      gives =
+          token _ (token-at .ensures)
+          (other _ _ (ne-eqb _ _ (if1 .left))
+          (other _ _ (sym (is-name .ensures .is) ∙ if2 .left)
+          (refused _ y)));
+      onward = nowhere y;
+    }
+
+pub read-constant-spec : {M : Type 1} → statement M
+read-constant-spec =
+    tie.close
+    (tie.spec
+    token-at-requires
+    moved-requires
+    carrying-requires
+    same-length
+    returns
+    is-name-requires
+    find-name-requires
+    enum-known-f
+    enum-told
+    refuse-requires
+    same-length-2
+    returns-2
+    entry-in-requires
+    use-name-requires
+    carrying-requires-2
+    same-length-3
+    returns-3
+    refuse-requires-2
+    same-length-4
+    returns-4
+    refuse-requires-3
+    same-length-5
+    returns-5)

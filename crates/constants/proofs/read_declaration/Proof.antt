@@ -1,0 +1,150 @@
+use Rattle.grammar.specs.Constants.{read-declaration}
+use Rattle.reader.proofs.Steps.{on, on-told, off, here, advanced, put-in}
+use Rattle.reader.proofs.Going.{nowhere, went, goes-on, still}
+use native.Mathlib.Omega.{arith}
+use mathlib.Core.Path.{_∙_, refl}
+use borrow.Author.Needs.{needs}
+use Rattle.constants.proofs.read_declaration.Statement.{statement}
+use Rattle.constants.proofs.read_declaration.Tie as tie
+
+moved-requires : tie.Need-moved-requires
+moved-requires c κs = search needs
+
+fresh-requires : tie.Need-fresh-requires
+fresh-requires c κs = search needs
+
+enum-known-r : tie.Need-enum-known-r
+enum-known-r c = search needs
+
+enum-told : tie.Need-enum-told
+enum-told c = search needs
+
+same-length : tie.Need-same-length
+same-length c = search needs
+
+same-length-2 : tie.Need-same-length-2
+same-length-2 c = search needs
+
+returns : tie.Need-returns
+unfolding read-declaration
+returns c =
+    let moved = c .before .before .before .moved in
+    let fresh = c .before .before .fresh in
+    let enum-told = c .enum-told in
+    let m = moved .ensures in
+    let y = enum-told .given .1 in
+    record {
+      gives = here _ (on _ (advanced m) refl (λ _ _. off _ (fresh .ensures .gives) y));
+      onward = nowhere y;
+    }
+
+sub-constant-value : tie.Need-sub-constant-value
+sub-constant-value c =
+    let fresh = c .before .before .before .before .before .before .fresh in
+    let r = c .before .before .before .before .r in
+    omega (arith, went (fresh .ensures .onward) (r .given .1) .past)
+
+constant-value-requires : tie.Need-constant-value-requires
+constant-value-requires c κs =
+    let pre = c .before .before .before .before .before .before .before .before .before .before .before .before .before .pre in
+    let fresh = c .before .before .before .before .before .before .fresh in
+    let r = c .before .before .before .before .r in
+    let w = went (fresh .ensures .onward) (r .given .1) in
+    (still (pre .0) refl refl w (omega arith), omega (arith, w .few), omega (arith, w .past, w .within))
+
+enum-known-q : tie.Need-enum-known-q
+enum-known-q c = search needs
+
+enum-told-2 : tie.Need-enum-told-2
+enum-told-2 c = search needs
+
+same-length-3 : tie.Need-same-length-3
+same-length-3 c = search needs
+
+same-length-4 : tie.Need-same-length-4
+same-length-4 c = search needs
+
+returns-2 : tie.Need-returns-2
+unfolding read-declaration
+returns-2 c =
+    let moved = c .before .before .before .before .before .before .before .before .before .before .before .before .before .before .moved in
+    let fresh = c .before .before .before .before .before .before .before .before .before .before .before .before .before .fresh in
+    let r = c .before .before .before .before .before .before .before .before .before .before .before .r in
+    let constant-value = c .before .before .before .before .before .before .constant-value in
+    let enum-told2 = c .enum-told2 in
+    let m = moved .ensures in
+    let y = enum-told2 .given .1 in
+    record {
+      gives =
+          here _
+          (on _ (advanced m) refl
+          (λ _ _. on-told _ (fresh .ensures .gives) (r .given .1)
+          (off _ (constant-value .ensures .gives) y)));
+      onward = nowhere y;
+    }
+
+cast-put-word : tie.Need-cast-put-word
+cast-put-word c =
+    let pre = c .before .before .before .before .before .before .before .before .before .before .before .before .before .before .before .before .before .before .before .before .before .before .before .pre in
+    let constant-value = c .before .before .before .before .before .before .before .before .before .constant-value in
+    let q = c .before .before .before .q in
+    omega (arith, went (constant-value .ensures .onward) (q .given .1) .within, pre .0 .tokens)
+
+put-word-requires : tie.Need-put-word-requires
+put-word-requires c κs =
+    let pre = c .before .before .before .before .before .before .before .before .before .before .before .before .before .before .before .before .before .before .before .before .before .before .before .pre in
+    let constant-value = c .before .before .before .before .before .before .before .before .before .constant-value in
+    (omega arith, constant-value .kept .1 .1 .0 ∙ pre .0 .table)
+
+same-length-5 : tie.Need-same-length-5
+same-length-5 c = search needs
+
+same-length-6 : tie.Need-same-length-6
+same-length-6 c = search needs
+
+returns-3 : tie.Need-returns-3
+unfolding read-declaration
+returns-3 c =
+    let moved = c .before .before .before .before .before .before .before .before .before .before .before .before .before .before .before .before .before .before .before .before .moved in
+    let fresh = c .before .before .before .before .before .before .before .before .before .before .before .before .before .before .before .before .before .before .before .fresh in
+    let r = c .before .before .before .before .before .before .before .before .before .before .before .before .before .before .before .before .before .r in
+    let constant-value = c .before .before .before .before .before .before .before .before .before .before .before .before .constant-value in
+    let q = c .before .before .before .before .before .before .q in
+    let put-word = c .before .before .put-word in
+    let m = moved .ensures in
+    let w = went (fresh .ensures .onward) (r .given .1) in
+    let v = went (constant-value .ensures .onward) (q .given .1) in
+    record {
+      gives =
+          here _
+          (on _ (advanced m) refl
+          (λ _ _. on-told _ (fresh .ensures .gives) (r .given .1)
+          (on _ (constant-value .ensures .gives) (q .given .1)
+          (λ _ _. here _
+          (put-in _ _ _ (put-word .ensures))))));
+      onward = goes-on (omega (arith, m .at, w .past, v .past)) (v .within) (v .few);
+    }
+
+pub read-declaration-spec : {M : Type 1} → statement M
+read-declaration-spec =
+    tie.close
+    (tie.spec
+    moved-requires
+    fresh-requires
+    enum-known-r
+    enum-told
+    same-length
+    same-length-2
+    returns
+    sub-constant-value
+    constant-value-requires
+    enum-known-q
+    enum-told-2
+    same-length-3
+    same-length-4
+    returns-2
+    cast-put-word
+    put-word-requires
+    same-length-5
+    same-length-6
+    returns-3)

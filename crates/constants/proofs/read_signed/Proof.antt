@@ -1,0 +1,147 @@
+use Rattle.grammar.specs.Constants.{read-signed}
+use Rattle.reader.proofs.Steps.{on, on-told, off, so, other, token, advanced}
+use Rattle.reader.proofs.Going.{nowhere, went, further}
+use native.Mathlib.Omega.{arith}
+use mathlib.Core.Path.{_∙_, refl}
+use borrow.Author.Tests.{eq-eqb, ne-eqb}
+use borrow.Author.Needs.{needs}
+use Rattle.constants.proofs.read_signed.Statement.{statement}
+use Rattle.constants.proofs.read_signed.Tie as tie
+
+token-at-requires : tie.Need-token-at-requires
+token-at-requires c κs = search needs
+
+moved-requires : tie.Need-moved-requires
+moved-requires c κs = search needs
+
+read-constant-requires : tie.Need-read-constant-requires
+read-constant-requires c κs = search needs
+
+enum-known-r : tie.Need-enum-known-r
+enum-known-r c = search needs
+
+enum-told : tie.Need-enum-told
+enum-told c = search needs
+
+same-length : tie.Need-same-length
+same-length c = search needs
+
+returns : tie.Need-returns
+unfolding read-signed
+returns c =
+    let token-at = c .before .before .before .before .before .before .before .before .before .token-at in
+    let if1 = c .before .before .before .before .before .before .before .if1 in
+    let moved = c .before .before .before .before .before .moved in
+    let read-constant = c .before .before .before .before .read-constant in
+    let enum-told = c .enum-told in
+    let m = moved .ensures in
+    let y = enum-told .given .1 in
+    record {
+      gives =
+          token _ (token-at .ensures)
+          (so _ _ (eq-eqb _ _ (if1 .taken))
+          (off _ (on _ (advanced m) refl (λ _ _. read-constant .ensures .gives)) y));
+      onward = nowhere y;
+    }
+
+negated-requires : tie.Need-negated-requires
+negated-requires c κs =
+    let pre = c .before .before .before .before .before .before .before .before .before .before .before .before .before .before .before .before .pre in
+    let read-constant = c .before .before .before .before .before .before .read-constant in
+    let r = c .before .before .r in
+    let w = went (read-constant .ensures .onward) (r .given .1) in
+    (pre .tokens, read-constant .kept .1 .1 .0 ∙ pre .table, omega (arith, w .past), w .within)
+
+same-length-2 : tie.Need-same-length-2
+same-length-2 c = search needs
+
+returns-2 : tie.Need-returns-2
+unfolding read-signed
+returns-2 c =
+    let token-at = c .before .before .before .before .before .before .before .before .before .before .before .before .token-at in
+    let if1 = c .before .before .before .before .before .before .before .before .before .before .if1 in
+    let moved = c .before .before .before .before .before .before .before .before .moved in
+    let read-constant = c .before .before .before .before .before .before .before .read-constant in
+    let r = c .before .before .before .r in
+    let negated = c .negated in
+    let m = moved .ensures in
+    let w = went (read-constant .ensures .onward) (r .given .1) in
+    record {
+      gives =
+          token _ (token-at .ensures)
+          (so _ _ (eq-eqb _ _ (if1 .taken))
+          (on-told _ (on _ (advanced m) refl (λ _ _. read-constant .ensures .gives)) (r .given .1)
+          (negated .ensures .gives _ _)));
+      onward = further (negated .ensures .onward) (omega (arith, w .past, m .at)) (omega (arith, w .few, m .count));
+    }
+
+moved-requires-2 : tie.Need-moved-requires-2
+moved-requires-2 c κs = search needs
+
+read-constant-requires-2 : tie.Need-read-constant-requires-2
+read-constant-requires-2 c κs = search needs
+
+same-length-3 : tie.Need-same-length-3
+same-length-3 c = search needs
+
+returns-3 : tie.Need-returns-3
+unfolding read-signed
+returns-3 c =
+    let token-at = c .before .before .before .before .before .before .before .before .before .token-at in
+    let if1 = c .before .before .before .before .before .before .before .if1 in
+    let if2 = c .before .before .before .before .before .if2 in
+    let moved2 = c .before .before .before .moved2 in
+    let read-constant2 = c .before .before .read-constant2 in
+    let m = moved2 .ensures in
+    record {
+      gives =
+          token _ (token-at .ensures)
+          (other _ _ (ne-eqb _ _ (if1 .left))
+          (so _ _ (eq-eqb _ _ (if2 .taken))
+          (on _ (advanced m) refl (λ _ _. read-constant2 .ensures .gives))));
+      onward = further (read-constant2 .ensures .onward) (omega (arith, m .at)) (omega (arith, m .count));
+    }
+
+read-constant-requires-3 : tie.Need-read-constant-requires-3
+read-constant-requires-3 c κs = search needs
+
+same-length-4 : tie.Need-same-length-4
+same-length-4 c = search needs
+
+returns-4 : tie.Need-returns-4
+unfolding read-signed
+returns-4 c =
+    let token-at = c .before .before .before .before .before .before .before .before .token-at in
+    let if1 = c .before .before .before .before .before .before .if1 in
+    let if2 = c .before .before .before .before .if2 in
+    let read-constant3 = c .before .before .read-constant3 in
+    record {
+      gives =
+          token _ (token-at .ensures)
+          (other _ _ (ne-eqb _ _ (if1 .left))
+          (other _ _ (ne-eqb _ _ (if2 .left))
+          (read-constant3 .ensures .gives)));
+      onward = read-constant3 .ensures .onward;
+    }
+
+pub read-signed-spec : {M : Type 1} → statement M
+read-signed-spec =
+    tie.close
+    (tie.spec
+    token-at-requires
+    moved-requires
+    read-constant-requires
+    enum-known-r
+    enum-told
+    same-length
+    returns
+    negated-requires
+    same-length-2
+    returns-2
+    moved-requires-2
+    read-constant-requires-2
+    same-length-3
+    returns-3
+    read-constant-requires-3
+    same-length-4
+    returns-4)

@@ -1,0 +1,2 @@
+-- What the leaves promise.
+pub mod Fitting

@@ -1,0 +1,145 @@
+use native.Mathlib.Omega.{arith}
+use mathlib.Core.Path.{_∙_, sym, refl}
+use mathlib.Core.Bool.{true, false}
+use Rattle.grammar.specs.Source.{read-fields, declared}
+use Rattle.reader.specs.Reading.{anything}
+use Rattle.reader.proofs.Steps.{on-told, off, so, other, token, token-behind, made}
+use Rattle.reader.proofs.Going.{nowhere, went, goes-on}
+use borrow.Author.Needs.{needs}
+use Rattle.declaration.proofs.Grouping.{unnamed-put}
+use Rattle.declaration.proofs.Cells.{with-fields}
+use Rattle.declaration.proofs.read_fields.Statement.{statement}
+use Rattle.declaration.proofs.read_fields.Tie as tie
+
+token-at-requires : tie.Need-token-at-requires
+token-at-requires c κs = search needs
+
+add-token-at : tie.Need-add-token-at
+add-token-at c = search needs
+
+token-at-requires-2 : tie.Need-token-at-requires-2
+token-at-requires-2 c κs = search needs
+
+is-unnamed-requires : tie.Need-is-unnamed-requires
+is-unnamed-requires c κs = search needs
+
+read-range-requires : tie.Need-read-range-requires
+read-range-requires c κs = search needs
+
+enum-known-r : tie.Need-enum-known-r
+enum-known-r c = search needs
+
+enum-told : tie.Need-enum-told
+enum-told c = search needs
+
+same-length : tie.Need-same-length
+same-length c = search needs
+
+same-length-2 : tie.Need-same-length-2
+same-length-2 c = search needs
+
+returns : tie.Need-returns
+unfolding read-fields
+returns c =
+    let token-at = c .before .before .before .before .before .before .before .before .before .before .before .before .token-at in
+    let token-at2 = c .before .before .before .before .before .before .before .before .before .token-at2 in
+    let is-unnamed = c .before .before .before .before .before .before .before .before .is-unnamed in
+    let if1 = c .before .before .before .before .before .before .before .if1 in
+    let read-range = c .before .before .before .before .read-range in
+    let enum-told = c .enum-told in
+    λ dims.
+    let y = enum-told .given .1 in
+    record {
+      gives =
+          token _ (token-at .ensures) (token-behind _ (token-at2 .ensures) (so _ _ (sym (is-unnamed .ensures) ∙ if1 .taken) (off _
+          (off {Q = anything} _ (read-range .ensures .gives) y) y)));
+      onward = nowhere y;
+    }
+
+write-ranges-requires : tie.Need-write-ranges-requires
+write-ranges-requires c κs =
+    let pre = c .before .before .before .before .before .before .before .before .before .before .before .before .before .before .before .before .before .before .before .pre in
+    let read-range = c .before .before .before .before .before .before .read-range in
+    (read-range .kept .1 .1 .0 ∙ pre .0 .table, omega (arith, pre .1, pre .0 .here, pre .0 .tokens))
+
+carrying-requires : tie.Need-carrying-requires
+carrying-requires c κs = search needs
+
+same-length-3 : tie.Need-same-length-3
+same-length-3 c = search needs
+
+same-length-4 : tie.Need-same-length-4
+same-length-4 c = search needs
+
+returns-2 : tie.Need-returns-2
+unfolding read-fields
+returns-2 c =
+    let pre = c .before .before .before .before .before .before .before .before .before .before .before .before .before .before .before .before .before .before .before .before .before .before .before .pre in
+    let token-at = c .before .before .before .before .before .before .before .before .before .before .before .before .before .before .before .before .before .before .token-at in
+    let token-at2 = c .before .before .before .before .before .before .before .before .before .before .before .before .before .before .before .token-at2 in
+    let is-unnamed = c .before .before .before .before .before .before .before .before .before .before .before .before .before .before .is-unnamed in
+    let if1 = c .before .before .before .before .before .before .before .before .before .before .before .before .before .if1 in
+    let read-range = c .before .before .before .before .before .before .before .before .before .before .read-range in
+    let r = c .before .before .before .before .before .before .r in
+    let write-ranges = c .before .before .before .write-ranges in
+    let carrying = c .carrying in
+    λ dims.
+    let w = went (read-range .ensures .onward) (r .given .1) in
+    let m = carrying .ensures in
+    record {
+      gives =
+          token _ (token-at .ensures) (token-behind _ (token-at2 .ensures) (so _ _ (sym (is-unnamed .ensures) ∙ if1 .taken) (made
+          (declared dims false) (on-told _ (read-range .ensures .gives) (r .given .1) (unnamed-put _ (write-ranges .ensures)
+          (omega (arith, pre .1, w .past)) m)) (λ rs t p. with-fields dims false refl p))));
+      onward = goes-on (omega (arith, m .at, w .past)) (omega (arith, m .at, w .within)) (omega (arith, m .count, w .few, pre .0 .few));
+    }
+
+read-groups-requires : tie.Need-read-groups-requires
+read-groups-requires c κs = search needs
+
+same-length-5 : tie.Need-same-length-5
+same-length-5 c = search needs
+
+same-length-6 : tie.Need-same-length-6
+same-length-6 c = search needs
+
+returns-3 : tie.Need-returns-3
+unfolding read-fields
+returns-3 c =
+    let token-at = c .before .before .before .before .before .before .before .before .before .before .before .before .token-at in
+    let token-at2 = c .before .before .before .before .before .before .before .before .before .token-at2 in
+    let is-unnamed = c .before .before .before .before .before .before .before .before .is-unnamed in
+    let if1 = c .before .before .before .before .before .before .before .if1 in
+    let read-groups = c .before .before .before .before .read-groups in
+    λ dims.
+    let g = read-groups .ensures in
+    record {
+      gives =
+          token _ (token-at .ensures) (token-behind _ (token-at2 .ensures) (other _ _ (sym (is-unnamed .ensures) ∙ if1 .left) (made
+          (declared dims true) (g .gives) (λ rs t p. with-fields dims true refl p))));
+      onward = g .onward;
+    }
+
+pub read-fields-spec : {M : Type 1} → statement M
+read-fields-spec =
+    tie.close
+    (tie.spec
+    token-at-requires
+    add-token-at
+    token-at-requires-2
+    is-unnamed-requires
+    read-range-requires
+    enum-known-r
+    enum-told
+    same-length
+    same-length-2
+    returns
+    write-ranges-requires
+    carrying-requires
+    same-length-3
+    same-length-4
+    returns-2
+    read-groups-requires
+    same-length-5
+    same-length-6
+    returns-3)

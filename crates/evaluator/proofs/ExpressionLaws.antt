@@ -1,0 +1,427 @@
+-- The laws of expressions, one for each way that their evaluators go.
+use Prim.Native.Nat.{ℕ, zero, suc, _+_, _≤_, _<_}
+use native.Mathlib.Decide.{decLt}
+use native.Mathlib.Omega.{arith}
+use mathlib.Core.Path.{_≡_, refl, sym, ap, _∙_, subst}
+use mathlib.Core.Bool.{Bool, true, false}
+use mathlib.Core.List.{List}
+use lib.Dec.{eqb}
+use lib.IntN.{ℤ}
+use borrow.Author.Tests.{lt-ltb, le-ltb, eqb-true}
+use Rattle.value.specs.Choice.{if_then_else_}
+use Rattle.value.specs.Worked.{value}
+use Rattle.value.specs.declared.Value.{Value}
+use Rattle.program.specs.Syntax.{Expr, element, unary, binary}
+use Rattle.evaluator.specs.Operators.{Worth, worth, failed, placed, apply-unary, apply-binary}
+use Rattle.evaluator.specs.Evaluation.{Env, element-at, eval}
+use Rattle.evaluator.specs.Stands.{Table, array-in, is-unary, level-of, Decoded, parsed, nothing, and-then, decode-expression, decode-chain, decode-operand, decode-primary, decode-name, decode-bracket}
+use Rattle.evaluator.specs.Working.{told-of, Onward, primary-from, EvalsExpression, EvalsOperand, EvalsPrimary, EvalsName, EvalsPlain, EvalsBracket}
+use Rattle.evaluator.specs.declared.Told.{Told}
+use Rattle.evaluator.specs.declared.Told.the-variants.{Found, Failed}
+use Rattle.evaluator.proofs.PrimaryLaws.{never, as-value}
+
+-- ---- what an answer says of the worth
+
+pub worth-of : (o : Worth) (next : ℕ) {v : Value} {at : ℕ} → Found v at ≡ told-of o next → (o ≡ worth (v .n)) × (next ≡ at)
+worth-of (worth z) next {v} q = let e : value z ≡ v = cc in (ap (λ (x : Value). worth (x .n)) e, cc)
+worth-of (failed k p) next q = let z : _≡_ {A = ℕ} 0 1 = cc in absurd (omega arith)
+
+pub fault-of : (o : Worth) (next : ℕ) {k p : ℕ} → Failed k p ≡ told-of o next → o ≡ failed k p
+fault-of (worth z) next q = let z : _≡_ {A = ℕ} 0 1 = cc in absurd (omega arith)
+fault-of (failed k p) next q = cc
+
+further : (o : Worth) (at from past n : ℕ) → at ≤ from → (from < past) × (past ≤ n) → Onward at n (told-of o past)
+further (worth z) at from past n l y = (omega arith, omega arith)
+further (failed k p) at from past n l y = tt
+
+-- ---- what a decoding that succeeds was made of
+
+then-parsed : (P : Decoded) (f : Expr → ℕ → Decoded) (e : Expr) (next : ℕ) → and-then P f ≡ parsed e next → (e₀ : Expr) × (m : ℕ) × (P ≡ parsed e₀ m) × (f e₀ m ≡ parsed e next)
+then-parsed (parsed e₀ m) f e next q = (e₀, m, refl, q)
+then-parsed nothing f e next q = never q
+
+when-parsed : (b : Bool) {next : ℕ} {e : Expr} (P : Decoded) → (if b then P else nothing) ≡ parsed e next → (b ≡ true) × (P ≡ parsed e next)
+when-parsed true P q = (refl, q)
+when-parsed false P q = never q
+
+module _ (t : Table) (at next : ℕ) (e : Expr) where
+  was-unary : is-unary (t .kind at) ≡ true → (fuel : ℕ) → decode-operand fuel t at ≡ parsed e next
+      → (f : ℕ) × (e₀ : Expr) × (decode-primary f t (at + 1) ≡ parsed e₀ next) × (e ≡ unary (t .kind at) (t .place at) e₀)
+  unfolding decode-operand
+  was-unary k zero q = never q
+  was-unary k (suc f) q = go (then-parsed (decode-primary f t (at + 1)) (λ e next. parsed (unary (t .kind at) (t .place at) e) next) e next (simp k at q))
+    where
+      go : (e₀ : Expr) × (m : ℕ) × (decode-primary f t (at + 1) ≡ parsed e₀ m) × (parsed (unary (t .kind at) (t .place at) e₀) m ≡ parsed e next)
+          → (f : ℕ) × (e₀ : Expr) × (decode-primary f t (at + 1) ≡ parsed e₀ next) × (e ≡ unary (t .kind at) (t .place at) e₀)
+      go (e₀, m, p, h) = let u : m ≡ next = cc in (f, e₀, p ∙ ap (parsed e₀) u, cc)
+
+  was-bare : is-unary (t .kind at) ≡ false → (fuel : ℕ) → decode-operand fuel t at ≡ parsed e next → (f : ℕ) × (decode-primary f t at ≡ parsed e next)
+  unfolding decode-operand
+  was-bare k zero q = never q
+  was-bare k (suc f) q = (f, simp k at q)
+
+  was-paren : t .kind at ≡ 40 → (fuel : ℕ) → decode-primary fuel t at ≡ parsed e next → (f : ℕ) × (decode-bracket f t 41 at ≡ parsed e next)
+  unfolding decode-primary
+  was-paren k zero q = never q
+  was-paren k (suc f) q = (f, simp k at q)
+
+  was-name : t .kind at ≡ 1 → (fuel : ℕ) → decode-primary fuel t at ≡ parsed e next → (f : ℕ) × (decode-name f t at ≡ parsed e next)
+  unfolding decode-primary
+  was-name k zero q = never q
+  was-name k (suc f) q = (f, simp k at q)
+
+  was-array : t .word2 at ≡ 2 → (fuel : ℕ) → decode-name fuel t at ≡ parsed e next
+      → (t .kind (at + 1) ≡ 91) × (f : ℕ) × (e₀ : Expr) × (decode-bracket f t 93 (at + 1) ≡ parsed e₀ next) × (e ≡ element (t .place (at + 1)) (array-in t (t .word3 at)) e₀)
+  unfolding decode-name
+  was-array k zero q = never q
+  was-array k (suc f) q = go (when-parsed (eqb (t .kind (at + 1)) 91) inner (simp k at q))
+    where
+      inner : Decoded
+      inner = and-then (decode-bracket f t 93 (at + 1)) (λ e next. parsed (element (t .place (at + 1)) (array-in t (t .word3 at)) e) next)
+
+      go : (eqb (t .kind (at + 1)) 91 ≡ true) × (inner ≡ parsed e next)
+          → (t .kind (at + 1) ≡ 91) × (f : ℕ) × (e₀ : Expr) × (decode-bracket f t 93 (at + 1) ≡ parsed e₀ next) × (e ≡ element (t .place (at + 1)) (array-in t (t .word3 at)) e₀)
+      go (b, h) =
+          let s = then-parsed (decode-bracket f t 93 (at + 1)) (λ e next. parsed (element (t .place (at + 1)) (array-in t (t .word3 at)) e) next) e next h in
+          let e₀ : Expr = s .0 in
+          let m : ℕ = s .1 in
+          let h₂ : decode-bracket f t 93 (at + 1) ≡ parsed e₀ m = s .2 in
+          let h₃ : parsed (element (t .place (at + 1)) (array-in t (t .word3 at)) e₀) m ≡ parsed e next = s .3 in
+          let h₄ : m ≡ next = cc in
+          (eqb-true _ _ b, f, e₀, h₂ ∙ ap (parsed e₀) h₄, cc)
+
+  was-bracket : (close fuel : ℕ) → decode-bracket fuel t close at ≡ parsed e next → (f : ℕ) × (m : ℕ) × (decode-expression f t 1 (at + 1) ≡ parsed e m) × (t .kind m ≡ close) × (next ≡ m + 1)
+  unfolding decode-bracket
+  was-bracket close zero q = never q
+  was-bracket close (suc f) q =
+      let s = then-parsed (decode-expression f t 1 (at + 1)) (λ e next. if eqb (t .kind next) close then parsed e (next + 1) else nothing) e next q in
+      let e₀ : Expr = s .0 in
+      let m : ℕ = s .1 in
+      let u = when-parsed (eqb (t .kind m) close) (parsed e₀ (m + 1)) (s .3) in
+      let u₁ : parsed e₀ (m + 1) ≡ parsed e next = u .1 in
+      let u₂ : e₀ ≡ e = cc in
+      (f, m, s .2 ∙ ap (λ (x : Expr). parsed x m) u₂, eqb-true _ _ (u .0), cc)
+
+  was-expression : (level fuel : ℕ) → decode-expression fuel t level at ≡ parsed e next
+      → (f : ℕ) × (e₀ : Expr) × (m : ℕ) × (decode-operand f t at ≡ parsed e₀ m) × (decode-chain f t level e₀ m ≡ parsed e next)
+  unfolding decode-expression
+  was-expression level zero q = never q
+  was-expression level (suc f) q =
+      let s = then-parsed (decode-operand f t at) (λ e next. decode-chain f t level e next) e next q in
+      (f, s .0, s .1, s .2, s .3)
+
+module _ (t : Table) (here level next : ℕ) (e : Expr) where
+  -- a chain that ends, and one that takes an operator
+  was-end : level-of (t .kind here) < level → (left : Expr) (fuel : ℕ) → decode-chain fuel t level left here ≡ parsed e next → (left ≡ e) × (here ≡ next)
+  unfolding decode-chain
+  was-end l left zero q = never q
+  was-end l left (suc f) q = let h : parsed left here ≡ parsed e next = simp (lt-ltb _ _ l) at q in (cc, cc)
+
+  went-on : level ≤ level-of (t .kind here) → (left : Expr) (f : ℕ) → decode-chain (suc f) t level left here ≡ parsed e next
+      → (right : Expr) × (m : ℕ) × (decode-expression f t (level-of (t .kind here) + 1) (here + 1) ≡ parsed right m)
+      × (decode-chain f t level (binary (t .kind here) (t .place here) left right) m ≡ parsed e next)
+  unfolding decode-chain
+  went-on l left f q =
+      then-parsed (decode-expression f t (level-of (t .kind here) + 1) (here + 1)) (λ right next. decode-chain f t level (binary (t .kind here) (t .place here) left right) next) e next
+      (simp (le-ltb _ _ l) at q)
+
+  was-more : level ≤ level-of (t .kind here) → (left : Expr) (fuel : ℕ) → decode-chain fuel t level left here ≡ parsed e next
+      → (f : ℕ) × (right : Expr) × (m : ℕ) × (decode-expression f t (level-of (t .kind here) + 1) (here + 1) ≡ parsed right m)
+      × (decode-chain f t level (binary (t .kind here) (t .place here) left right) m ≡ parsed e next)
+  unfolding decode-chain
+  was-more l left zero q = never q
+  was-more l left (suc f) q = let s = went-on l left f q in (f, s .0, s .1, s .2, s .3)
+
+module _ (t : Table) (env : Env) (vars vs : List ℤ) where
+  abbrev ev : Expr → Worth
+  ev e = eval env vars vs e
+
+  as-fault : (e : Expr) (next : ℕ) {r : Told} {k p : ℕ} → r ≡ Failed k p → ev e ≡ failed k p → r ≡ told-of (ev e) next
+  as-fault e next h x = h ∙ sym (ap (λ (o : Worth). told-of o next) x)
+
+  -- ---- evaluation's clauses, with the worth of the operands known
+
+  module _ (op place : ℕ) where
+    unary-faults : (e : Expr) {k p : ℕ} → ev e ≡ failed k p → ev (unary op place e) ≡ failed k p
+    unfolding eval
+    unary-faults e x = simp x
+
+    unary-worth : (e : Expr) {z : ℤ} → ev e ≡ worth z → ev (unary op place e) ≡ placed place (apply-unary op z)
+    unfolding eval
+    unary-worth e x = simp x
+
+    left-faults : (d e : Expr) {k p : ℕ} → ev d ≡ failed k p → ev (binary op place d e) ≡ failed k p
+    unfolding eval
+    left-faults d e x = simp x
+
+    right-faults : (d e : Expr) {z : ℤ} {k p : ℕ} → ev d ≡ worth z → ev e ≡ failed k p → ev (binary op place d e) ≡ failed k p
+    unfolding eval
+    right-faults d e x y = simp (x, y)
+
+    both-worth : (d e : Expr) {y z : ℤ} → ev d ≡ worth y → ev e ≡ worth z → ev (binary op place d e) ≡ placed place (apply-binary op y z)
+    unfolding eval
+    both-worth d e x y = simp (x, y)
+
+  module _ (place : ℕ) (zs : List ℤ) where
+    element-faults : (e : Expr) {k p : ℕ} → ev e ≡ failed k p → ev (element place zs e) ≡ failed k p
+    unfolding eval
+    element-faults e x = simp x
+
+    element-worth : (e : Expr) {z : ℤ} → ev e ≡ worth z → ev (element place zs e) ≡ element-at place zs z
+    unfolding eval
+    element-worth e x = simp x
+
+  -- a fault of what a chain has read is a fault of all that it reads
+  module _ (level next : ℕ) (e : Expr) (k p : ℕ) where
+    chain-fault : (f here : ℕ) (left : Expr) → decode-chain f t level left here ≡ parsed e next → ev left ≡ failed k p → ev e ≡ failed k p
+    unfolding decode-chain
+    chain-fault zero here left q x = never q
+    chain-fault (suc f) here left q x = go (chain-fault f) (decLt (level-of (t .kind here)) level)
+      where
+        go : ((here : ℕ) (left : Expr) → decode-chain f t level left here ≡ parsed e next → ev left ≡ failed k p → ev e ≡ failed k p) → Dec (level-of (t .kind here) < level) → ev e ≡ failed k p
+        go again (yes l) = ap ev (sym (was-end t here level next e l left (suc f) q .0)) ∙ x
+        go again (no l) =
+            let s = went-on t here level next e (omega arith) left f q in
+            again (s .1) (binary (t .kind here) (t .place here) left (s .0)) (s .3) (left-faults (t .kind here) (t .place here) left (s .0) x)
+
+  module _ (n at : ℕ) where
+    -- ---- brackets
+
+    module _ (close : ℕ) {r : Told} (x : EvalsExpression t env vars vs n (at + 1) 1 r) where
+      pub bracket-fault : {k p : ℕ} → r ≡ Failed k p → EvalsBracket t env vars vs n at close r
+      bracket-fault {k} {p} h = record {
+        says = λ fuel e next q.
+            let s = was-bracket t at next e close fuel q in
+            as-fault e next h (fault-of (ev e) (s .1) (sym h ∙ x .says (s .0) e (s .1) (s .2)));
+        onward = rw h tt;
+      }
+
+      module _ {v : Value} {past : ℕ} (h : r ≡ Found v past) {k : ℕ} (ek : k ≡ t .kind past) where
+        pub bracket-closed : k ≡ close → past < n → EvalsBracket t env vars vs n at close (Found v (past + 1))
+        bracket-closed kc l =
+            let o : (at + 1 < past) × (past ≤ n) = rw h at (x .onward) in
+            record { says = λ fuel e next q. go e next (was-bracket t at next e close fuel q); onward = (omega arith, omega arith) }
+          where
+            go : (e : Expr) (next : ℕ) → (f : ℕ) × (m : ℕ) × (decode-expression f t 1 (at + 1) ≡ parsed e m) × (t .kind m ≡ close) × (next ≡ m + 1) → Found v (past + 1) ≡ told-of (ev e) next
+            go e next (f, m, q, kc′, hn) =
+                let s = worth-of (ev e) m (sym h ∙ x .says f e m q) in
+                as-value env vars vs e (past + 1) next (s .0) (hn ∙ ap (λ (i : ℕ). i + 1) (s .1))
+
+        pub bracket-open : (k ≡ close → ⊥) → {a p : ℕ} → EvalsBracket t env vars vs n at close (Failed a p)
+        bracket-open kc {a} {p} = record { says = λ fuel e next q. absurd (go e next (was-bracket t at next e close fuel q)); onward = tt }
+          where
+            go : (e : Expr) (next : ℕ) → (f : ℕ) × (m : ℕ) × (decode-expression f t 1 (at + 1) ≡ parsed e m) × (t .kind m ≡ close) × (next ≡ m + 1) → ⊥
+            go e next (f, m, q, kc′, hn) =
+                let s = worth-of (ev e) m (sym h ∙ x .says f e m q) in
+                kc (ek ∙ ap (λ (i : ℕ). t .kind i) (sym (s .1)) ∙ kc′)
+
+    -- ---- primaries
+
+    module _ {k : ℕ} (ek : k ≡ t .kind at) where
+      pub primary-paren : {r : Told} → k ≡ 40 → EvalsBracket t env vars vs n at 41 r → EvalsPrimary t env vars vs n at r
+      primary-paren {r} kp b = record { says = λ fuel e next q. let s = was-paren t at next e (sym ek ∙ kp) fuel q in b .says (s .0) e next (s .1); onward = b .onward }
+
+      pub primary-plain : {r : Told} → (k ≡ 40 → ⊥) → (k ≡ 1 → ⊥) → EvalsPlain t env vars vs n at r → EvalsPrimary t env vars vs n at r
+      primary-plain {r} kp kn b = record { says = λ fuel e next q. b .says (λ u. kn (ek ∙ u)) (λ u. kp (ek ∙ u)) fuel e next q; onward = b .onward }
+
+      module _ (kn : k ≡ 1) {w : ℕ} (ew : w ≡ t .word2 at) where
+        pub primary-name : {r : Told} → (w ≡ 2 → ⊥) → EvalsName t env vars vs n at r → EvalsPrimary t env vars vs n at r
+        primary-name {r} other b = record { says = λ fuel e next q. let s = was-name t at next e (sym ek ∙ kn) fuel q in b .says (λ u. other (ew ∙ u)) (s .0) e next (s .1); onward = b .onward }
+
+        module _ (wa : w ≡ 2) where
+          Went : (e : Expr) (next : ℕ) → Type 0
+          Went e next = (t .kind (at + 1) ≡ 91) × (f : ℕ) × (e₀ : Expr) × (decode-bracket f t 93 (at + 1) ≡ parsed e₀ next) × (e ≡ element (t .place (at + 1)) (array-in t (t .word3 at)) e₀)
+
+          went : (fuel : ℕ) (e : Expr) (next : ℕ) → decode-primary fuel t at ≡ parsed e next → Went e next
+          unfolding Went
+          went fuel e next q = let s = was-name t at next e (sym ek ∙ kn) fuel q in was-array t at next e (sym ew ∙ wa) (s .0) (s .1)
+
+          pub primary-bare : {j a p : ℕ} → j ≡ t .kind (at + 1) → (j ≡ 91 → ⊥) → EvalsPrimary t env vars vs n at (Failed a p)
+          unfolding Went
+          primary-bare ej nb = record { says = λ fuel e next q. absurd (nb (ej ∙ went fuel e next q .0)); onward = tt }
+
+          module _ {r : Told} (b : EvalsBracket t env vars vs n (at + 1) 93 r) where
+            pub primary-element-fault : {a p : ℕ} → r ≡ Failed a p → EvalsPrimary t env vars vs n at r
+            unfolding Went
+            primary-element-fault {a} {p} h = record { says = λ fuel e next q. go e next (went fuel e next q); onward = rw h tt }
+              where
+                go : (e : Expr) (next : ℕ) → Went e next → r ≡ told-of (ev e) next
+                go e next (k91, f, e₀, q, he) =
+                    as-fault e next h (ap ev he ∙ element-faults (t .place (at + 1)) (array-in t (t .word3 at)) e₀ (fault-of (ev e₀) next (sym h ∙ b .says f e₀ next q)))
+
+            pub primary-element : {i : Value} {past : ℕ} {o : Told} → r ≡ Found i past → o ≡ told-of (element-at (t .place (at + 1)) (array-in t (t .word3 at)) (i .n)) past
+                → EvalsPrimary t env vars vs n at o
+            unfolding Went
+            primary-element {i} {past} {o} h ho = record {
+              says = λ fuel e next q. go e next (went fuel e next q);
+              onward = rw ho (further (element-at (t .place (at + 1)) (array-in t (t .word3 at)) (i .n)) at (at + 1) past n (omega arith) (rw h at (b .onward)));
+            }
+              where
+                go : (e : Expr) (next : ℕ) → Went e next → o ≡ told-of (ev e) next
+                go e next (k91, f, e₀, q, he) =
+                    let s = worth-of (ev e₀) next (sym h ∙ b .says f e₀ next q) in
+                    ho ∙ ap (told-of (element-at (t .place (at + 1)) (array-in t (t .word3 at)) (i .n))) (sym (s .1))
+                    ∙ sym (ap (λ (x : Worth). told-of x next) (ap ev he ∙ element-worth (t .place (at + 1)) (array-in t (t .word3 at)) e₀ (s .0)))
+
+    -- ---- operands
+
+    module _ {k : ℕ} (ek : k ≡ t .kind at) {b : Bool} (eb : b ≡ is-unary k) where
+      bare : {r : Told} → b ≡ false → EvalsPrimary t env vars vs n at r → EvalsOperand t env vars vs n at r
+      bare {r} h x = record {
+        says = λ fuel e next q. let s = was-bare t at next e (ap is-unary (sym ek) ∙ sym eb ∙ h) fuel q in x .says (s .0) e next (s .1);
+        onward = x .onward;
+      }
+
+      module _ {r : Told} (h : b ≡ true) (x : EvalsPrimary t env vars vs n (at + 1) r) where
+        Unary : (e : Expr) (next : ℕ) → Type 0
+        Unary e next = (f : ℕ) × (e₀ : Expr) × (decode-primary f t (at + 1) ≡ parsed e₀ next) × (e ≡ unary (t .kind at) (t .place at) e₀)
+
+        unary-read : (fuel : ℕ) (e : Expr) (next : ℕ) → decode-operand fuel t at ≡ parsed e next → Unary e next
+        unfolding Unary
+        unary-read fuel e next q = was-unary t at next e (ap is-unary (sym ek) ∙ sym eb ∙ h) fuel q
+
+        before-fault : {a p : ℕ} → r ≡ Failed a p → EvalsOperand t env vars vs n at r
+        unfolding Unary
+        before-fault {a} {p} g = record { says = λ fuel e next q. go e next (unary-read fuel e next q); onward = rw g tt }
+          where
+            go : (e : Expr) (next : ℕ) → Unary e next → r ≡ told-of (ev e) next
+            go e next (f, e₀, q, he) = as-fault e next g (ap ev he ∙ unary-faults (t .kind at) (t .place at) e₀ (fault-of (ev e₀) next (sym g ∙ x .says f e₀ next q)))
+
+        before-found : {v : Value} {past : ℕ} {o : Told} → r ≡ Found v past → o ≡ told-of (placed (t .place at) (apply-unary k (v .n))) past → EvalsOperand t env vars vs n at o
+        unfolding Unary
+        before-found {v} {past} {o} g ho = record {
+          says = λ fuel e next q. go e next (unary-read fuel e next q);
+          onward = rw ho (further (placed (t .place at) (apply-unary k (v .n))) at (at + 1) past n (omega arith) (rw g at (x .onward)));
+        }
+          where
+            go : (e : Expr) (next : ℕ) → Unary e next → o ≡ told-of (ev e) next
+            go e next (f, e₀, q, he) =
+                let s = worth-of (ev e₀) next (sym g ∙ x .says f e₀ next q) in
+                ho ∙ ap (told-of (placed (t .place at) (apply-unary k (v .n)))) (sym (s .1))
+                ∙ sym (ap (λ (y : Worth). told-of y next) (ap ev he ∙ unary-worth (t .kind at) (t .place at) e₀ (s .0) ∙ ap (λ (i : ℕ). placed (t .place at) (apply-unary i (v .n))) (sym ek)))
+
+    module _ {k : ℕ} (ek : k ≡ t .kind at) {from : ℕ} (ef : from ≡ primary-from k at) {r : Told} (x : EvalsPrimary t env vars vs n from r) where
+      behind : is-unary k ≡ true → EvalsPrimary t env vars vs n (at + 1) r
+      behind h = subst (λ (i : ℕ). EvalsPrimary t env vars vs n i r) (ef ∙ simp h) x
+
+      here-too : is-unary k ≡ false → EvalsPrimary t env vars vs n at r
+      here-too h = subst (λ (i : ℕ). EvalsPrimary t env vars vs n i r) (ef ∙ simp h) x
+
+      pub operand-fault : {a p : ℕ} → r ≡ Failed a p → EvalsOperand t env vars vs n at r
+      operand-fault {a} {p} g = go (is-unary k) refl
+        where
+          go : (b : Bool) → is-unary k ≡ b → EvalsOperand t env vars vs n at r
+          go true e = before-fault ek {b = is-unary k} refl e (behind e) g
+          go false e = bare ek {b = is-unary k} refl e (here-too e)
+
+      module _ {b : Bool} (eb : b ≡ is-unary k) where
+        pub operand-bare : {v : Value} {past : ℕ} → b ≡ false → r ≡ Found v past → EvalsOperand t env vars vs n at (Found v past)
+        operand-bare h g = subst (EvalsOperand t env vars vs n at) g (bare ek eb h (here-too (sym eb ∙ h)))
+
+        pub operand-unary : {v : Value} {past : ℕ} {o : Told} → b ≡ true → r ≡ Found v past → o ≡ told-of (placed (t .place at) (apply-unary k (v .n))) past → EvalsOperand t env vars vs n at o
+        operand-unary h g ho = before-found ek eb h (behind (sym eb ∙ h)) g ho
+
+    -- ---- operators
+
+    module _ (level : ℕ) where
+      -- what is read up to here is worth `left`, and decoding goes on from there
+      pub record Chain (left : Value) (here : ℕ) : Type 0 where
+        pub past : at < here
+        pub within : here ≤ n
+        pub says : (fuel : ℕ) (e : Expr) (next : ℕ) → decode-expression fuel t level at ≡ parsed e next
+            → (f : ℕ) × (l : Expr) × (decode-chain f t level l here ≡ parsed e next) × (ev l ≡ worth (left .n))
+
+      abbrev First : Expr → ℕ → Type 0
+      First e next = (f : ℕ) × (e₀ : Expr) × (m : ℕ) × (decode-operand f t at ≡ parsed e₀ m) × (decode-chain f t level e₀ m ≡ parsed e next)
+
+      pub first-fault : {r : Told} {k p : ℕ} → EvalsOperand t env vars vs n at r → r ≡ Failed k p → EvalsExpression t env vars vs n at level r
+      first-fault {r} {k} {p} x h = record { says = λ fuel e next q. go e next (was-expression t at next e level fuel q); onward = rw h tt }
+        where
+          go : (e : Expr) (next : ℕ) → First e next → r ≡ told-of (ev e) next
+          go e next (f, e₀, m, q, q′) = as-fault e next h (chain-fault level next e k p f m e₀ q′ (fault-of (ev e₀) m (sym h ∙ x .says f e₀ m q)))
+
+      pub first-found : {r : Told} {v : Value} {past : ℕ} → EvalsOperand t env vars vs n at r → r ≡ Found v past → Chain v past
+      first-found {r} {v} {past} x h =
+          let o : (at < past) × (past ≤ n) = rw h at (x .onward) in
+          record { past = o .0; within = o .1; says = λ fuel e next q. go e next (was-expression t at next e level fuel q) }
+        where
+          go : (e : Expr) (next : ℕ) → First e next → (f : ℕ) × (l : Expr) × (decode-chain f t level l past ≡ parsed e next) × (ev l ≡ worth (v .n))
+          go e next (f, e₀, m, q, q′) =
+              let s = worth-of (ev e₀) m (sym h ∙ x .says f e₀ m q) in
+              (f, e₀, ap (decode-chain f t level e₀) (sym (s .1)) ∙ q′, s .0)
+
+      module _ {left : Value} {here k own : ℕ} (ch : Chain left here) (ek : k ≡ t .kind here) (eo : own ≡ level-of k) where
+        abbrev Read : Expr → ℕ → Type 0
+        Read e next = (f : ℕ) × (l : Expr) × (decode-chain f t level l here ≡ parsed e next) × (ev l ≡ worth (left .n))
+
+        pub chain-end : own < level → EvalsExpression t env vars vs n at level (Found left here)
+        chain-end u = record { says = λ fuel e next q. go e next (ch .says fuel e next q); onward = (ch .past, ch .within) }
+          where
+            go : (e : Expr) (next : ℕ) → Read e next → Found left here ≡ told-of (ev e) next
+            go e next (f, l, q, x) =
+                let s = was-end t here level next e (rw (← ek, ← eo) u) l f q in
+                as-value env vars vs e here next (ap ev (sym (s .0)) ∙ x) (sym (s .1))
+
+        module _ {r : Told} (u : level ≤ own) (x : EvalsExpression t env vars vs n (here + 1) (own + 1) r) where
+          -- what a decoding that succeeds read next: the chain's part, the right side, and the rest
+          More : (e : Expr) (next : ℕ) → Type 0
+          More e next = (f : ℕ) × (l : Expr) × (right : Expr) × (m : ℕ) × (ev l ≡ worth (left .n)) × (r ≡ told-of (ev right) m) × (decode-chain f t level (binary k (t .place here) l right) m ≡ parsed e next)
+
+          more : (fuel : ℕ) (e : Expr) (next : ℕ) → decode-expression fuel t level at ≡ parsed e next → More e next
+          unfolding More
+          more fuel e next q = go (ch .says fuel e next q)
+            where
+              go : Read e next → More e next
+              go (f, l, q, y) =
+                  let s = was-more t here level next e (rw (← ek, ← eo) u) l f q in
+                  let z : r ≡ told-of (ev (s .1)) (s .2) = x .says (s .0) (s .1) (s .2) (rw (eo, ek) (s .3)) in
+                  (s .0, l, s .1, s .2, y, z, rw ek (s .4))
+
+          pub right-fault : {a p : ℕ} → r ≡ Failed a p → EvalsExpression t env vars vs n at level r
+          unfolding More
+          right-fault {a} {p} h = record { says = λ fuel e next q. go e next (more fuel e next q); onward = rw h tt }
+            where
+              go : (e : Expr) (next : ℕ) → More e next → r ≡ told-of (ev e) next
+              go e next (f, l, right, m, y, z, q) =
+                  as-fault e next h (chain-fault level next e a p f m (binary k (t .place here) l right) q (right-faults k (t .place here) l right y (fault-of (ev right) m (sym h ∙ z))))
+
+          module _ {b : Value} {past : ℕ} {o : Told} (h : r ≡ Found b past) (ho : o ≡ told-of (placed (t .place here) (apply-binary k (left .n) (b .n))) past) where
+            -- the operator's worth is that of what is read now
+            Done : (e : Expr) (next : ℕ) → Type 0
+            Done e next = (f : ℕ) × (l : Expr) × (ev l ≡ placed (t .place here) (apply-binary k (left .n) (b .n))) × (decode-chain f t level l past ≡ parsed e next)
+
+            done : (fuel : ℕ) (e : Expr) (next : ℕ) → decode-expression fuel t level at ≡ parsed e next → Done e next
+            unfolding More Done
+            done fuel e next q = go (more fuel e next q)
+              where
+                go : More e next → Done e next
+                go (f, l, right, m, y, z, q) =
+                    let s = worth-of (ev right) m (sym h ∙ z) in
+                    (f, binary k (t .place here) l right, both-worth k (t .place here) l right y (s .0), ap (decode-chain f t level (binary k (t .place here) l right)) (sym (s .1)) ∙ q)
+
+            pub operator-fault : {a p : ℕ} → o ≡ Failed a p → EvalsExpression t env vars vs n at level o
+            unfolding Done
+            operator-fault {a} {p} g = record { says = λ fuel e next q. go e next (done fuel e next q); onward = rw g tt }
+              where
+                go : (e : Expr) (next : ℕ) → Done e next → o ≡ told-of (ev e) next
+                go e next (f, l, y, q) =
+                    as-fault e next g (chain-fault level next e a p f past l q (y ∙ fault-of (placed (t .place here) (apply-binary k (left .n) (b .n))) past (sym g ∙ ho)))
+
+            pub chain-more : {v : Value} {there : ℕ} → o ≡ Found v there → Chain v there
+            unfolding Done
+            chain-more {v} {there} g =
+                let s = worth-of (placed (t .place here) (apply-binary k (left .n) (b .n))) past (sym g ∙ ho) in
+                let y : (here + 1 < past) × (past ≤ n) = rw h at (x .onward) in
+                let z = s .1 in
+                let c = ch .past in
+                record { past = omega arith; within = omega arith; says = λ fuel e next q. go (s .0) (s .1) e next (done fuel e next q) }
+              where
+                go : placed (t .place here) (apply-binary k (left .n) (b .n)) ≡ worth (v .n) → past ≡ there → (e : Expr) (next : ℕ) → Done e next
+                    → (f : ℕ) × (l : Expr) × (decode-chain f t level l there ≡ parsed e next) × (ev l ≡ worth (v .n))
+                go s z e next (f, l, y, q) = (f, l, ap (decode-chain f t level l) (sym z) ∙ q, y ∙ s)
+
+            pub chain-less : {v : Value} {there : ℕ} → o ≡ Found v there → (here < there) × (there ≤ n)
+            chain-less {v} {there} g =
+                let s = worth-of (placed (t .place here) (apply-binary k (left .n) (b .n))) past (sym g ∙ ho) .1 in
+                let y : (here + 1 < past) × (past ≤ n) = rw h at (x .onward) in
+                (omega arith, omega arith)

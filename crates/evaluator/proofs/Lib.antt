@@ -1,0 +1,6 @@
+-- The laws by which the functions are proved, by topic.
+pub mod TableLaws
+pub mod OperatorLaws
+pub mod NeighbourLaws
+pub mod PrimaryLaws
+pub mod ExpressionLaws

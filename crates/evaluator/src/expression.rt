@@ -1,0 +1,212 @@
+// Expressions: operators by their levels, operands, and expressions in brackets. The evaluators call each other in a cycle.
+ghost use mathlib.Core.Path.{_≡_};
+ghost use Prim.Native.Nat.{_<_, _≤_};
+ghost use lib.ListN.{take};
+ghost use Rattle.evaluator.specs.Working.{site-table, env-of, Ready, primary-from, EvalsExpression, EvalsOperand, EvalsPrimary, EvalsBracket};
+use crate::Site;
+use crate::Told;
+use crate::operators::is_unary;
+use crate::operators::level_of;
+use crate::operators::operate;
+use crate::operators::operate_unary;
+use crate::primary::element;
+use crate::primary::name;
+use crate::primary::plain;
+use crate::table::word_at;
+use program::kind;
+
+// The expression at a position, of operators of a level or tighter. Operators of one level go from left to right.
+pub fn expression(
+    words: &[u32],
+    sizes: &[u32],
+    place: &[u32],
+    grid: &[i32],
+    vars: &[i32; 256],
+    index: &[i32; 16],
+    site: Site,
+    depth: usize,
+    at: usize,
+    level: u32,
+) -> Told
+    requires { ⌜ Ready (now words) (now sizes) (now place) (now grid) site depth × (1 ≤ level) × (at ≤ site .tokens) ⌝ }
+    ensures { λ r. ⌜ EvalsExpression (site-table (now (words .entry)) (now (sizes .entry)) site) (env-of (now (words .entry)) (now (sizes .entry)) (now (grid .entry)) site) (take (site .slots) (now (vars .entry))) (take depth (now (index .entry))) (site .tokens) at level r ⌝ }
+{
+    let n = site.tokens;
+    let first = operand(words, sizes, place, grid, vars, index, site, depth, at);
+    let Told::Found(v, past) = first else {
+        return first;
+    };
+    let mut left = v;
+    let mut here = past;
+    loop {
+        let op = word_at(words, n, 0, here);
+        let own = level_of(op);
+        if own < level {
+            return Told::Found(left, here);
+        }
+        let right = expression(
+            words,
+            sizes,
+            place,
+            grid,
+            vars,
+            index,
+            site,
+            depth,
+            here + 1,
+            own + 1,
+        );
+        let Told::Found(b, next) = right else {
+            return right;
+        };
+        let done = operate(words, n, here, op, left, b, next);
+        let Told::Found(c, m) = done else {
+            return done;
+        };
+        left = c;
+        here = m;
+    }
+}
+
+// The operand at a position: a primary with at most one unary operator.
+fn operand(
+    words: &[u32],
+    sizes: &[u32],
+    place: &[u32],
+    grid: &[i32],
+    vars: &[i32; 256],
+    index: &[i32; 16],
+    site: Site,
+    depth: usize,
+    at: usize,
+) -> Told
+    requires { ⌜ Ready (now words) (now sizes) (now place) (now grid) site depth × (at ≤ site .tokens) ⌝ }
+    ensures { λ r. ⌜ EvalsOperand (site-table (now (words .entry)) (now (sizes .entry)) site) (env-of (now (words .entry)) (now (sizes .entry)) (now (grid .entry)) site) (take (site .slots) (now (vars .entry))) (take depth (now (index .entry))) (site .tokens) at r ⌝ }
+{
+    let n = site.tokens;
+    let op = word_at(words, n, 0, at);
+    let inner = primary(
+        words,
+        sizes,
+        place,
+        grid,
+        vars,
+        index,
+        site,
+        depth,
+        primary_from(op, at),
+    );
+    let Told::Found(v, next) = inner else {
+        return inner;
+    };
+    if is_unary(op) {
+        return operate_unary(words, n, at, op, v, next);
+    }
+    inner
+}
+
+// The position of the primary of an operand whose first token is of this kind.
+fn primary_from(kind: u32, at: usize) -> usize
+    requires { ⌜ at ≤ 4096 ⌝ }
+    ensures { λ r. ⌜ r ≡ primary-from kind at ⌝ }
+{
+    if is_unary(kind) {
+        return at + 1;
+    }
+    at
+}
+
+// The primary at a position.
+fn primary(
+    words: &[u32],
+    sizes: &[u32],
+    place: &[u32],
+    grid: &[i32],
+    vars: &[i32; 256],
+    index: &[i32; 16],
+    site: Site,
+    depth: usize,
+    at: usize,
+) -> Told
+    requires { ⌜ Ready (now words) (now sizes) (now place) (now grid) site depth × (at ≤ site .tokens) ⌝ }
+    ensures { λ r. ⌜ EvalsPrimary (site-table (now (words .entry)) (now (sizes .entry)) site) (env-of (now (words .entry)) (now (sizes .entry)) (now (grid .entry)) site) (take (site .slots) (now (vars .entry))) (take depth (now (index .entry))) (site .tokens) at r ⌝ }
+{
+    let n = site.tokens;
+    let kind = word_at(words, n, 0, at);
+    if kind == kind::PAREN {
+        return bracket(
+            words,
+            sizes,
+            place,
+            grid,
+            vars,
+            index,
+            site,
+            depth,
+            at,
+            kind::UNPAREN,
+        );
+    }
+    if kind == kind::NAME {
+        if word_at(words, n, 2, at) == 2 {
+            if word_at(words, n, 0, at + 1) == kind::BRACKET {
+                let inner = bracket(
+                    words,
+                    sizes,
+                    place,
+                    grid,
+                    vars,
+                    index,
+                    site,
+                    depth,
+                    at + 1,
+                    kind::UNBRACKET,
+                );
+                let Told::Found(i, past) = inner else {
+                    return inner;
+                };
+                return element(words, n, sizes.len(), at, i, past);
+            }
+            return Told::Failed(0, 0);
+        }
+        return name(words, sizes, place, grid, vars, index, site, depth, at);
+    }
+    plain(words, sizes, place, grid, vars, index, site, depth, at)
+}
+
+// The expression between the opening token at a position and a token of the closing kind.
+fn bracket(
+    words: &[u32],
+    sizes: &[u32],
+    place: &[u32],
+    grid: &[i32],
+    vars: &[i32; 256],
+    index: &[i32; 16],
+    site: Site,
+    depth: usize,
+    at: usize,
+    close: u32,
+) -> Told
+    requires { ⌜ Ready (now words) (now sizes) (now place) (now grid) site depth × (at < site .tokens) × (1 ≤ close) ⌝ }
+    ensures { λ r. ⌜ EvalsBracket (site-table (now (words .entry)) (now (sizes .entry)) site) (env-of (now (words .entry)) (now (sizes .entry)) (now (grid .entry)) site) (take (site .slots) (now (vars .entry))) (take depth (now (index .entry))) (site .tokens) at close r ⌝ }
+{
+    let inner = expression(
+        words,
+        sizes,
+        place,
+        grid,
+        vars,
+        index,
+        site,
+        depth,
+        at + 1,
+        1,
+    );
+    let Told::Found(v, past) = inner else {
+        return inner;
+    };
+    if word_at(words, site.tokens, 0, past) == close {
+        return Told::Found(v, past + 1);
+    }
+    Told::Failed(0, 0)
+}

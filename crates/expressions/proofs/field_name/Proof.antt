@@ -1,0 +1,97 @@
+use mathlib.Core.Path.{_∙_, refl, sym}
+use native.Mathlib.Omega.{arith}
+use borrow.Author.Needs.{needs}
+use Rattle.grammar.specs.Expressions.{field-name}
+use Rattle.reader.proofs.Steps.{on, so, other, token, found-it, missed-it, below-slot, refused, carried, advanced}
+use Rattle.reader.proofs.Going.{nowhere, goes-on}
+use Rattle.expressions.proofs.field_name.Statement.{statement}
+use Rattle.expressions.proofs.field_name.Tie as tie
+
+token-at-requires : tie.Need-token-at-requires
+token-at-requires c κs = search needs
+
+is-name-requires : tie.Need-is-name-requires
+is-name-requires c κs = search needs
+
+find-name-requires : tie.Need-find-name-requires
+find-name-requires c κs = search needs
+
+enum-known-f : tie.Need-enum-known-f
+enum-known-f c = search needs
+
+enum-told : tie.Need-enum-told
+enum-told c = search needs
+
+refuse-requires : tie.Need-refuse-requires
+refuse-requires c κs = search needs
+
+returns : tie.Need-returns
+unfolding field-name
+returns c =
+    let token-at = c .before .before .before .before .before .before .token-at in
+    let is-name = c .before .before .before .before .before .is-name in
+    let if1 = c .before .before .before .before .if1 in
+    let find-name = c .before .before .before .find-name in
+    let enum-told = c .before .enum-told in
+    let refuse = c .refuse in
+    let y = refuse .ensures in record { gives = token _ (token-at .ensures) (so _ _ (sym (is-name .ensures .is) ∙ if1 .taken) (missed-it _ _ _ (find-name .ensures) (enum-told .given .1) (refused _ y))); onward = nowhere y }
+
+moved-requires : tie.Need-moved-requires
+moved-requires c κs =
+    let pre = c .before .before .before .before .before .before .before .before .before .before .pre in
+    let token-at = c .before .before .before .before .before .before .token-at in
+    let is-name = c .before .before .before .before .before .is-name in
+    let if1 = c .before .before .before .before .if1 in
+    omega (arith, token-at .ensures .inside, is-name .ensures .kind (if1 .taken), pre .tokens)
+
+cast-carrying : tie.Need-cast-carrying
+cast-carrying c =
+    let pre = c .before .before .before .before .before .before .before .before .before .before .before .pre in
+    let find-name = c .before .before .before .before .find-name in
+    let f = c .before .before .f in
+    omega (arith, below-slot (find-name .ensures .below) (f .given .1), pre .few)
+
+carrying-requires : tie.Need-carrying-requires
+carrying-requires c κs = search needs
+
+returns-2 : tie.Need-returns-2
+unfolding field-name
+returns-2 c =
+    let token-at = c .before .before .before .before .before .before .before .before .token-at in
+    let is-name = c .before .before .before .before .before .before .before .is-name in
+    let if1 = c .before .before .before .before .before .before .if1 in
+    let find-name = c .before .before .before .before .before .find-name in
+    let f = c .before .before .before .f in
+    let moved = c .before .moved in
+    let carrying = c .carrying in
+    let m = moved .ensures in let k = carrying .ensures in let l = below-slot (find-name .ensures .below) (f .given .1) in record { gives = token _ (token-at .ensures) (so _ _ (sym (is-name .ensures .is) ∙ if1 .taken) (found-it _ _ _ (find-name .ensures) (f .given .1) (on _ (advanced m) refl (λ _ _. carried _ k (sym (k .word), omega (arith, k .word, k .count, m .count, l)))))); onward = goes-on (omega (arith, m .at, k .at)) (omega (arith, m .at, k .at, token-at .ensures .inside, is-name .ensures .kind (if1 .taken))) (omega (arith, k .count, m .count)) }
+
+refuse-requires-2 : tie.Need-refuse-requires-2
+refuse-requires-2 c κs = search needs
+
+returns-3 : tie.Need-returns-3
+unfolding field-name
+returns-3 c =
+    let token-at = c .before .before .before .token-at in
+    let is-name = c .before .before .is-name in
+    let if1 = c .before .if1 in
+    let refuse2 = c .refuse2 in
+    let y = refuse2 .ensures in record { gives = token _ (token-at .ensures) (other _ _ (sym (is-name .ensures .is) ∙ if1 .left) (refused _ y)); onward = nowhere y }
+
+pub field-name-spec : {M : Type 1} → statement M
+field-name-spec =
+    tie.close
+    (tie.spec
+    token-at-requires
+    is-name-requires
+    find-name-requires
+    enum-known-f
+    enum-told
+    refuse-requires
+    returns
+    moved-requires
+    cast-carrying
+    carrying-requires
+    returns-2
+    refuse-requires-2
+    returns-3)

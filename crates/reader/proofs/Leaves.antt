@@ -1,0 +1,140 @@
+-- One law for each way through the leaves. Assumes nothing.
+use Prim.Native.Nat.{ℕ, _+_, _-_, _≤_, _<_, min}
+use native.Mathlib.Omega.{arith}
+use mathlib.Core.Path.{_≡_, refl, sym, ap, _∙_}
+use mathlib.Core.List.{List}
+use mathlib.Core.Bool.{Bool, true, false}
+use lib.Dec.{eqb}
+use borrow.Author.Tests.{eqb-true, eq-eqb, ne-eqb, lt-ltb, le-ltb, le-leb, lt-leb}
+use Rattle.token.specs.declared.Scan.{Scan}
+use Rattle.token.specs.declared.Token.{Token}
+use Rattle.names.specs.declared.Entry.{Entry}
+use Rattle.program.specs.Standing.{Stands}
+use Rattle.grammar.specs.Complaint.{Complaint, complaint, before, first-of, broken}
+use Rattle.grammar.specs.Reader.{expect-or, forbid, opening, is-name, reference}
+use Rattle.reader.specs.Reading.{anything, noted-in, Passes, first-refused, refusal, Moved, note-of, noted-of, Noted, Named}
+use Rattle.reader.specs.declared.Reading.{Reading}
+use Rattle.reader.specs.declared.Read.{Read}
+use Rattle.reader.specs.declared.Read.the-variants.{Next, Refused}
+use Rattle.reader.proofs.Steps.{token, so, other, refused, returned, advanced}
+use Rattle.reader.proofs.Going.{nowhere, goes-on}
+
+-- ---- complaints
+
+module _ (noted place n p : ℕ) where
+  pub first-new : noted ≡ 0 → Refused n p ≡ first-refused (complaint noted place) (complaint n p)
+  unfolding first-of
+  first-new e = simp (eq-eqb noted 0 e)
+
+  module _ (e : noted ≡ 0 → ⊥) where
+    pub first-place : place < p → Refused noted place ≡ first-refused (complaint noted place) (complaint n p)
+    unfolding first-of before
+    first-place h = simp (ne-eqb noted 0 e, lt-ltb place p h)
+
+    pub first-before : p ≤ place → (place ≡ p → ⊥) → Refused n p ≡ first-refused (complaint noted place) (complaint n p)
+    unfolding first-of before
+    first-before h q = simp (ne-eqb noted 0 e, le-ltb place p h, ne-eqb place p q)
+
+    module _ (h : p ≤ place) (q : place ≡ p) where
+      pub first-number : noted ≤ n → Refused noted place ≡ first-refused (complaint noted place) (complaint n p)
+      unfolding first-of before
+      first-number l = simp (ne-eqb noted 0 e, le-ltb place p h, eq-eqb place p q, le-leb noted n l)
+
+      pub first-lower : n < noted → Refused n p ≡ first-refused (complaint noted place) (complaint n p)
+      unfolding first-of before
+      first-lower l = simp (ne-eqb noted 0 e, le-ltb place p h, eq-eqb place p q, lt-leb noted n l)
+
+module _ (t : Token) (n : ℕ) where
+  pub lower-stop : t .kind ≡ 0 → t .value ≤ n → t .value ≡ broken n t .number
+  unfolding broken
+  lower-stop e h = simp (eq-eqb (t .kind) 0 e) (omega arith)
+
+  pub lower-rule : t .kind ≡ 0 → n < t .value → n ≡ broken n t .number
+  unfolding broken
+  lower-rule e h = simp (eq-eqb (t .kind) 0 e) (omega arith)
+
+  pub lower-token : (t .kind ≡ 0 → ⊥) → n ≡ broken n t .number
+  unfolding broken
+  lower-token e = simp (ne-eqb (t .kind) 0 e)
+
+pub refused-as : (ws : List ℕ) (sc : Scan) (s : Reading) (i n : ℕ) {t : Token} {k : ℕ} {r : Read} → Stands ws sc i t → k ≡ broken n t .number → r ≡ first-refused (complaint (s .noted) (s .place)) (complaint k (t .start)) → r ≡ refusal ws sc s i n
+unfolding broken
+refused-as ws sc s i n {t} h e q = q ∙ rw (e, h .is) refl
+
+pub noted-as : {ws : List ℕ} {sc : Scan} {s : Reading} {t : Token} {r : Read} {n k p : ℕ} → Stands ws sc (s .at) t → r ≡ first-refused (complaint (s .noted) (s .place)) (complaint n (t .start)) → r ≡ Refused k p → Noted ws sc s n (noted-of s (complaint k p))
+noted-as {ws} {sc} {s} {t} {r} {n} {k} {p} e f q =
+    record {
+      is = by (note-of ws sc s n) (sym q ∙ f ∙ ap (λ (u : Token). first-refused (noted-in s) (complaint n (u .start))) (e .is));
+      at = refl;
+      count = refl;
+    }
+  where
+    by : (c : Complaint) → Refused k p ≡ Refused (c .number) (c .place) → noted-of s (complaint k p) ≡ noted-of s c
+    by c d = let x : k ≡ c .number = cc in let y : p ≡ c .place = cc in rw (x, y)
+
+-- ---- tokens
+
+module _ {sc : Scan} {s : Reading} {ws : List ℕ} (kind n : ℕ) {t : Token} (e : Stands ws sc (s .at) t) where
+  pub expected : t .kind ≡ kind → 1 ≤ kind → {r : Reading} → Moved s r → Passes anything (expect-or kind n) sc 1 s ws (Next r)
+  unfolding expect-or
+  expected k l m =
+      record {
+        gives = λ source ns. token _ e (so _ _ (eq-eqb _ _ k) (advanced m));
+        onward = goes-on (omega arith) (omega arith) (omega arith);
+      }
+
+  pub unexpected : (t .kind ≡ kind → ⊥) → {r : Read} → r ≡ refusal ws sc s (s .at) n → Passes anything (expect-or kind n) sc 1 s ws r
+  unfolding expect-or
+  unexpected k x = record { gives = λ source ns. token _ e (other _ _ (ne-eqb _ _ k) (refused _ x)); onward = nowhere x }
+
+  pub forbidden : t .kind ≡ kind → {r : Read} → r ≡ refusal ws sc s (s .at) n → Passes anything (forbid kind n) sc 0 s ws r
+  unfolding forbid
+  forbidden k x = record { gives = λ source ns. token _ e (so _ _ (eq-eqb _ _ k) (refused _ x)); onward = nowhere x }
+
+  pub allowed : (t .kind ≡ kind → ⊥) → s .at ≤ sc .count → Passes anything (forbid kind n) sc 0 s ws (Next s)
+  unfolding forbid
+  allowed k h = record { gives = λ source ns. token _ e (other _ _ (ne-eqb _ _ k) (returned _ tt)); onward = goes-on (omega arith) h (omega arith) }
+
+module _ {sc : Scan} {s : Reading} {ws : List ℕ} {room : Bool} where
+  pub opened : room ≡ true → s .at < sc .count → {r : Reading} → Moved s r → Passes anything (opening room) sc 1 s ws (Next r)
+  unfolding opening
+  opened e h m = record { gives = λ source ns. so _ _ e (advanced m); onward = goes-on (omega arith) (omega arith) (omega arith) }
+
+  pub unopened : room ≡ false → {r : Read} → r ≡ refusal ws sc s (s .at) 14 → Passes anything (opening room) sc 1 s ws r
+  unfolding opening
+  unopened e x = record { gives = λ source ns. other _ _ e (refused _ x); onward = nowhere x }
+
+-- ---- names
+
+module _ (t : Token) where
+  pub named-1 : t .kind ≡ 1 → Named t true
+  unfolding is-name
+  named-1 k = record { is = simp k; kind = λ _. omega arith }
+
+  pub named-3 : t .kind ≡ 3 → Named t true
+  unfolding is-name
+  named-3 k = record { is = simp k; kind = λ _. omega arith }
+
+  pub named-4 : (t .kind ≡ 1 → ⊥) → (t .kind ≡ 3 → ⊥) → Named t (eqb (t .kind) 4)
+  unfolding is-name
+  named-4 u v = record { is = simp (ne-eqb _ _ u, ne-eqb _ _ v); kind = λ e. omega (arith, eqb-true (t .kind) 4 e) }
+
+module _ (slot : ℕ) (e : Entry) where
+  pub refers-variable : e .kind ≡ 4 → slot ≡ reference slot e
+  unfolding reference
+  refers-variable k = simp k
+
+  pub refers-closed : e .kind ≡ 5 → e .word ≡ 0 → 0 ≡ reference slot e
+  unfolding reference
+  refers-closed k z = simp (k, z)
+
+  pub refers-index : e .kind ≡ 5 → e .word - 1 ≡ reference slot e
+  unfolding reference
+  refers-index k = simp k
+
+  pub refers-other : (e .kind ≡ 4 → ⊥) → (e .kind ≡ 5 → ⊥) → e .word ≡ reference slot e
+  unfolding reference
+  refers-other u v = simp (ne-eqb _ _ u, ne-eqb _ _ v)
+
+pub ruleset Leaves =
+    (first-new, first-place, first-before, first-number, first-lower, lower-stop, lower-rule, lower-token, refused-as, noted-as, expected, unexpected, forbidden, allowed, opened, unopened, named-1, named-3, named-4, refers-variable, refers-closed, refers-index, refers-other)

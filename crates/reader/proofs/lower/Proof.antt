@@ -1,0 +1,15 @@
+use Rattle.reader.proofs.Leaves.{Leaves}
+use Rattle.reader.proofs.lower.Statement.{statement}
+use Rattle.reader.proofs.lower.Tie as tie
+
+returns : tie.Need-returns
+returns c = search Leaves
+
+returns-2 : tie.Need-returns-2
+returns-2 c = search Leaves
+
+returns-3 : tie.Need-returns-3
+returns-3 c = search Leaves
+
+pub lower-spec : {M : Type 1} → statement M
+lower-spec = tie.close (tie.spec returns returns-2 returns-3)

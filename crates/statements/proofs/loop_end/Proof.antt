@@ -1,0 +1,76 @@
+use Rattle.reader.proofs.Steps.{on, off, here, returned, put-in, revalued}
+use Rattle.reader.proofs.Going.{nowhere, went, goes-on}
+use Rattle.statements.specs.Promises.{loop-end}
+use native.Mathlib.Omega.{arith}
+use mathlib.Core.Path.{refl}
+use borrow.Author.Needs.{needs}
+use Rattle.statements.proofs.loop_end.Statement.{statement}
+use Rattle.statements.proofs.loop_end.Tie as tie
+
+expect-requires : tie.Need-expect-requires
+expect-requires c κs = search needs
+
+enum-known-r : tie.Need-enum-known-r
+enum-known-r c = search needs
+
+enum-told : tie.Need-enum-told
+enum-told c = search needs
+
+same-length : tie.Need-same-length
+same-length c = search needs
+
+returns : tie.Need-returns
+unfolding loop-end
+returns c =
+    let expect = c .before .before .expect in
+    let enum-told = c .enum-told in
+    λ source. record { gives = λ _ _. off _ (expect .ensures .gives _ _) (enum-told .given .1); onward = nowhere (enum-told .given .1) }
+
+write-value-requires : tie.Need-write-value-requires
+write-value-requires c κs = search needs
+
+put-word-requires : tie.Need-put-word-requires
+put-word-requires c κs = search needs
+
+cast-put-word : tie.Need-cast-put-word
+cast-put-word c =
+    let pre = c .before .before .before .before .before .before .before .before .before .before .before .before .before .before .before .before .before .pre in
+    let expect = c .before .before .before .before .before .before .before .before .before .before .before .before .before .expect in
+    let r = c .before .before .before .before .before .before .before .before .before .before .before .r in
+    let w = went (expect .ensures .onward) (r .given .1) in omega (arith, w .within, pre .0 .tokens)
+
+put-word-requires-2 : tie.Need-put-word-requires-2
+put-word-requires-2 c κs = search needs
+
+same-length-2 : tie.Need-same-length-2
+same-length-2 c = search needs
+
+same-length-3 : tie.Need-same-length-3
+same-length-3 c = search needs
+
+returns-2 : tie.Need-returns-2
+unfolding loop-end
+returns-2 c =
+    let expect = c .before .before .before .before .before .before .before .before .before .before .before .before .before .before .before .before .expect in
+    let r = c .before .before .before .before .before .before .before .before .before .before .before .before .before .before .r in
+    let write-value = c .before .before .before .before .before .before .before .before .before .before .before .write-value in
+    let put-word = c .before .before .before .before .before .before .before .put-word in
+    let put-word2 = c .before .before .put-word2 in
+    λ source. let w = went (expect .ensures .onward) (r .given .1) in record { gives = λ _ _. on _ (expect .ensures .gives _ _) (r .given .1) (λ _ _. on _ (revalued _ _ (write-value .ensures)) refl (λ _ _. here _ (on _ (on _ (put-in _ _ _ (put-word .ensures)) refl (λ _ _. put-in _ _ _ (put-word2 .ensures))) refl (λ _ _. returned _ tt)))); onward = goes-on (w .past) (w .within) (w .few) }
+
+pub loop-end-spec : {M : Type 1} → statement M
+loop-end-spec =
+    tie.close
+    (tie.spec
+    expect-requires
+    enum-known-r
+    enum-told
+    same-length
+    returns
+    write-value-requires
+    put-word-requires
+    cast-put-word
+    put-word-requires-2
+    same-length-2
+    same-length-3
+    returns-2)

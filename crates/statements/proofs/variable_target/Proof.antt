@@ -1,0 +1,142 @@
+use Rattle.reader.proofs.Steps.{on, on-told, off, so, other, named, found-it, missed-it, below-slot, refused, carried, advanced, declared}
+use Rattle.reader.proofs.Going.{nowhere, went, goes-on}
+use native.Mathlib.Omega.{arith}
+use mathlib.Core.Path.{refl, sym}
+use borrow.Author.Tests.{eq-eqb, ne-eqb}
+use borrow.Author.Needs.{needs}
+use Rattle.grammar.specs.Statements.{old-variable, new-variable}
+use Rattle.statements.proofs.variable_target.Statement.{statement}
+use Rattle.statements.proofs.variable_target.Tie as tie
+
+find-name-requires : tie.Need-find-name-requires
+find-name-requires c κs = search needs
+
+enum-known-f : tie.Need-enum-known-f
+enum-known-f c = search needs
+
+enum-told : tie.Need-enum-told
+enum-told c = search needs
+
+fresh-requires : tie.Need-fresh-requires
+fresh-requires c κs = search needs
+
+enum-known-r : tie.Need-enum-known-r
+enum-known-r c = search needs
+
+enum-told-2 : tie.Need-enum-told-2
+enum-told-2 c = search needs
+
+same-length : tie.Need-same-length
+same-length c = search needs
+
+returns : tie.Need-returns
+unfolding new-variable
+returns c =
+    let find-name = c .before .before .before .before .before .before .find-name in
+    let enum-told = c .before .before .before .before .enum-told in
+    let fresh = c .before .before .fresh in
+    let enum-told2 = c .enum-told2 in
+    record { gives = missed-it _ _ _ (find-name .ensures) (enum-told .given .1) (off _ (fresh .ensures .gives) (enum-told2 .given .1)); onward = nowhere (enum-told2 .given .1) }
+
+sub-declare : tie.Need-sub-declare
+sub-declare c =
+    let fresh = c .before .before .before .before .before .fresh in
+    let r = c .before .before .before .r in
+    let w = went (fresh .ensures .onward) (r .given .1) in omega arith
+
+declare-requires : tie.Need-declare-requires
+declare-requires c κs =
+    let pre = c .before .before .before .before .before .before .before .before .before .before .before .before .before .before .pre in
+    let fresh = c .before .before .before .before .before .fresh in
+    let r = c .before .before .before .r in
+    let p = pre .0 in let w = went (fresh .ensures .onward) (r .given .1) in (p .tokens, p .table, omega arith, p .list)
+
+same-length-2 : tie.Need-same-length-2
+same-length-2 c = search needs
+
+returns-2 : tie.Need-returns-2
+unfolding new-variable
+returns-2 c =
+    let find-name = c .before .before .before .before .before .before .before .before .before .before .before .before .find-name in
+    let enum-told = c .before .before .before .before .before .before .before .before .before .before .enum-told in
+    let fresh = c .before .before .before .before .before .before .before .before .fresh in
+    let r = c .before .before .before .before .before .before .r in
+    let declare = c .before .before .declare in
+    let w = went (fresh .ensures .onward) (r .given .1) in let d = declare .ensures in record { gives = missed-it _ _ _ (find-name .ensures) (enum-told .given .1) (on-told _ (fresh .ensures .gives) (r .given .1) (declared _ _ _ d)); onward = goes-on (omega (arith, w .past, d .at)) (omega (arith, w .within, d .at)) (omega (arith, w .few, d .count)) }
+
+entry-in-requires : tie.Need-entry-in-requires
+entry-in-requires c κs =
+    let pre = c .before .before .before .before .before .before .before .before .before .pre in
+    let find-name = c .before .before .before .before .find-name in
+    let f = c .before .before .f in
+    let p = pre .0 in let b = below-slot (find-name .ensures .below) (f .given .1) in (omega (arith, b, p .few), p .list)
+
+moved-requires : tie.Need-moved-requires
+moved-requires c κs = search needs
+
+cast-carrying : tie.Need-cast-carrying
+cast-carrying c =
+    let pre = c .before .before .before .before .before .before .before .before .before .before .before .before .before .pre in
+    let find-name = c .before .before .before .before .before .before .before .before .find-name in
+    let f = c .before .before .before .before .before .before .f in
+    let p = pre .0 in let b = below-slot (find-name .ensures .below) (f .given .1) in omega (arith, b, p .few)
+
+carrying-requires : tie.Need-carrying-requires
+carrying-requires c κs = search needs
+
+same-length-3 : tie.Need-same-length-3
+same-length-3 c = search needs
+
+returns-3 : tie.Need-returns-3
+unfolding old-variable
+returns-3 c =
+    let pre = c .before .before .before .before .before .before .before .before .before .before .before .before .before .before .pre in
+    let find-name = c .before .before .before .before .before .before .before .before .before .find-name in
+    let f = c .before .before .before .before .before .before .before .f in
+    let entry-in = c .before .before .before .before .entry-in in
+    let if1 = c .before .before .if1 in
+    let moved = c .before .moved in
+    let carrying = c .carrying in
+    let p = pre in let m = moved .ensures in let k = carrying .ensures in record { gives = found-it _ _ _ (find-name .ensures) (f .given .1) (named _ _ (entry-in .ensures) (so _ _ (eq-eqb _ _ (if1 .taken)) (on _ (advanced m) refl (λ _ _. carried _ k (sym (k .word)))))); onward = goes-on (omega (arith, k .at, m .at)) (omega (arith, k .at, m .at, p .1)) (omega (arith, k .count, m .count, p .0 .few)) }
+
+refuse-requires : tie.Need-refuse-requires
+refuse-requires c κs = search needs
+
+same-length-4 : tie.Need-same-length-4
+same-length-4 c = search needs
+
+returns-4 : tie.Need-returns-4
+unfolding old-variable
+returns-4 c =
+    let find-name = c .before .before .before .before .before .before .before .before .find-name in
+    let f = c .before .before .before .before .before .before .f in
+    let entry-in = c .before .before .before .entry-in in
+    let if1 = c .before .if1 in
+    let refuse = c .refuse in
+    let y = refuse .ensures in record { gives = found-it _ _ _ (find-name .ensures) (f .given .1) (named _ _ (entry-in .ensures) (other _ _ (ne-eqb _ _ (if1 .left)) (refused _ y))); onward = nowhere y }
+
+pub variable-target-spec : {M : Type 1} → statement M
+variable-target-spec =
+    tie.close
+    (tie.spec
+    find-name-requires
+    enum-known-f
+    enum-told
+    fresh-requires
+    enum-known-r
+    enum-told-2
+    same-length
+    returns
+    sub-declare
+    declare-requires
+    same-length-2
+    returns-2
+    entry-in-requires
+    moved-requires
+    cast-carrying
+    carrying-requires
+    same-length-3
+    returns-3
+    refuse-requires
+    same-length-4
+    returns-4)

@@ -1,0 +1,52 @@
+-- `token::spelling::find_kind` meets its contract.
+use Prim.Native.Nat.{_+_, _-_, _≤_}
+use lib.ListN.{length}
+use borrow.Author.Needs.{needs}
+use Rattle.token.proofs.Words.{bytes-of, Seeking, Seeks}
+use Rattle.token.proofs.spelling.find_kind.Statement.{statement}
+use Rattle.token.proofs.spelling.find_kind.Tie as tie
+
+abbrev Inv-loop : tie.InvT-loop
+Inv-loop source at n from to other i₀ i = Seeking (bytes-of source at n) from to other i × (at + n ≤ length source) × (to ≤ 25)
+
+abbrev μ-loop : tie.MeasureT-loop
+μ-loop source at n from to other i₀ i = to - i
+
+loop-holds : tie.Need-loop-holds Inv-loop μ-loop
+loop-holds c = search (needs, Seeks)
+
+fixed-at-requires : tie.Need-fixed-at-requires Inv-loop μ-loop
+fixed-at-requires c κs = search needs
+
+spells-requires : tie.Need-spells-requires Inv-loop μ-loop
+spells-requires c κs = search needs
+
+returns : tie.Need-returns Inv-loop μ-loop
+returns c = search Seeks
+
+add-i : tie.Need-add-i Inv-loop μ-loop
+add-i c = search needs
+
+loop-less : tie.Need-loop-less Inv-loop μ-loop
+loop-less c = search needs
+
+loop-again : tie.Need-loop-again Inv-loop μ-loop
+loop-again c = search (needs, Seeks)
+
+returns-2 : tie.Need-returns-2 Inv-loop μ-loop
+returns-2 c = search Seeks
+
+pub find-kind-spec : {M : Type 1} → statement M
+find-kind-spec =
+    tie.close
+    (tie.spec
+    Inv-loop
+    μ-loop
+    loop-holds
+    fixed-at-requires
+    spells-requires
+    returns
+    add-i
+    loop-less
+    loop-again
+    returns-2)

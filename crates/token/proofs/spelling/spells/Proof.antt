@@ -1,0 +1,75 @@
+-- `token::spelling::spells` meets its contract.
+use Prim.Native.Nat.{_+_, _-_, _≤_}
+use mathlib.Core.Path.{_≡_}
+use lib.ListN.{length}
+use borrow.Author.Needs.{needs}
+use Rattle.token.proofs.Words.{Comparing, Compares, compare-more}
+use Rattle.token.proofs.spelling.spells.Statement.{statement}
+use Rattle.token.proofs.spelling.spells.Tie as tie
+
+abbrev Inv-loop : tie.InvT-loop
+Inv-loop source at n start len k₀ k = Comparing source at n start len k × (at + n ≤ length source) × (start + len ≤ 300) × (n ≡ len)
+
+abbrev μ-loop : tie.MeasureT-loop
+μ-loop source at n start len k₀ k = n - k
+
+returns : tie.Need-returns Inv-loop μ-loop
+returns c = search Compares
+
+loop-holds : tie.Need-loop-holds Inv-loop μ-loop
+loop-holds c = search (needs, Compares)
+
+add-folded : tie.Need-add-folded Inv-loop μ-loop
+add-folded c = search needs
+
+shared-slice-read-folded : tie.Need-shared-slice-read-folded Inv-loop μ-loop
+shared-slice-read-folded c = search needs
+
+folded-requires : tie.Need-folded-requires Inv-loop μ-loop
+folded-requires c κs = search needs
+
+add-row-byte : tie.Need-add-row-byte Inv-loop μ-loop
+add-row-byte c = search needs
+
+row-byte-requires : tie.Need-row-byte-requires Inv-loop μ-loop
+row-byte-requires c κs = search needs
+
+returns-2 : tie.Need-returns-2 Inv-loop μ-loop
+returns-2 c = search Compares
+
+add-k : tie.Need-add-k Inv-loop μ-loop
+add-k c = search needs
+
+loop-less : tie.Need-loop-less Inv-loop μ-loop
+loop-less c = search needs
+
+loop-again : tie.Need-loop-again Inv-loop μ-loop
+loop-again c =
+    let l = c .before .before .before .before .before .loop .inv in (
+      compare-more _ _ _ _ _ (l .1) (l .2) (l .3) (l .0) (search needs) (c .before .before .folded .ensures) (c .before .row-byte .ensures) (c .if2 .left),
+      l .1,
+      l .2,
+      l .3,
+    )
+
+returns-3 : tie.Need-returns-3 Inv-loop μ-loop
+returns-3 c = search Compares
+
+pub spells-spec : {M : Type 1} → statement M
+spells-spec =
+    tie.close
+    (tie.spec
+    Inv-loop
+    μ-loop
+    returns
+    loop-holds
+    add-folded
+    shared-slice-read-folded
+    folded-requires
+    add-row-byte
+    row-byte-requires
+    returns-2
+    add-k
+    loop-less
+    loop-again
+    returns-3)
