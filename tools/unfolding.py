@@ -12,7 +12,7 @@ CASES = os.path.join(ROOT, "crates/cellang/specs/Cases.antt")
 # the modules of definitions, in reading order
 DEFINITIONS = [
     ("automaton", ["Listed", "Step", "Shape", "Grid"]),
-    ("token", ["Bytes", "Lexeme", "Scanning"]),
+    ("token", ["Bytes", "Kind", "Lexeme", "Scanning"]),
     ("names", ["Names"]),
     ("grammar", ["Complaint", "Reader", "Constants", "Expressions", "Statements", "Source", "Checking"]),
     ("evaluator", ["Operators", "Evaluation", "Written"]),

@@ -10,6 +10,7 @@ use Rattle.automaton.specs.Step
 use Rattle.automaton.specs.Shape
 use Rattle.automaton.specs.Grid
 use Rattle.token.specs.Bytes
+use Rattle.token.specs.Kind
 use Rattle.token.specs.Lexeme
 use Rattle.token.specs.Scanning
 use Rattle.names.specs.Names
@@ -77,25 +78,25 @@ unfoldable pub holds : Case → Bool
 unfolding same-report Listed.list-of Step.first-fault Step.how-many Step.any-of Step.marks-of Step.marked Step.step-of
     Step.quiet-outcome Step.quiet-step Step.changed Step.open-after Step.run-of Step.open-count Step.full-count
     Step.quiet-run Shape.neighbour Shape.box-indices Shape.reach-of Shape.opens-of Grid.cell-of Grid.grid-of Grid.automaton
-    Bytes.member Bytes.same Bytes.kind-of Bytes.fold Lexeme.find-kind Lexeme.starts Lexeme.in-name Lexeme.in-literal
-    Lexeme.extent Lexeme.decimal Lexeme.word Lexeme.digits Lexeme.punctuation Lexeme.read-token Scanning.blanks
-    Scanning.stop-number Scanning.scan-from Scanning.scan Scanning.token-words Scanning.scanned-words Scanning.token-in
-    Names.entry-at Names.entries-from Names.is-field Names.is-visible Names.in-space Names.letters Names.find Names.find-name
-    Complaint.before Complaint.first-of Complaint.broken Reader._>>=_ Reader.return Reader.get-state Reader.refuse
-    Reader.refuse-last Reader.note Reader.repeat Reader.next-token Reader.token-after Reader.position Reader.advance
-    Reader.put Reader.expect-or Reader.forbid Reader.opening Reader.is-name Reader.by-name Reader.entry-in Reader.declare
-    Reader.revalue Reader.fresh Reader.reference Reader.use-name Constants.is-sign Constants.named-constant
-    Constants.read-constant Constants.negated Constants.read-signed Constants.read-range Constants.value-turn
-    Constants.read-values Constants.read-size Constants.array-head Constants.array-constant Constants.simple-constant
-    Constants.constant-value Constants.read-declaration Constants.constants-turn Constants.read-constants Expressions.plain
-    Expressions.field-name Expressions.dot-field Expressions.field-number Expressions.read-field Expressions.put-field
-    Expressions.named-index Expressions.fixed-index Expressions.read-index Expressions.index-turn Expressions.read-indices
-    Expressions.read-neighbour Expressions.read-own Expressions.values-from Expressions.array-values Expressions.read-bracket
-    Expressions.read-element Expressions.array-use Expressions.name-use Expressions.read-primary Expressions.read-operand
-    Expressions.level-of Expressions.read-right Expressions.operator-turn Expressions.climb Expressions.operand-in
-    Statements.old-variable Statements.new-variable Statements.named-target Statements.field-target Statements.read-target
-    Statements.when-clause Statements.clause-end Statements.clause-turn Statements.read-assignment Statements.choices
-    Statements.arm-end Statements.arm-turn Statements.read-if Statements.read-forall Statements.read-exit
+    Bytes.member Bytes.same Bytes.kind-of Bytes.fold Kind.level-of Lexeme.find-kind Lexeme.starts Lexeme.in-name
+    Lexeme.in-literal Lexeme.extent Lexeme.decimal Lexeme.word Lexeme.digits Lexeme.punctuation Lexeme.read-token
+    Scanning.blanks Scanning.stop-number Scanning.scan-from Scanning.scan Scanning.token-words Scanning.scanned-words
+    Scanning.token-in Names.entry-at Names.entries-from Names.is-field Names.is-visible Names.in-space Names.letters
+    Names.find Names.find-name Complaint.before Complaint.first-of Complaint.broken Reader._>>=_ Reader.return
+    Reader.get-state Reader.refuse Reader.refuse-last Reader.note Reader.repeat Reader.next-token Reader.token-after
+    Reader.position Reader.advance Reader.put Reader.expect-or Reader.forbid Reader.opening Reader.is-name Reader.by-name
+    Reader.entry-in Reader.declare Reader.revalue Reader.fresh Reader.reference Reader.use-name Constants.is-sign
+    Constants.named-constant Constants.read-constant Constants.negated Constants.read-signed Constants.read-range
+    Constants.value-turn Constants.read-values Constants.read-size Constants.array-head Constants.array-constant
+    Constants.simple-constant Constants.constant-value Constants.read-declaration Constants.constants-turn
+    Constants.read-constants Expressions.plain Expressions.field-name Expressions.dot-field Expressions.field-number
+    Expressions.read-field Expressions.put-field Expressions.named-index Expressions.fixed-index Expressions.read-index
+    Expressions.index-turn Expressions.read-indices Expressions.read-neighbour Expressions.read-own Expressions.values-from
+    Expressions.array-values Expressions.read-bracket Expressions.read-element Expressions.array-use Expressions.name-use
+    Expressions.read-primary Expressions.read-operand Expressions.read-right Expressions.operator-turn Expressions.climb
+    Expressions.operand-in Statements.old-variable Statements.new-variable Statements.named-target Statements.field-target
+    Statements.read-target Statements.when-clause Statements.clause-end Statements.clause-turn Statements.read-assignment
+    Statements.choices Statements.arm-end Statements.arm-turn Statements.read-if Statements.read-forall Statements.read-exit
     Statements.statement-turn Statements.read-block Source.field-turn Source.with-ranges Source.put-ranges Source.read-group
     Source.group-turn Source.read-dims Source.is-unnamed Source.read-fields Source.read-cell Source.has-kind Source.sized
     Source.finish Source.read-program Source.parse Checking.rooms-fit Checking.read-source Checking.check

@@ -8,13 +8,14 @@ use mathlib.Core.List.{List}
 use lib.Dec.{eqb}
 use lib.IntN.{ℤ}
 use borrow.Author.Tests.{lt-ltb, le-ltb, eqb-true}
+use Rattle.token.specs.Kind.{level-of}
 use Rattle.value.specs.Choice.{if_then_else_}
 use Rattle.value.specs.Worked.{value}
 use Rattle.value.specs.declared.Value.{Value}
 use Rattle.program.specs.Syntax.{Expr, element, unary, binary}
 use Rattle.evaluator.specs.Operators.{Worth, worth, failed, placed, apply-unary, apply-binary}
 use Rattle.evaluator.specs.Evaluation.{Env, element-at, eval}
-use Rattle.evaluator.specs.Stands.{Table, array-in, is-unary, level-of, Decoded, parsed, nothing, and-then, decode-expression, decode-chain, decode-operand, decode-primary, decode-name, decode-bracket}
+use Rattle.evaluator.specs.Stands.{Table, array-in, is-unary, Decoded, parsed, nothing, and-then, decode-expression, decode-chain, decode-operand, decode-primary, decode-name, decode-bracket}
 use Rattle.evaluator.specs.Working.{told-of, Onward, primary-from, EvalsExpression, EvalsOperand, EvalsPrimary, EvalsName, EvalsPlain, EvalsBracket}
 use Rattle.evaluator.specs.declared.Told.{Told}
 use Rattle.evaluator.specs.declared.Told.the-variants.{Found, Failed}

@@ -5,12 +5,13 @@ use mathlib.Core.Path.{_≡_, refl, sym, _∙_}
 use mathlib.Core.Bool.{Bool, true, false, _||_}
 use lib.Dec.{eqb}
 use borrow.Author.Tests.{ne-eqb}
+use Rattle.token.specs.Kind.{level-of}
 use Rattle.value.specs.Choice.{if_then_else_}
 use Rattle.value.specs.declared.Value.{Value}
 use Rattle.value.specs.declared.Worked.{Worked}
 use Rattle.value.specs.declared.Worked.the-variants.{Number, OutOfRange, ZeroDivisor}
 use Rattle.evaluator.specs.Operators.{placed}
-use Rattle.evaluator.specs.Stands.{is-sign, is-unary, level-of}
+use Rattle.evaluator.specs.Stands.{is-sign, is-unary}
 use Rattle.evaluator.specs.Working.{told-of, primary-from}
 use Rattle.evaluator.specs.declared.Told.{Told}
 use Rattle.evaluator.specs.declared.Told.the-variants.{Found, Failed}

@@ -11,7 +11,7 @@ use lib.IntN.{ℤ}
 use Rattle.value.specs.Choice.{if_then_else_}
 use Rattle.value.specs.Worked.{decode-of, span-of}
 use Rattle.automaton.specs.Listed.{list-of}
-use Rattle.token.specs.Kind.{kind}
+use Rattle.token.specs.Kind.{kind, level-of}
 use Rattle.program.specs.Syntax.{Range, range, Index, fixed, moving, Expr, number, time, variable, index, field, element, unary, binary, Target, to-field, to-variable, Clause, Block, empty, assign, select, loop, exit, constant, Program}
 use Rattle.program.specs.Table.{word-at}
 use Rattle.evaluator.specs.declared.Rule.{Rule}
@@ -91,15 +91,6 @@ abbrev pub array-in : Table → ℕ → List ℤ
 array-in t at = values-in t (t .word3 at) (t .word2 at)
 
 -- ---- expressions
-
--- the level of a binary operator, by its kind of token; 0 for what is none
-unfoldable pub level-of : ℕ → ℕ
-level-of k =
-    if eqb k (kind .times) || eqb k (kind .slash) || eqb k (kind .percent) then 4
-    else if eqb k (kind .plus) || eqb k (kind .minus) then 3
-    else if eqb k (kind .equal) || eqb k (kind .unequal) || eqb k (kind .less) || eqb k (kind .greater) || eqb k (kind .at-most) || eqb k (kind .at-least) then 2
-    else if eqb k (kind .and) || eqb k (kind .or) then 1
-    else 0
 
 -- an operator that can stand before a primary
 unfoldable pub is-unary : ℕ → Bool

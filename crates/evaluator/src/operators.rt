@@ -2,8 +2,9 @@
 ghost use mathlib.Core.Path.{_≡_};
 ghost use Prim.Native.Nat.{_*_, _≤_, _%_};
 ghost use lib.ListN.{length};
+ghost use Rattle.token.specs.Kind.{level-of};
 ghost use Rattle.evaluator.specs.Operators.{placed, apply-unary, compare, apply-binary};
-ghost use Rattle.evaluator.specs.Stands.{word-in, is-sign, is-unary, level-of};
+ghost use Rattle.evaluator.specs.Stands.{word-in, is-sign, is-unary};
 ghost use Rattle.evaluator.specs.Working.{told-of};
 use crate::Told;
 use crate::table::place_at;

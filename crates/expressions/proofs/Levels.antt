@@ -7,12 +7,12 @@ use mathlib.Core.Logic.{_⊎_, inl, inr}
 use mathlib.Core.List.{List}
 use borrow.Author.Tests.{ne-eqb, eqb-true}
 use lib.Dec.{eqb}
+use Rattle.token.specs.Kind.{level-of}
 use Rattle.value.specs.Choice.{if_then_else_}
 use Rattle.token.specs.declared.Scan.{Scan}
 use Rattle.token.specs.declared.Token.{Token}
 use Rattle.program.specs.Standing.{Stands}
 use Rattle.grammar.specs.Constants.{is-sign}
-use Rattle.grammar.specs.Expressions.{level-of}
 use Rattle.expressions.specs.Promises.{Unary}
 
 -- three kinds in a row are of a level

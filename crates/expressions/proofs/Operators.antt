@@ -6,13 +6,14 @@ use mathlib.Core.Bool.{Bool, true, false, _&&_}
 use mathlib.Core.List.{List}
 use lib.Dec.{ltb, eqb}
 use borrow.Author.Tests.{lt-ltb, le-ltb}
+use Rattle.token.specs.Kind.{level-of}
 use Rattle.token.specs.declared.Scan.{Scan}
 use Rattle.token.specs.declared.Token.{Token}
 use Rattle.token.specs.Scanning.{token-in}
 use Rattle.program.specs.Syntax.{Expr}
 use Rattle.program.specs.Standing.{Stands}
 use Rattle.grammar.specs.Reader.{Result, ok, fail, Input, State, Reader, and-then, _>>=_, return, next-token, Turn, done, turned, repeat, turns}
-use Rattle.grammar.specs.Expressions.{level-of, Left, left, read-right, operator-turn, climb}
+use Rattle.grammar.specs.Expressions.{Left, left, read-right, operator-turn, climb}
 use Rattle.reader.specs.declared.Reading.{Reading}
 use Rattle.reader.specs.declared.Read.{Read}
 use Rattle.reader.specs.declared.Read.the-variants.{Next}

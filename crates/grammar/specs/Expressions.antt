@@ -8,7 +8,7 @@ use lib.IntN.{ℤ}
 use Rattle.value.specs.Choice.{if_then_else_}
 use Rattle.value.specs.Worked.{decode-of, encode-of}
 use Rattle.token.specs.declared.Token.{Token}
-use Rattle.token.specs.Kind.{kind}
+use Rattle.token.specs.Kind.{kind, level-of}
 use Rattle.names.specs.declared.Entry.{Entry}
 use Rattle.names.specs.Names.{name-kind, is}
 use Rattle.program.specs.Syntax.{Index, fixed, moving, Expr, number, time, variable, index, field, element, unary, binary}
@@ -172,15 +172,6 @@ read-operand cell room inner =
     else read-primary cell room inner
 
 -- ---- operators
-
--- the level of a binary operator; 0 for what is none
-unfoldable pub level-of : ℕ → ℕ
-level-of k =
-    if eqb k (kind .times) || eqb k (kind .slash) || eqb k (kind .percent) then 4
-    else if eqb k (kind .plus) || eqb k (kind .minus) then 3
-    else if eqb k (kind .equal) || eqb k (kind .unequal) || eqb k (kind .less) || eqb k (kind .greater) || eqb k (kind .at-most) || eqb k (kind .at-least) then 2
-    else if eqb k (kind .and) || eqb k (kind .or) then 1
-    else 0
 
 -- an expression whose left part is read, and the level of that part's operator (0 for an operand)
 pub record Left : Type 0 where

@@ -8,9 +8,9 @@ use lib.Dec.{eqb, ltb}
 use borrow.Author.Tests.{eq-eqb}
 use Rattle.value.specs.Choice.{if_then_else_}
 use Rattle.value.specs.Worked.{decode-of}
-use Rattle.token.specs.Kind.{kind}
+use Rattle.token.specs.Kind.{kind, level-of}
 use Rattle.program.specs.Syntax.{Expr, number, time, variable, index, field, element, unary, binary}
-use Rattle.evaluator.specs.Stands.{Table, refers, indices-in, array-in, level-of, is-unary, Decoded, parsed, nothing, and-then, decode-expression, decode-chain, decode-operand, decode-primary, decode-name, decode-bracket, ExprAt}
+use Rattle.evaluator.specs.Stands.{Table, refers, indices-in, array-in, is-unary, Decoded, parsed, nothing, and-then, decode-expression, decode-chain, decode-operand, decode-primary, decode-name, decode-bracket, ExprAt}
 
 -- a decoder gives an expression, up to a position
 pub record Decodes (d : ℕ → Decoded) (e : Expr) (next : ℕ) : Type 0 where

@@ -11,14 +11,14 @@ use borrow.Author.Tests.{not-true, eqb-true, eqb-false, ltb-false, lt-ltb}
 use Rattle.value.specs.Choice.{if_then_else_}
 use Rattle.value.specs.Worked.{decode-of}
 use Rattle.value.specs.Laws.{never, and-both}
-use Rattle.token.specs.Kind.{kind}
+use Rattle.token.specs.Kind.{kind, level-of}
 use Rattle.names.specs.declared.Entry.{Entry}
 use Rattle.names.specs.Names.{name-kind, is, entry-at, is-field, is-visible, in-space}
 use Rattle.program.specs.Syntax.{Expr, number, time, variable, index, element, unary, binary}
 use Rattle.grammar.specs.Reader.{Input, State, Reader, _>>_, return, done, turns, token-of, refuse, reference}
 use Rattle.grammar.specs.Constants.{is-sign as is-sign-token}
-use Rattle.grammar.specs.Expressions.{Cell, plain, array-values, read-bracket, read-element, array-use, name-use, read-primary, read-operand, level-of as level-of-token, Left, left, read-right, operator-turn, climb, levels, operand-in, read-expression}
-use Rattle.evaluator.specs.Stands.{Table, table-of, word-in, array-in, is-sign, is-unary, level-of}
+use Rattle.grammar.specs.Expressions.{Cell, plain, array-values, read-bracket, read-element, array-use, name-use, read-primary, read-operand, Left, left, read-right, operator-turn, climb, levels, operand-in, read-expression}
+use Rattle.evaluator.specs.Stands.{Table, table-of, word-in, array-in, is-sign, is-unary}
 use Rattle.linking.specs.Steps.{advanced, Gives, gave, refused, bind, made, regroup, given-as, choose, at-token, at-state, over, noted-it, by-found, expected, forbidden, opened, Turned, repeated}
 use Rattle.linking.specs.Runs.{tokens, Text, Sound, Run, stay, join, go-on}
 use Rattle.linking.specs.Naming.{of-kind, token-inside, token-value, still-noted, note-it, Found, found-name}
@@ -217,7 +217,7 @@ module _ {input : Input} {text : List ℕ} (T : Text input text) (cell : Cell) (
     pub stands : Claim input text (cell .dims) (advanced s) t (λ tb. Expression tb (level-of (token-of input s (s .at) .kind) + 1) (s .at + 1) right (t .at))
 
   right-gives : (tighter : ℕ → Reader Expr) (e : Expr) {s : State} → Run input text s (advanced s) → ReadsLevel (level-of (token-of input s (s .at) .kind) + 1) (tighter (level-of (token-of input s (s .at) .kind) + 1)) → Gives input (read-right tighter e) s (Right e s)
-  unfolding read-right level-of level-of-token
+  unfolding read-right level-of
   right-gives tighter e {s} r reads = at-token _ (over (bind (reads (advanced s) (r .sound)) (λ d t h. gave _ (record { right = d; is = refl; run = h .0; stands = h .1 }))))
 
   -- operators behind a left part, from a position on
@@ -226,7 +226,7 @@ module _ {input : Input} {text : List ℕ} (T : Text input text) (cell : Cell) (
 
   turn-gives : (level : ℕ) (tighter : ℕ → Reader Expr) → 1 ≤ level → ((own : ℕ) → level ≤ own → ReadsLevel (own + 1) (tighter (own + 1))) → (l : Left) (s : State) → Sound input text s
       → Gives input (operator-turn level tighter l) s (Turned (λ _ t. Sound input text t) (Operators level) l s)
-  unfolding operator-turn level-of-token level-of
+  unfolding operator-turn level-of
   turn-gives level tighter o reads l s x =
       at-token _
       (choose (ltb (level-of (token-of input s (s .at) .kind)) level)

@@ -10,7 +10,7 @@ use borrow.Author.Tests.{ne-eqb}
 use Rattle.value.specs.Choice.{if_then_else_}
 use Rattle.token.specs.Bytes.{kind-of}
 use Rattle.token.specs.Scanning.{blanks}
-use Rattle.token.specs.Promises.{Walks, head-kind, blank-turn}
+use Rattle.token.specs.Promises.{Walks, Skips, head-kind, blank-turn}
 use Rattle.token.proofs.Heads.{walks, drop-here}
 
 -- ---- the turn that a byte takes
@@ -67,6 +67,19 @@ blanks-within inside (b ∷ bs) =
     at-most false true f p q = omega arith
     at-most false false f p q = omega arith
 
+-- inside a comment each byte that ends no line is skipped
+module _ (s : List ℕ) (at : ℕ) where
+  pub skip-start : (inside : Bool) → Skips inside s at at
+  skip-start inside = record { left = refl; onward = omega arith }
+
+  pub skip-more : {inside : Bool} {i : ℕ} → Skips inside s at i → inside ≡ true → i < length s → {k : ℕ} → k ≡ head-kind (drop i s) → (k ≡ 2 → ⊥) → Skips inside s at (i + 1)
+  skip-more {inside} {i} w u h {k} e d =
+      let t : 2 ≡ blank-turn inside (head-kind (drop i s)) = turn-inside inside k d u ∙ rw e in
+      let r : blanks inside (drop i s) ≡ suc (blanks inside (drop (i + 1) s)) = step inside (drop-here s i h) ∙ rw (← t, u) in
+      record { left = omega (arith, w .left, r); onward = omega (arith, w .onward) }
+
+pub ruleset Comments = (skip-start, skip-more)
+
 -- from position i on, inside a comment or not, is what is left of the walk from `at` on
 pub record Passing (s : List ℕ) (at i : ℕ) (inside : Bool) : Type 0 where
   pub left : at + blanks false (drop at s) ≡ i + blanks inside (drop i s)
@@ -90,9 +103,9 @@ module _ (s : List ℕ) (at : ℕ) where
       pub pass-stop : t ≡ 0 → Walks (blanks false (drop at s)) s at i
       pass-stop p = ends (turn ∙ rw p)
 
-      pub pass-more : (t ≡ 0 → ⊥) → Passing s at (i + 1) (eqb t 2)
-      pass-more p =
+      pub pass-more : (t ≡ 0 → ⊥) → {j : ℕ} → Skips (eqb t 2) s (i + 1) j → Passing s at j (eqb t 2)
+      pass-more p v =
           let r : blanks inside (drop i s) ≡ suc (blanks (eqb t 2) (drop (i + 1) s)) = turn ∙ rw (walked, ne-eqb t 0 p) in
-          record { left = omega (arith, w .left, r) }
+          record { left = omega (arith, w .left, r, v .left) }
 
 pub ruleset Passes = (pass-start, pass-all, pass-stop, pass-more)

@@ -13,7 +13,7 @@ use Rattle.value.specs.Choice.{if_then_else_}
 use Rattle.token.specs.Bytes.{between, fold, same}
 use Rattle.token.specs.Lexeme.{Spelled, find-kind}
 use Rattle.token.specs.declared.spelling.Fixed.{Fixed}
-use Rattle.token.specs.Promises.{spellings, spelling, rows, Fixes}
+use Rattle.token.specs.Promises.{spellings, spelling, all-rows, Fixes}
 use Rattle.token.proofs.Table.{both, below}
 use Rattle.token.proofs.Heads.{drop-here}
 
@@ -75,10 +75,10 @@ abbrev pub bytes-of : List ℕ → ℕ → ℕ → List ℕ
 bytes-of s at n = map fold (take n (drop at s))
 
 abbrev pub letters-at : ℕ → ℕ → List ℕ
-letters-at start m = take m (drop start rows)
+letters-at start m = take m (drop start all-rows)
 
-rows-long : length rows ≡ 300
-unfolding rows
+rows-long : length all-rows ≡ 300
+unfolding all-rows
 rows-long = refl
 
 -- after k letters the rest is to be compared
@@ -93,7 +93,7 @@ module _ (s : List ℕ) (at n start m : ℕ) (h : at + n ≤ length s) (l : star
   size-a = length-map (take n (drop at s)) fold ∙ length-take n (drop at s) ∙ simp length-drop (omega arith)
 
   size-b : length (letters-at start m) ≡ m
-  size-b = length-take m (drop start rows) ∙ simp (length-drop, rows-long) (omega arith)
+  size-b = length-take m (drop start all-rows) ∙ simp (length-drop, rows-long) (omega arith)
 
   pub compare-unlike : (n ≡ m → ⊥) → false ≡ same (bytes-of s at n) (letters-at start m)
   compare-unlike d = sym (unlike (bytes-of s at n) (letters-at start m) (λ e. d (sym size-a ∙ e ∙ size-b)))
@@ -103,13 +103,13 @@ module _ (s : List ℕ) (at n start m : ℕ) (h : at + n ≤ length s) (l : star
     unfolding same
     compare-all q = sym (w .left ∙ rw (drop-of-length-le (bytes-of s at n) {i = k} (omega (arith, size-a)), drop-of-length-le (letters-at start m) {i = k} (omega (arith, size-b))))
 
-    module _ (q : k < n) {x y : ℕ} (p : x ≡ fold (getD s (at + k) 0)) (r : y ≡ getD rows (start + k) 0) where
+    module _ (q : k < n) {x y : ℕ} (p : x ≡ fold (getD s (at + k) 0)) (r : y ≡ getD all-rows (start + k) 0) where
       left-is : getD (bytes-of s at n) k 0 ≡ x
       unfolding fold
       left-is = List·getD-map fold (take n (drop at s)) k 0 ∙ ap fold (getD-take n (drop at s) k 0 q ∙ getD-drop at s k 0) ∙ sym p
 
       right-is : getD (letters-at start m) k 0 ≡ y
-      right-is = getD-take m (drop start rows) k 0 (omega arith) ∙ getD-drop start rows k 0 ∙ sym r
+      right-is = getD-take m (drop start all-rows) k 0 (omega arith) ∙ getD-drop start all-rows k 0 ∙ sym r
 
       here : same (bytes-of s at n) (letters-at start m) ≡ (eqb x y && same (drop (k + 1) (bytes-of s at n)) (drop (k + 1) (letters-at start m)))
       here = w .left ∙ turn (bytes-of s at n) (letters-at start m) k (omega (arith, size-a)) (omega (arith, size-b)) ∙ rw (left-is, right-is)
@@ -125,19 +125,19 @@ pub ruleset Compares = (compare-start, compare-unlike, compare-all, compare-more
 -- ---- the rows agree with the spellings: one test over the 25 of them
 
 lettered : ℕ → Bool
-lettered i = same (letters-at (12 * i + 2) (getD rows (12 * i) 0)) (spelling i .letters)
+lettered i = same (letters-at (12 * i + 2) (getD all-rows (12 * i) 0)) (spelling i .letters)
 
 kinded : ℕ → Bool
-kinded i = eqb (getD rows (12 * i + 1) 0) (spelling i .kind)
+kinded i = eqb (getD all-rows (12 * i + 1) 0) (spelling i .kind)
 
 within : ℕ → Bool
-within i = leb (12 * i + 2 + getD rows (12 * i) 0) 300
+within i = leb (12 * i + 2 + getD all-rows (12 * i) 0) 300
 
 right : ℕ → Bool
 right i = lettered i && (kinded i && within i)
 
-pub fixes : (i : ℕ) → i < 25 → {n k : ℕ} → n ≡ getD rows (12 * i) 0 → k ≡ getD rows (12 * i + 1) 0 → Fixes i (record { start = 12 * i + 2; len = n; kind = k })
-unfolding right lettered kinded within same rows
+pub fixes : (i : ℕ) → i < 25 → {n k : ℕ} → n ≡ getD all-rows (12 * i) 0 → k ≡ getD all-rows (12 * i + 1) 0 → Fixes i (record { start = 12 * i + 2; len = n; kind = k })
+unfolding right lettered kinded within same all-rows
 fixes i h p q =
     let t = both (lettered i) (kinded i && within i) (below right 25 tt i h) in
     let u = both (kinded i) (within i) (t .1) in

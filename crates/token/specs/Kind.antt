@@ -1,5 +1,8 @@
--- The kinds of tokens.
+-- The kinds of tokens, and the levels of operators.
+use mathlib.Core.Bool.{Bool, true, false, _||_}
 use Prim.Native.Nat.{ℕ}
+use lib.Dec.{eqb}
+use Rattle.value.specs.Choice.{if_then_else_}
 
 -- the numbers of the kinds of tokens. A single-byte token has its byte's number
 abbrev pub kind :
@@ -92,3 +95,12 @@ kind =
       colon = 58;
       dot = 46;
     }
+
+-- the level of a binary operator, the loosest first: 1 `&` and `|`, 2 the relations, 3 `+` and `-`, 4 `*`, `/` and `%`; 0 for what is none
+unfoldable pub level-of : ℕ → ℕ
+level-of k =
+    if eqb k (kind .times) || eqb k (kind .slash) || eqb k (kind .percent) then 4
+    else if eqb k (kind .plus) || eqb k (kind .minus) then 3
+    else if eqb k (kind .equal) || eqb k (kind .unequal) || eqb k (kind .less) || eqb k (kind .greater) || eqb k (kind .at-most) || eqb k (kind .at-least) then 2
+    else if eqb k (kind .and) || eqb k (kind .or) then 1
+    else 0

@@ -8,11 +8,15 @@ use lib.Dec.{eqb}
 use Rattle.value.specs.Choice.{if_then_else_}
 use Rattle.token.specs.Bytes.{byte-kind, kind-of}
 use Rattle.token.specs.Lexeme.{Lexeme, Spelled, spelled, keywords, two-byte-tokens, starts, in-name, in-literal, extent, lexeme-of, word, digits, read-token}
-use Rattle.token.specs.Scanning.{most-tokens, token-of, stop-number, scan, token-words, scanned-words, scan-of}
+use Rattle.token.specs.Scanning.{blanks, most-tokens, token-of, stop-number, scan, token-words, scanned-words, scan-of}
 use Rattle.token.specs.declared.Token.{Token}
 use Rattle.token.specs.declared.Scan.{Scan}
 use Rattle.token.specs.declared.Lexed.{Lexed}
 use Rattle.token.specs.declared.spelling.Fixed.{Fixed}
+
+-- the table has the kind of each byte
+pub record Sorts (table : List ℕ) : Type 0 where
+  pub each : (b : ℕ) → b < 256 → getD table b 0 ≡ kind-of b
 
 -- the kind of the byte at the head, and 8 at the end
 unfoldable pub head-kind : List ℕ → ℕ
@@ -25,6 +29,11 @@ head-kind (b ∷ bs) = kind-of b
 pub record Walks (n : ℕ) (source : List ℕ) (at r : ℕ) : Type 0 where
   pub is : r ≡ at + n
   pub within : r - at ≤ length source - at
+
+-- a walk over separators and comments, inside a comment or not, comes from `at` to r and goes on there as it began
+pub record Skips (inside : Bool) (source : List ℕ) (at r : ℕ) : Type 0 where
+  pub left : at + blanks inside (drop at source) ≡ r + blanks inside (drop r source)
+  pub onward : at ≤ r
 
 -- the test of an identifier's bytes, or of a literal's
 abbrev pub run-test : Bool → List ℕ → Bool
@@ -71,12 +80,12 @@ abbrev rows-of : List Spelled → List ℕ
 rows-of [] = []
 rows-of (s ∷ ss) = row s ++ rows-of ss
 
-unfoldable pub rows : List ℕ
-rows = rows-of spellings
+unfoldable pub all-rows : List ℕ
+all-rows = rows-of spellings
 
 -- where the letters of spelling i stand in the rows, and its kind
 pub record Fixes (i : ℕ) (f : Fixed) : Type 0 where
-  pub letters : take (f .len) (drop (f .start) rows) ≡ spelling i .letters
+  pub letters : take (f .len) (drop (f .start) all-rows) ≡ spelling i .letters
   pub kind : f .kind ≡ spelling i .kind
   pub fits : f .start + f .len ≤ 300
 

@@ -2,7 +2,7 @@
 ghost use mathlib.Core.Path.{_≡_};
 ghost use lib.ListN.{drop};
 ghost use Rattle.token.specs.Bytes.{kind-of};
-ghost use Rattle.token.specs.Promises.{head-kind};
+ghost use Rattle.token.specs.Promises.{Sorts, head-kind};
 
 // The kinds of bytes; 0 is any other. No byte has kind END, which stands for the end of the source.
 pub const BLANK: u8 = 1;
@@ -40,19 +40,28 @@ const KINDS: [u8; 256] = *b"\
     \x00\x00\x00\x00\x00\x00\x00\x00\x00\x00\x00\x00\x00\x00\x00\x00\
     \x00\x00\x00\x00\x00\x00\x00\x00\x00\x00\x00\x00\x00\x00\x00\x00";
 
+// The kind of each byte, as a table to lend: each use of KINDS writes all of it anew.
+pub fn kind_table() -> [u8; 256]
+    ensures { λ r. ⌜ Sorts r ⌝ }
+{
+    KINDS
+}
+
 // The kind of a byte.
-pub fn kind_of_byte(b: u8) -> u8
+fn kind_of_byte(kinds: &[u8; 256], b: u8) -> u8
+    requires { ⌜ Sorts (now kinds) ⌝ }
     ensures { λ r. ⌜ r ≡ kind-of b ⌝ }
 {
-    KINDS[b as usize]
+    kinds[b as usize]
 }
 
 // The kind of the byte at a position of the source, and END past its end.
-pub fn kind_at(source: &[u8], i: usize) -> u8
+pub fn kind_at(source: &[u8], kinds: &[u8; 256], i: usize) -> u8
+    requires { ⌜ Sorts (now kinds) ⌝ }
     ensures { λ r. ⌜ r ≡ head-kind (drop i (now (source .entry))) ⌝ }
 {
     if i < source.len() {
-        return kind_of_byte(source[i]);
+        return kind_of_byte(kinds, source[i]);
     }
     END
 }

@@ -3,7 +3,7 @@ ghost use mathlib.Core.Path.{_≡_};
 ghost use Prim.Native.Nat.{_≤_, _<_};
 ghost use lib.ListN.{length, take, drop};
 ghost use Rattle.token.specs.Lexeme.{find-kind, two-byte-tokens, lexeme-of, punctuation};
-ghost use Rattle.token.specs.Promises.{lexed-of, word-here, digits-here};
+ghost use Rattle.token.specs.Promises.{Sorts, all-rows, lexed-of, word-here, digits-here};
 use crate::Cursor;
 use crate::Lexed;
 use crate::Token;
@@ -27,22 +27,22 @@ pub fn token_of(kind: u32, at: usize, len: usize, value: u32) -> Lexed
 }
 
 // A keyword, a predefined name or an identifier.
-pub fn read_word(source: &[u8], at: usize) -> Lexed
-    requires { ⌜ (at < length (now source)) × (length (now source) ≤ 65535) ⌝ }
+pub fn read_word(source: &[u8], kinds: &[u8; 256], rows: &[u8; 300], at: usize) -> Lexed
+    requires { ⌜ Sorts (now kinds) × (now rows ≡ all-rows) × (at < length (now source)) × (length (now source) ≤ 65535) ⌝ }
     ensures { λ r. ⌜ r ≡ lexed-of (word-here (drop at (now (source .entry)))) at ⌝ }
 {
-    let len = runs::run_end(source, at, true) - at;
-    let kind = spelling::find_kind(source, at, len, 0, spelling::KEYWORDS, crate::NAME);
+    let len = runs::run_end(source, kinds, at, true) - at;
+    let kind = spelling::find_kind(source, rows, at, len, 0, spelling::KEYWORDS, crate::NAME);
     token_of(kind, at, len, 0)
 }
 
 // A literal. A letter or an underscore right behind it is refused 3, a value over 2147483647 is refused 4.
-pub fn read_digits(source: &[u8], at: usize) -> Lexed
-    requires { ⌜ (at < length (now source)) × (length (now source) ≤ 65535) ⌝ }
+pub fn read_digits(source: &[u8], kinds: &[u8; 256], at: usize) -> Lexed
+    requires { ⌜ Sorts (now kinds) × (at < length (now source)) × (length (now source) ≤ 65535) ⌝ }
     ensures { λ r. ⌜ r ≡ lexed-of (digits-here (drop at (now (source .entry)))) at ⌝ }
 {
-    let end = runs::run_end(source, at, false);
-    let behind = bytes::kind_at(source, end);
+    let end = runs::run_end(source, kinds, at, false);
+    let behind = bytes::kind_at(source, kinds, end);
     if behind == bytes::LETTER {
         return token_of(crate::STOP, at, 1, 3);
     }
@@ -57,22 +57,30 @@ pub fn read_digits(source: &[u8], at: usize) -> Lexed
 }
 
 // The kind of the two-byte token at a position, and 0 if there is none.
-fn pair_kind(source: &[u8], at: usize) -> u32
-    requires { ⌜ at < length (now source) ⌝ }
+fn pair_kind(source: &[u8], rows: &[u8; 300], at: usize) -> u32
+    requires { ⌜ (now rows ≡ all-rows) × (at < length (now source)) ⌝ }
     ensures { λ r. ⌜ r ≡ find-kind (take 2 (drop at (now (source .entry)))) two-byte-tokens 0 ⌝ }
 {
     if at + 1 < source.len() {
-        return spelling::find_kind(source, at, 2, spelling::KEYWORDS, spelling::SPELLINGS, 0);
+        return spelling::find_kind(
+            source,
+            rows,
+            at,
+            2,
+            spelling::KEYWORDS,
+            spelling::SPELLINGS,
+            0,
+        );
     }
     0
 }
 
 // A token of signs: the longest wins.
-pub fn read_sign(source: &[u8], at: usize) -> Lexed
-    requires { ⌜ (at < length (now source)) × (length (now source) ≤ 65535) ⌝ }
+pub fn read_sign(source: &[u8], rows: &[u8; 300], at: usize) -> Lexed
+    requires { ⌜ (now rows ≡ all-rows) × (at < length (now source)) × (length (now source) ≤ 65535) ⌝ }
     ensures { λ r. ⌜ r ≡ lexed-of (punctuation (drop at (now (source .entry)))) at ⌝ }
 {
-    let two = pair_kind(source, at);
+    let two = pair_kind(source, rows, at);
     if two != 0 {
         return token_of(two, at, 2, 0);
     }

@@ -4,7 +4,7 @@ ghost use Prim.Native.Nat.{_≤_, _<_};
 ghost use lib.ListN.{length, drop};
 ghost use mathlib.Core.Bool.{false};
 ghost use Rattle.token.specs.Scanning.{blanks};
-ghost use Rattle.token.specs.Promises.{Walks, Reads, Scans};
+ghost use Rattle.token.specs.Promises.{Sorts, all-rows, Walks, Reads, Scans};
 
 pub mod bytes;
 mod lexing;
@@ -59,28 +59,29 @@ impl Cursor {
     }
 
     // The position behind the separators and comments that stand here.
-    pub fn past_blanks(self, source: &[u8]) -> Cursor
+    pub fn past_blanks(self, source: &[u8], kinds: &[u8; 256]) -> Cursor
+        requires { ⌜ Sorts (now kinds) ⌝ }
         ensures { λ r. ⌜ Walks (blanks false (drop (self .at) (now (source .entry)))) (now (source .entry)) (self .at) (r .at) ⌝ }
     {
-        let at = runs::blanks_end(source, self.at);
+        let at = runs::blanks_end(source, kinds, self.at);
         Cursor { at }
     }
 
     // The token that stands here, where neither a separator nor a comment stands; where no token can be read, a stop with its number.
-    pub fn next(self, source: &[u8]) -> Lexed
-        requires { ⌜ (self .at < length (now source)) × (length (now source) ≤ 65535) ⌝ }
+    pub fn next(self, source: &[u8], kinds: &[u8; 256], rows: &[u8; 300]) -> Lexed
+        requires { ⌜ Sorts (now kinds) × (now rows ≡ all-rows) × (self .at < length (now source)) × (length (now source) ≤ 65535) ⌝ }
         ensures { λ r. ⌜ Reads (now (source .entry)) (self .at) r ⌝ }
     {
         let at = self.at;
-        let kind = bytes::kind_at(source, at);
+        let kind = bytes::kind_at(source, kinds, at);
         if kind == bytes::LETTER {
-            return lexing::read_word(source, at);
+            return lexing::read_word(source, kinds, rows, at);
         }
         if kind == bytes::DIGIT {
-            return lexing::read_digits(source, at);
+            return lexing::read_digits(source, kinds, at);
         }
         if kind == bytes::SIGN {
-            return lexing::read_sign(source, at);
+            return lexing::read_sign(source, rows, at);
         }
         lexing::token_of(STOP, at, 1, 3)
     }
@@ -91,7 +92,9 @@ pub fn scan_source(source: &[u8], words: &mut [u32]) -> Scan
     requires { ⌜ (length (now source) ≤ 65535) × (length (now words) ≡ 16384) ⌝ }
     ensures { λ r. ⌜ Scans (now (source .entry)) r (now (words .exit)) ⌝ }
 {
-    let scan = scanning::read_tokens(source, &mut *words);
+    let kinds = bytes::kind_table();
+    let rows = spelling::row_table();
+    let scan = scanning::read_tokens(source, &kinds, &rows, &mut *words);
     let from = 4 * scan.count;
     scanning::clear(&mut words[from..]);
     scan

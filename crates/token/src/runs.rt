@@ -5,17 +5,18 @@ ghost use Prim.Native.Nat.{_-_, _≤_, _<_, min};
 ghost use lib.ListN.{length, take, drop};
 ghost use Rattle.token.specs.Lexeme.{extent, decimal};
 ghost use Rattle.token.specs.Scanning.{blanks};
-ghost use Rattle.token.specs.Promises.{Walks, run-test, goes-on, blank-turn, with-digit, too-large};
+ghost use Rattle.token.specs.Promises.{Sorts, Walks, Skips, run-test, goes-on, blank-turn, with-digit, too-large};
 use crate::bytes;
 
 // The least value that is too large for a literal.
 pub const TOO_LARGE: u64 = 2147483648;
 
 // Whether the byte at i can go on a run: a digit, or in a name a letter too.
-fn fits_run(source: &[u8], i: usize, named: bool) -> bool
+fn fits_run(source: &[u8], kinds: &[u8; 256], i: usize, named: bool) -> bool
+    requires { ⌜ Sorts (now kinds) ⌝ }
     ensures { λ r. ⌜ r ≡ run-test named (drop i (now (source .entry))) ⌝ }
 {
-    let kind = bytes::kind_at(source, i);
+    let kind = bytes::kind_at(source, kinds, i);
     if kind == bytes::DIGIT {
         return true;
     }
@@ -26,26 +27,27 @@ fn fits_run(source: &[u8], i: usize, named: bool) -> bool
 }
 
 // Whether the byte at i is in a run: it goes on the run, or it is an underscore and the byte behind it does.
-fn in_run(source: &[u8], i: usize, named: bool) -> bool
-    requires { ⌜ i < length (now source) ⌝ }
+fn in_run(source: &[u8], kinds: &[u8; 256], i: usize, named: bool) -> bool
+    requires { ⌜ Sorts (now kinds) × (i < length (now source)) ⌝ }
     ensures { λ r. ⌜ r ≡ goes-on (run-test named) (drop i (now (source .entry))) ⌝ }
 {
-    if fits_run(source, i, named) {
+    if fits_run(source, kinds, i, named) {
         return true;
     }
-    if bytes::kind_at(source, i) == bytes::UNDERSCORE {
-        return fits_run(source, i + 1, named);
+    if bytes::kind_at(source, kinds, i) == bytes::UNDERSCORE {
+        return fits_run(source, kinds, i + 1, named);
     }
     false
 }
 
 // The end of the longest run from a position on.
-pub fn run_end(source: &[u8], at: usize, named: bool) -> usize
+pub fn run_end(source: &[u8], kinds: &[u8; 256], at: usize, named: bool) -> usize
+    requires { ⌜ Sorts (now kinds) ⌝ }
     ensures { λ r. ⌜ Walks (extent (run-test named) (drop at (now (source .entry)))) (now (source .entry)) at r ⌝ }
 {
     let mut end = at;
     while end < source.len() {
-        if in_run(source, end, named) {
+        if in_run(source, kinds, end, named) {
             end += 1;
         } else {
             return end;
@@ -112,19 +114,38 @@ fn blank_turn(kind: u8, inside: bool) -> u8
     0
 }
 
+// Inside a comment, the position of the line end behind it, or the end of the source; outside one, the position itself.
+fn comment_end(source: &[u8], kinds: &[u8; 256], at: usize, inside: bool) -> usize
+    requires { ⌜ Sorts (now kinds) ⌝ }
+    ensures { λ r. ⌜ Skips inside (now (source .entry)) at r ⌝ }
+{
+    if !inside {
+        return at;
+    }
+    let mut end = at;
+    while end < source.len() {
+        if bytes::kind_at(source, kinds, end) == bytes::LINE_END {
+            return end;
+        }
+        end += 1;
+    }
+    end
+}
+
 // The end of the separators and comments from a position on.
-pub fn blanks_end(source: &[u8], at: usize) -> usize
+pub fn blanks_end(source: &[u8], kinds: &[u8; 256], at: usize) -> usize
+    requires { ⌜ Sorts (now kinds) ⌝ }
     ensures { λ r. ⌜ Walks (blanks false (drop at (now (source .entry)))) (now (source .entry)) at r ⌝ }
 {
     let mut end = at;
     let mut inside = false;
     while end < source.len() {
-        let turn = blank_turn(bytes::kind_at(source, end), inside);
+        let turn = blank_turn(bytes::kind_at(source, kinds, end), inside);
         if turn == 0 {
             return end;
         }
         inside = turn == 2;
-        end += 1;
+        end = comment_end(source, kinds, end + 1, inside);
     }
     end
 }

@@ -4,7 +4,7 @@ ghost use mathlib.Core.List.{[], _∷_, _++_};
 ghost use Prim.Native.Nat.{_+_, _*_, _≤_, _<_};
 ghost use lib.ListN.{length, take, drop, replicate};
 ghost use Rattle.token.specs.Scanning.{token-words};
-ghost use Rattle.token.specs.Promises.{Stops, Fills};
+ghost use Rattle.token.specs.Promises.{Sorts, all-rows, Stops, Fills};
 use crate::Cursor;
 use crate::Scan;
 use crate::Token;
@@ -38,14 +38,14 @@ fn write_token(words: &mut [u32], i: usize, t: Token)
 }
 
 // Reads the tokens of a source and writes them from the table's beginning on, up to the stop.
-pub fn read_tokens(source: &[u8], words: &mut [u32]) -> Scan
-    requires { ⌜ (length (now source) ≤ 65535) × (length (now words) ≡ 16384) ⌝ }
+pub fn read_tokens(source: &[u8], kinds: &[u8; 256], rows: &[u8; 300], words: &mut [u32]) -> Scan
+    requires { ⌜ Sorts (now kinds) × (now rows ≡ all-rows) × (length (now source) ≤ 65535) × (length (now words) ≡ 16384) ⌝ }
     ensures { λ r. ⌜ Fills (now (source .entry)) r (now (words .exit)) ⌝ }
 {
     let mut cursor = Cursor::start();
     let mut count: usize = 0;
     loop {
-        let here = cursor.past_blanks(source);
+        let here = cursor.past_blanks(source, kinds);
         let at = here.at;
         if source.len() <= at {
             return Scan {
@@ -54,7 +54,7 @@ pub fn read_tokens(source: &[u8], words: &mut [u32]) -> Scan
                 place: at as u32,
             };
         }
-        let read = here.next(source);
+        let read = here.next(source, kinds, rows);
         let token = read.token;
         let number = stop_number(count, token);
         if number != 0 {

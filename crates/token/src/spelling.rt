@@ -6,7 +6,7 @@ ghost use lib.ListN.{length, take, drop, getD};
 ghost use lib.Seq.{slice};
 ghost use Rattle.token.specs.Bytes.{fold, same};
 ghost use Rattle.token.specs.Lexeme.{find-kind};
-ghost use Rattle.token.specs.Promises.{spellings, rows, Fixes};
+ghost use Rattle.token.specs.Promises.{spellings, all-rows, Fixes};
 
 // How many there are: the keywords and predefined names, and all.
 pub const KEYWORDS: usize = 17;
@@ -48,24 +48,31 @@ pub struct Fixed {
     pub kind: u32,
 }
 
-// The byte at a position of the rows.
-fn row_byte(j: usize) -> u8
-    requires { ⌜ j < 300 ⌝ }
-    ensures { λ r. ⌜ r ≡ getD rows j 0 ⌝ }
+// The rows, as a table to lend: each use of ROWS writes all of it anew.
+pub fn row_table() -> [u8; 300]
+    ensures { λ r. ⌜ r ≡ all-rows ⌝ }
 {
-    ROWS[j]
+    ROWS
+}
+
+// The byte at a position of the rows.
+fn row_byte(rows: &[u8; 300], j: usize) -> u8
+    requires { ⌜ (now rows ≡ all-rows) × (j < 300) ⌝ }
+    ensures { λ r. ⌜ r ≡ getD all-rows j 0 ⌝ }
+{
+    rows[j]
 }
 
 // The fixed spelling with number i.
-fn fixed_at(i: usize) -> Fixed
-    requires { ⌜ i < 25 ⌝ }
+fn fixed_at(rows: &[u8; 300], i: usize) -> Fixed
+    requires { ⌜ (now rows ≡ all-rows) × (i < 25) ⌝ }
     ensures { λ r. ⌜ Fixes i r ⌝ }
 {
     let start = 12 * i;
     Fixed {
         start: start + 2,
-        len: row_byte(start) as usize,
-        kind: row_byte(start + 1) as u32,
+        len: row_byte(rows, start) as usize,
+        kind: row_byte(rows, start + 1) as u32,
     }
 }
 
@@ -83,9 +90,9 @@ fn folded(b: u8) -> u8
 }
 
 // Whether n bytes of the source have a fixed spelling, letter case aside.
-fn spells(source: &[u8], at: usize, n: usize, f: Fixed) -> bool
-    requires { ⌜ (at + n ≤ length (now source)) × (f .start + f .len ≤ 300) ⌝ }
-    ensures { λ r. ⌜ r ≡ same (map fold (take n (drop at (now (source .entry))))) (take (f .len) (drop (f .start) rows)) ⌝ }
+fn spells(source: &[u8], rows: &[u8; 300], at: usize, n: usize, f: Fixed) -> bool
+    requires { ⌜ (now rows ≡ all-rows) × (at + n ≤ length (now source)) × (f .start + f .len ≤ 300) ⌝ }
+    ensures { λ r. ⌜ r ≡ same (map fold (take n (drop at (now (source .entry))))) (take (f .len) (drop (f .start) all-rows)) ⌝ }
 {
     let start = f.start;
     let len = f.len;
@@ -94,7 +101,7 @@ fn spells(source: &[u8], at: usize, n: usize, f: Fixed) -> bool
     }
     let mut k: usize = 0;
     while k < n {
-        if folded(source[at + k]) != row_byte(start + k) {
+        if folded(source[at + k]) != row_byte(rows, start + k) {
             return false;
         }
         k += 1;
@@ -103,14 +110,22 @@ fn spells(source: &[u8], at: usize, n: usize, f: Fixed) -> bool
 }
 
 // The kind of n bytes of the source among the fixed spellings from one number up to another, and `other` if they are none of these.
-pub fn find_kind(source: &[u8], at: usize, n: usize, from: usize, to: usize, other: u32) -> u32
-    requires { ⌜ (at + n ≤ length (now source)) × (to ≤ 25) ⌝ }
+pub fn find_kind(
+    source: &[u8],
+    rows: &[u8; 300],
+    at: usize,
+    n: usize,
+    from: usize,
+    to: usize,
+    other: u32,
+) -> u32
+    requires { ⌜ (now rows ≡ all-rows) × (at + n ≤ length (now source)) × (to ≤ 25) ⌝ }
     ensures { λ r. ⌜ r ≡ find-kind (map fold (take n (drop at (now (source .entry))))) (slice from to spellings) other ⌝ }
 {
     let mut i = from;
     while i < to {
-        let f = fixed_at(i);
-        if spells(source, at, n, f) {
+        let f = fixed_at(rows, i);
+        if spells(source, rows, at, n, f) {
             return f.kind;
         }
         i += 1;

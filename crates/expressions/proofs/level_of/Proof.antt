@@ -1,7 +1,7 @@
 use mathlib.Core.Path.{refl}
 use mathlib.Core.Logic.{⊎-elim}
 use native.Mathlib.Omega.{arith}
-use Rattle.grammar.specs.Expressions.{level-of}
+use Rattle.token.specs.Kind.{level-of}
 use Rattle.expressions.proofs.Levels.{level-of-three, level-of-none}
 use Rattle.expressions.proofs.level_of.Statement.{statement}
 use Rattle.expressions.proofs.level_of.Tie as tie

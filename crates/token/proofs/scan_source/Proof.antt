@@ -4,6 +4,12 @@ use Rattle.token.proofs.Scans.{scans}
 use Rattle.token.proofs.scan_source.Statement.{statement}
 use Rattle.token.proofs.scan_source.Tie as tie
 
+kind-table-requires : tie.Need-kind-table-requires
+kind-table-requires c κs = search needs
+
+row-table-requires : tie.Need-row-table-requires
+row-table-requires c κs = search needs
+
 read-tokens-requires : tie.Need-read-tokens-requires
 read-tokens-requires c κs = search needs
 
@@ -37,6 +43,8 @@ pub scan-source-spec : {M : Type 1} → statement M
 scan-source-spec =
     tie.close
     (tie.spec
+    kind-table-requires
+    row-table-requires
     read-tokens-requires
     mul-from
     mul-clear

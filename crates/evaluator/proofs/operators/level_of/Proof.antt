@@ -1,6 +1,6 @@
 use mathlib.Core.Path.{refl}
 use borrow.Author.Tests.{ne-eqb}
-use Rattle.evaluator.specs.Stands.{level-of}
+use Rattle.token.specs.Kind.{level-of}
 use Rattle.evaluator.proofs.operators.level_of.Statement.{statement}
 use Rattle.evaluator.proofs.operators.level_of.Tie as tie
 

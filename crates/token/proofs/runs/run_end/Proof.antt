@@ -2,19 +2,19 @@
 use Prim.Native.Nat.{_-_}
 use lib.ListN.{length}
 use borrow.Author.Needs.{needs}
-use Rattle.token.specs.Promises.{run-test}
+use Rattle.token.specs.Promises.{Sorts, run-test}
 use Rattle.token.proofs.Extents.{Running, Walk}
 use Rattle.token.proofs.runs.run_end.Statement.{statement}
 use Rattle.token.proofs.runs.run_end.Tie as tie
 
 abbrev Inv-loop : tie.InvT-loop
-Inv-loop source at named end₀ end = Running (run-test named) source at end
+Inv-loop source kinds at named end₀ end = Running (run-test named) source at end × Sorts kinds
 
 abbrev μ-loop : tie.MeasureT-loop
-μ-loop source at named end₀ end = length source - end
+μ-loop source kinds at named end₀ end = length source - end
 
 loop-holds : tie.Need-loop-holds Inv-loop μ-loop
-loop-holds c = search Walk
+loop-holds c = search (needs, Walk)
 
 in-run-requires : tie.Need-in-run-requires Inv-loop μ-loop
 in-run-requires c κs = search needs
@@ -26,7 +26,7 @@ loop-less : tie.Need-loop-less Inv-loop μ-loop
 loop-less c = search needs
 
 loop-again : tie.Need-loop-again Inv-loop μ-loop
-loop-again c = search Walk
+loop-again c = search (needs, Walk)
 
 returns : tie.Need-returns Inv-loop μ-loop
 returns c = search Walk

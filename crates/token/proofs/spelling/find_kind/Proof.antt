@@ -1,16 +1,18 @@
 -- `token::spelling::find_kind` meets its contract.
 use Prim.Native.Nat.{_+_, _-_, _≤_}
+use mathlib.Core.Path.{_≡_}
 use lib.ListN.{length}
 use borrow.Author.Needs.{needs}
+use Rattle.token.specs.Promises.{all-rows}
 use Rattle.token.proofs.Words.{bytes-of, Seeking, Seeks}
 use Rattle.token.proofs.spelling.find_kind.Statement.{statement}
 use Rattle.token.proofs.spelling.find_kind.Tie as tie
 
 abbrev Inv-loop : tie.InvT-loop
-Inv-loop source at n from to other i₀ i = Seeking (bytes-of source at n) from to other i × (at + n ≤ length source) × (to ≤ 25)
+Inv-loop source rows at n from to other i₀ i = Seeking (bytes-of source at n) from to other i × (at + n ≤ length source) × (to ≤ 25) × (rows ≡ all-rows)
 
 abbrev μ-loop : tie.MeasureT-loop
-μ-loop source at n from to other i₀ i = to - i
+μ-loop source rows at n from to other i₀ i = to - i
 
 loop-holds : tie.Need-loop-holds Inv-loop μ-loop
 loop-holds c = search (needs, Seeks)

@@ -7,14 +7,14 @@ use Rattle.token.proofs.spelling.fixed_at.Tie as tie
 mul-start : tie.Need-mul-start
 mul-start c = search needs
 
-add-t3 : tie.Need-add-t3
-add-t3 c = search needs
+add-t4 : tie.Need-add-t4
+add-t4 c = search needs
 
 row-byte-requires : tie.Need-row-byte-requires
 row-byte-requires c κs = search needs
 
-cast-t5 : tie.Need-cast-t5
-cast-t5 c = search needs
+cast-t6 : tie.Need-cast-t6
+cast-t6 c = search needs
 
 add-row-byte : tie.Need-add-row-byte
 add-row-byte c = search needs
@@ -22,8 +22,8 @@ add-row-byte c = search needs
 row-byte-requires-2 : tie.Need-row-byte-requires-2
 row-byte-requires-2 c κs = search needs
 
-cast-t8 : tie.Need-cast-t8
-cast-t8 c = search needs
+cast-t9 : tie.Need-cast-t9
+cast-t9 c = search needs
 
 returns : tie.Need-returns
 returns c = search fixes
@@ -33,10 +33,10 @@ fixed-at-spec =
     tie.close
     (tie.spec
     mul-start
-    add-t3
+    add-t4
     row-byte-requires
-    cast-t5
+    cast-t6
     add-row-byte
     row-byte-requires-2
-    cast-t8
+    cast-t9
     returns)

@@ -3,15 +3,16 @@ use Prim.Native.Nat.{_+_, _-_, _≤_}
 use mathlib.Core.Path.{_≡_}
 use lib.ListN.{length}
 use borrow.Author.Needs.{needs}
+use Rattle.token.specs.Promises.{all-rows}
 use Rattle.token.proofs.Words.{Comparing, Compares, compare-more}
 use Rattle.token.proofs.spelling.spells.Statement.{statement}
 use Rattle.token.proofs.spelling.spells.Tie as tie
 
 abbrev Inv-loop : tie.InvT-loop
-Inv-loop source at n start len k₀ k = Comparing source at n start len k × (at + n ≤ length source) × (start + len ≤ 300) × (n ≡ len)
+Inv-loop source rows at n start len k₀ k = Comparing source at n start len k × (at + n ≤ length source) × (start + len ≤ 300) × (n ≡ len) × (rows ≡ all-rows)
 
 abbrev μ-loop : tie.MeasureT-loop
-μ-loop source at n start len k₀ k = n - k
+μ-loop source rows at n start len k₀ k = n - k
 
 returns : tie.Need-returns Inv-loop μ-loop
 returns c = search Compares
@@ -50,6 +51,7 @@ loop-again c =
       l .1,
       l .2,
       l .3,
+      l .4,
     )
 
 returns-3 : tie.Need-returns-3 Inv-loop μ-loop

@@ -1,0 +1,483 @@
+-- The laws of statements, one for each way through the code.
+use Prim.Native.Nat.{ℕ, zero, suc, _+_, _-_, _≤_, _<_}
+use native.Mathlib.Omega.{arith}
+use mathlib.Core.Path.{_≡_, refl, sym, ap, ap₂, _∙_, subst}
+use mathlib.Core.Bool.{Bool, true, false, not, true≢false}
+use mathlib.Core.List.{List, [], _∷_, _++_}
+use mathlib.Core.Option.{some}
+use lib.Dec.{eqb}
+use lib.ListN.{length, set, take, length-set}
+use lib.Seq.{take-suc, take-set-le, getD-set-same}
+use lib.IntN.{ℤ, pos, _+ℤ_, +ℤ-assoc, +ℤ-idr}
+use borrow.Author.Tests.{ne-eqb, eqb-true, not-false, not-true}
+use Rattle.value.specs.Worked.{value, truth, decode-of, span-of}
+use Rattle.value.specs.declared.Value.{Value}
+use Rattle.program.specs.Syntax.{Range, Expr, Target, Block, empty, assign, select, loop, exit, constant}
+use Rattle.evaluator.specs.Operators.{worth}
+use Rattle.evaluator.specs.Evaluation.{Env, eval, Flow, on, leaving, faulted, Frame, frame, when-on, onward, branch, conditional, assign-first, turned, each, exec}
+use Rattle.evaluator.specs.Stands.{Table, ExprAt, range-in, LoopAt, begins, assigns, Stands, Elsif, Choice}
+use Rattle.evaluator.specs.Working.{Ready, EvalsExpression}
+use Rattle.evaluator.specs.declared.Site.{Site}
+use Rattle.evaluator.specs.declared.Told.{Told}
+use Rattle.evaluator.specs.declared.Told.the-variants.{Found, Failed}
+use Rattle.executor.specs.Running.{flow-of, left, Assigns, RunsBlock, rest-of, RunsStatement, RunsChoice, body-of, RunsLoop}
+use Rattle.executor.specs.declared.Going.{Going}
+use Rattle.executor.specs.declared.Going.the-variants.{On, Leaving, Faulted}
+use Rattle.executor.proofs.AssignmentLaws.{answer, worth-of, fault-of}
+
+-- ---- kinds that begin a statement
+
+not-begun : (x : ℕ) {A : Type 0} → begins x ≡ true → begins x ≡ false → A
+not-begun x p q = absurd (true≢false (sym p ∙ q))
+
+pub begins-at : {k : ℕ} (j : ℕ) → begins j ≡ true → k ≡ j → true ≡ begins k
+begins-at j h e = sym (ap begins e ∙ h)
+
+pub begins-name : begins 1 ≡ true
+unfolding begins
+begins-name = refl
+
+pub begins-cell : begins 3 ≡ true
+unfolding begins
+begins-cell = refl
+
+pub begins-if : begins 13 ≡ true
+unfolding begins
+begins-if = refl
+
+pub begins-forall : begins 12 ≡ true
+unfolding begins
+begins-forall = refl
+
+pub begins-exit : begins 10 ≡ true
+unfolding begins
+begins-exit = refl
+
+pub begins-const : begins 5 ≡ true
+unfolding begins
+begins-const = refl
+
+pub begins-last : {k : ℕ} → (k ≡ 1 → ⊥) → (k ≡ 3 → ⊥) → (k ≡ 13 → ⊥) → (k ≡ 12 → ⊥) → (k ≡ 10 → ⊥) → eqb k 5 ≡ begins k
+unfolding begins
+begins-last a b d e f = sym (simp (ne-eqb _ _ a, ne-eqb _ _ b, ne-eqb _ _ d, ne-eqb _ _ e, ne-eqb _ _ f))
+
+-- a kind that begins a statement is some token
+pub begins-some : (k : ℕ) {b : Bool} → b ≡ begins k → not b ≡ false → 1 ≤ k
+unfolding begins
+begins-some zero {b} e y = absurd (true≢false (sym (not-false b y) ∙ e))
+begins-some (suc k) e y = omega arith
+
+-- the first token of an assignment
+assigns-kind : (k : ℕ) → assigns k ≡ true → (P : ℕ → Type 0) → P 1 → P 3 → P k
+unfolding assigns
+assigns-kind k e P one three = go (eqb k 1) refl
+  where
+    go : (b : Bool) → eqb k 1 ≡ b → P k
+    go true q = subst P (sym (eqb-true k 1 q)) one
+    go false q = subst P (sym (eqb-true k 3 (simp q at e))) three
+
+assigns-begins : (k : ℕ) → assigns k ≡ true → begins k ≡ true
+assigns-begins k e = assigns-kind k e (λ i. begins i ≡ true) begins-name begins-cell
+
+-- ---- a choice
+
+onward-empty : (env : Env) (vs : List ℤ) (F : Frame) → onward F (exec env vs empty) ≡ F
+unfolding exec
+onward-empty env vs F = go (F .flow)
+  where
+    go : (f : Flow) → when-on f F (λ g. g) ≡ F
+    go on = refl
+    go leaving = refl
+    go (faulted k p) = refl
+
+module _ (t : Table) (env : Env) (depth at : ℕ) (vars next ix : List ℤ) where
+  abbrev vs : List ℤ
+  vs = take depth ix
+
+  abbrev fr : Frame
+  fr = frame on vars next
+
+  abbrev chooses : Expr → Block → Block → Frame
+  chooses c d e = conditional env vs (some c) (exec env vs d) (exec env vs e) fr
+
+  -- the arms before `arm` are tried, and none of them is chosen
+  pub record Arms (arm : ℕ) : Type 0 where
+    pub says : (c : Expr) (d e : Block) → Choice t depth c d e at
+        → (c′ : Expr) × (d′ : Block) × (e′ : Block) × Choice t depth c′ d′ e′ arm × (chooses c d e ≡ chooses c′ d′ e′)
+
+  pub arms-start : Arms at
+  arms-start = record { says = λ c d e x. (c, d, e, x, refl) }
+
+  module _ {arm : ℕ} (so : Arms arm) {n : ℕ} {told : Told} (ev : EvalsExpression t env vars vs n (arm + 1) 1 told) where
+    -- what a run leaves is what the arm that is tried now does
+    by-arm : {r : Going} {vars′ next′ ix′ : List ℤ} → take depth ix′ ≡ take depth ix
+        → ((c : Expr) (d e : Block) → Choice t depth c d e arm → left r vars′ next′ ≡ chooses c d e) → RunsChoice t env depth at vars next ix vars′ next′ ix′ r
+    by-arm k h = record { says = λ c d e x. let s = so .says c d e x in h (s .0) (s .1) (s .2) (s .3) ∙ sym (s .4); kept = k }
+
+    pub choice-fault : {a p : ℕ} → told ≡ Failed a p → RunsChoice t env depth at vars next ix vars next ix (Faulted a p)
+    choice-fault h = by-arm refl (λ c d e x. rw (fault-of (eval env vars vs c) (x .then-at) (sym h ∙ answer ev (x .condition))) refl)
+
+    module _ {v : Value} {m : ℕ} (h : told ≡ Found v m) {b : Bool} (eb : b ≡ truth (v .n)) where
+      found : (c : Expr) (past : ℕ) → ExprAt t c (arm + 1) past → (eval env vars vs c ≡ worth (v .n)) × (past ≡ m)
+      found c past x = worth-of (eval env vars vs c) past (sym h ∙ answer ev x)
+
+      decided : (c : Expr) (d e : Block) → Choice t depth c d e arm → branch b (exec env vs d) (exec env vs e) fr ≡ chooses c d e
+      decided c d e x = rw (found c (x .then-at) (x .condition) .0, ← eb) refl
+
+      pub choice-then : {vars′ next′ ix′ : List ℤ} {r : Going} → b ≡ true → RunsBlock t env depth (m + 1) vars next ix vars′ next′ ix′ r
+          → RunsChoice t env depth at vars next ix vars′ next′ ix′ r
+      choice-then y run =
+          by-arm (run .kept)
+          (λ c d e x.
+          run .says d (subst (λ (i : ℕ). Stands t depth d (i + 1)) (found c (x .then-at) (x .condition) .1) (x .part))
+          ∙ ap (λ (z : Bool). branch z (exec env vs d) (exec env vs e) fr) (sym y) ∙ decided c d e x)
+
+      pub choice-wrong : ((i : ℕ) → t .kind i ≡ 16 → i < n) → n ≤ m → RunsChoice t env depth at vars next ix vars next ix On
+      choice-wrong inside l =
+          by-arm refl
+          (λ c d e x. absurd (let e = found c (x .then-at) (x .condition) .1 in let q = inside (x .then-at) (x .is-then) in omega arith))
+
+      module _ (y : b ≡ false) {o : ℕ} (eo : o ≡ t .inner arm) {k : ℕ} (ek : k ≡ t .kind o) where
+        there : k ≡ t .kind (t .inner arm)
+        there = ek ∙ ap (λ (i : ℕ). t .kind i) eo
+
+        otherwise : (c : Expr) (d e : Block) → Choice t depth c d e arm → exec env vs e fr ≡ chooses c d e
+        otherwise c d e x = ap (λ (z : Bool). branch z (exec env vs d) (exec env vs e) fr) (sym y) ∙ decided c d e x
+
+        pub choice-else : {vars′ next′ ix′ : List ℤ} {r : Going} → k ≡ 7 → RunsBlock t env depth (o + 1) vars next ix vars′ next′ ix′ r
+            → RunsChoice t env depth at vars next ix vars′ next′ ix′ r
+        choice-else is run =
+            by-arm (run .kept)
+            (λ c d e x. run .says e (subst (λ (i : ℕ). Stands t depth e (i + 1)) (sym eo) (x .rest .at-else (sym there ∙ is))) ∙ otherwise c d e x)
+
+        pub choice-end : (k ≡ 7 → ⊥) → (k ≡ 8 → ⊥) → RunsChoice t env depth at vars next ix vars next ix On
+        unfolding exec
+        choice-end not-else not-elsif =
+            by-arm refl
+            (λ c d e x.
+            ap (λ (q : Block). exec env vs q fr) (sym (x .rest .at-end (λ u. not-else (there ∙ u)) (λ u. not-elsif (there ∙ u)))) ∙ otherwise c d e x)
+
+        pub arms-more : k ≡ 8 → Arms o
+        unfolding Elsif exec
+        arms-more is = record { says = λ c d e x. let s = so .says c d e x in go c d e (s .0) (s .1) (s .2) (s .3) (s .4) }
+          where
+            tail : (e : Block) → Elsif t depth e o → (c′ : Expr) × (d′ : Block) × (e′ : Block) × Choice t depth c′ d′ e′ o × (exec env vs e fr ≡ chooses c′ d′ e′)
+            tail empty s = absurd s
+            tail (assign to cs rest) s = absurd s
+            tail (select c d e rest) s =
+                (c, d, e, s .1, ap (λ (q : Block). onward (chooses c d e) (exec env vs q)) (s .0) ∙ onward-empty env vs (chooses c d e))
+            tail (loop r d rest) s = absurd s
+            tail (exit rest) s = absurd s
+            tail (constant rest) s = absurd s
+
+            go : (c : Expr) (d e : Block) (c₁ : Expr) (d₁ e₁ : Block) → Choice t depth c₁ d₁ e₁ arm → chooses c d e ≡ chooses c₁ d₁ e₁
+                → (c′ : Expr) × (d′ : Block) × (e′ : Block) × Choice t depth c′ d′ e′ o × (chooses c d e ≡ chooses c′ d′ e′)
+            go c d e c₁ d₁ e₁ x q =
+                let s = tail e₁ (subst (Elsif t depth e₁) (sym eo) (x .rest .at-elsif (sym there ∙ is))) in
+                (s .0, s .1, s .2, s .3, q ∙ sym (otherwise c₁ d₁ e₁ x) ∙ s .4)
+
+-- ---- a statement
+
+module _ (t : Table) (env : Env) (depth at : ℕ) (vars next ix : List ℤ) {k : ℕ} (ek : k ≡ t .kind at) where
+  abbrev run-of : Going → List ℤ → List ℤ → Block → Type 0
+  run-of r vars′ next′ b = exec env (take depth ix) b (frame on vars next) ≡ onward (left r vars′ next′) (exec env (take depth ix) (rest-of b))
+
+  -- an assignment does not begin with a token of this kind
+  unassigned : {A : Type 0} (j : ℕ) → (j ≡ 1 → ⊥) → (j ≡ 3 → ⊥) → k ≡ j → assigns (t .kind at) ≡ true → A
+  unassigned {A} j a b is e = absurd (assigns-kind (t .kind at) e (λ i. i ≡ j → ⊥) (λ u. a (sym u)) (λ u. b (sym u)) (sym ek ∙ is))
+
+  pub statement-if : {vars′ next′ ix′ : List ℤ} {r : Going} → k ≡ 13 → RunsChoice t env depth at vars next ix vars′ next′ ix′ r → RunsStatement t env depth at vars next ix vars′ next′ ix′ r
+  unfolding Stands exec
+  statement-if {vars′} {next′} {ix′} {r} is run = record { says = go; kept = run .kept }
+    where
+      go : begins (t .kind at) ≡ true → (b : Block) → Stands t depth b at → run-of r vars′ next′ b
+      go y empty s = not-begun (t .kind at) y s
+      go y (assign to cs rest) s = unassigned 13 (λ u. omega arith) (λ u. omega arith) is (s .0)
+      go y (select c d e rest) s = ap (λ (F : Frame). onward F (exec env (take depth ix) rest)) (sym (run .says c d e (s .1)))
+      go y (loop values d rest) s = absurd (let q = s .0 in omega arith)
+      go y (exit rest) s = absurd (let q = s .0 in omega arith)
+      go y (constant rest) s = absurd (let q = s .0 in omega arith)
+
+  pub statement-forall : {vars′ next′ ix′ : List ℤ} {r : Going} → k ≡ 12 → RunsLoop t env depth at vars next ix vars′ next′ ix′ r → RunsStatement t env depth at vars next ix vars′ next′ ix′ r
+  unfolding Stands exec
+  statement-forall {vars′} {next′} {ix′} {r} is run = record { says = go; kept = run .kept }
+    where
+      go : begins (t .kind at) ≡ true → (b : Block) → Stands t depth b at → run-of r vars′ next′ b
+      go y empty s = not-begun (t .kind at) y s
+      go y (assign to cs rest) s = unassigned 12 (λ u. omega arith) (λ u. omega arith) is (s .0)
+      go y (select c d e rest) s = absurd (let q = s .0 in omega arith)
+      go y (loop values d rest) s = ap (λ (F : Frame). onward F (exec env (take depth ix) rest)) (sym (run .says values d (s .1)))
+      go y (exit rest) s = absurd (let q = s .0 in omega arith)
+      go y (constant rest) s = absurd (let q = s .0 in omega arith)
+
+  pub statement-exit : k ≡ 10 → RunsStatement t env depth at vars next ix vars next ix Leaving
+  unfolding Stands exec
+  statement-exit is = record { says = go; kept = refl }
+    where
+      go : begins (t .kind at) ≡ true → (b : Block) → Stands t depth b at → run-of Leaving vars next b
+      go y empty s = not-begun (t .kind at) y s
+      go y (assign to cs rest) s = unassigned 10 (λ u. omega arith) (λ u. omega arith) is (s .0)
+      go y (select c d e rest) s = absurd (let q = s .0 in omega arith)
+      go y (loop values d rest) s = absurd (let q = s .0 in omega arith)
+      go y (exit rest) s = refl
+      go y (constant rest) s = absurd (let q = s .0 in omega arith)
+
+  pub statement-constant : k ≡ 5 → RunsStatement t env depth at vars next ix vars next ix On
+  unfolding Stands exec
+  statement-constant is = record { says = go; kept = refl }
+    where
+      go : begins (t .kind at) ≡ true → (b : Block) → Stands t depth b at → run-of On vars next b
+      go y empty s = not-begun (t .kind at) y s
+      go y (assign to cs rest) s = unassigned 5 (λ u. omega arith) (λ u. omega arith) is (s .0)
+      go y (select c d e rest) s = absurd (let q = s .0 in omega arith)
+      go y (loop values d rest) s = absurd (let q = s .0 in omega arith)
+      go y (exit rest) s = absurd (let q = s .0 in omega arith)
+      go y (constant rest) s = refl
+
+  pub statement-assign : {vars′ next′ : List ℤ} {r : Going} → (k ≡ 13 → ⊥) → (k ≡ 12 → ⊥) → (k ≡ 10 → ⊥) → (k ≡ 5 → ⊥)
+      → Assigns t env (take depth ix) at vars next vars′ next′ r → RunsStatement t env depth at vars next ix vars′ next′ ix r
+  unfolding Stands exec
+  statement-assign {vars′} {next′} {r} n13 n12 n10 n5 run = record { says = go; kept = refl }
+    where
+      go : begins (t .kind at) ≡ true → (b : Block) → Stands t depth b at → run-of r vars′ next′ b
+      go y empty s = not-begun (t .kind at) y s
+      go y (assign to cs rest) s =
+          ap (λ (F : Frame). onward F (exec env (take depth ix) rest))
+          (ap (λ (x : Target). assign-first env (take depth ix) x cs (frame on vars next)) (s .1) ∙ sym (run .says cs (s .2)))
+      go y (select c d e rest) s = absurd (n13 (ek ∙ s .0))
+      go y (loop values d rest) s = absurd (n12 (ek ∙ s .0))
+      go y (exit rest) s = absurd (n10 (ek ∙ s .0))
+      go y (constant rest) s = absurd (n5 (ek ∙ s .0))
+
+-- ---- a list of statements
+
+-- what follows a statement stands past it
+rest-stands : (t : Table) (depth at : ℕ) → begins (t .kind at) ≡ true → (b : Block) → Stands t depth b at → Stands t depth (rest-of b) (t .past at)
+unfolding Stands
+rest-stands t depth at y empty s = not-begun (t .kind at) y s
+rest-stands t depth at y (assign to cs rest) s = s .3
+rest-stands t depth at y (select c d e rest) s = s .2
+rest-stands t depth at y (loop r d rest) s = s .2
+rest-stands t depth at y (exit rest) s = s .1
+rest-stands t depth at y (constant rest) s = s .1
+
+-- where no statement begins, none stands
+none-stands : (t : Table) (depth at : ℕ) → begins (t .kind at) ≡ false → (b : Block) → Stands t depth b at → b ≡ empty
+unfolding Stands
+none-stands t depth at y empty s = refl
+none-stands t depth at y (assign to cs rest) s = not-begun (t .kind at) (assigns-begins (t .kind at) (s .0)) y
+none-stands t depth at y (select c d e rest) s = not-begun (t .kind at) (ap begins (s .0) ∙ begins-if) y
+none-stands t depth at y (loop r d rest) s = not-begun (t .kind at) (ap begins (s .0) ∙ begins-forall) y
+none-stands t depth at y (exit rest) s = not-begun (t .kind at) (ap begins (s .0) ∙ begins-exit) y
+none-stands t depth at y (constant rest) s = not-begun (t .kind at) (ap begins (s .0) ∙ begins-const) y
+
+module _ (t : Table) (env : Env) (depth at : ℕ) (vars₀ next₀ ix₀ : List ℤ) where
+  -- the statements before `here` are run: what is left of a list that stands at `at` stands at `here`
+  pub record Progress (here : ℕ) (vars next ix : List ℤ) : Type 0 where
+    pub says : (b : Block) → Stands t depth b at
+        → (b′ : Block) × Stands t depth b′ here × (exec env (take depth ix₀) b (frame on vars₀ next₀) ≡ exec env (take depth ix₀) b′ (frame on vars next))
+    pub kept : take depth ix ≡ take depth ix₀
+
+  pub progress-start : Progress at vars₀ next₀ ix₀
+  progress-start = record { says = λ b s. (b, s, refl); kept = refl }
+
+  module _ {here : ℕ} {vars next ix : List ℤ} (so : Progress here vars next ix) {k : ℕ} (ek : k ≡ t .kind here) {b : Bool} (eb : b ≡ begins k) where
+    begun : not b ≡ false → begins (t .kind here) ≡ true
+    begun y = sym (eb ∙ ap begins ek) ∙ not-false b y
+
+    pub block-ends : not b ≡ true → RunsBlock t env depth at vars₀ next₀ ix₀ vars next ix On
+    unfolding exec
+    block-ends y = record {
+      says = λ b′ s.
+          let p = so .says b′ s in
+          let e : p .0 ≡ empty = none-stands t depth here (sym (eb ∙ ap begins ek) ∙ not-true b y) (p .0) (p .1) in
+          sym (p .2 ∙ ap (λ (q : Block). exec env (take depth ix₀) q (frame on vars next)) e);
+      kept = so .kept;
+    }
+
+    module _ (y : not b ≡ false) {vars′ next′ ix′ : List ℤ} {r : Going} (run : RunsStatement t env depth here vars next ix vars′ next′ ix′ r) where
+      -- after the statement
+      after : (b′ : Block) → Stands t depth b′ at
+          → (q : Block) × Stands t depth q (t .past here) × (exec env (take depth ix₀) b′ (frame on vars₀ next₀) ≡ onward (left r vars′ next′) (exec env (take depth ix₀) q))
+      after b′ s =
+          let p = so .says b′ s in
+          let one = run .says (begun y) (p .0) (p .1) in (
+            rest-of (p .0),
+            rest-stands t depth here (begun y) (p .0) (p .1),
+            p .2 ∙ subst (λ (vs : List ℤ). exec env vs (p .0) (frame on vars next) ≡ onward (left r vars′ next′) (exec env vs (rest-of (p .0)))) (so .kept) one,
+          )
+
+      pub block-more : r ≡ On → {l : ℕ} → l ≡ t .past here → Progress l vars′ next′ ix′
+      block-more e {l} el = record {
+        says = λ b′ s.
+            let p = after b′ s in (
+              p .0,
+              subst (Stands t depth (p .0)) (sym el) (p .1),
+              p .2 ∙ ap (λ (x : Going). onward (left x vars′ next′) (exec env (take depth ix₀) (p .0))) e,
+            );
+        kept = run .kept ∙ so .kept;
+      }
+
+      pub block-leaves : r ≡ Leaving → RunsBlock t env depth at vars₀ next₀ ix₀ vars′ next′ ix′ r
+      block-leaves e = record {
+        says = λ b′ s.
+            let p = after b′ s in
+            ap (λ (x : Going). left x vars′ next′) e ∙ sym (p .2 ∙ ap (λ (x : Going). onward (left x vars′ next′) (exec env (take depth ix₀) (p .0))) e);
+        kept = run .kept ∙ so .kept;
+      }
+
+      pub block-faults : {a p : ℕ} → r ≡ Faulted a p → RunsBlock t env depth at vars₀ next₀ ix₀ vars′ next′ ix′ (Faulted a p)
+      block-faults {a} {p} e = record {
+        says = λ b′ s.
+            let q = after b′ s in
+            sym (q .2 ∙ ap (λ (x : Going). onward (left x vars′ next′) (exec env (take depth ix₀) (q .0))) e);
+        kept = run .kept ∙ so .kept;
+      }
+
+-- ---- a loop
+
+-- what the numbers that are read at a `forall` say of any loop that stands there
+pub record Known (t : Table) (depth at body : ℕ) (low : ℤ) (count : ℕ) : Type 0 where
+  pub says : (values : Range) (d : Block) → LoopAt t depth values (λ i. Stands t (depth + 1) d i) at
+      → (span-of (values .low) (values .high) ≡ count) × (values .low ≡ low) × Stands t (depth + 1) d body
+  pub few : count ≤ 4096
+  pub deep : depth < 16
+
+module _ (t : Table) (depth at : ℕ) {wl wh : ℕ} (el : wl ≡ t .word2 (at + 1)) (eh : wh ≡ t .word3 (at + 1)) {vl vh : Value} (ql : vl ≡ value (decode-of wl)) (qh : vh ≡ value (decode-of wh))
+    {count : ℕ} (ec : count ≡ span-of (vl .n) (vh .n)) where
+  span-is : (values : Range) → values ≡ range-in t (at + 1) → (span-of (values .low) (values .high) ≡ count) × (values .low ≡ vl .n)
+  span-is values e =
+      let l : values .low ≡ vl .n = ap (λ (x : Range). x .low) e ∙ ap decode-of (sym el) ∙ ap (λ (x : Value). x .n) (sym ql) in
+      let h : values .high ≡ vh .n = ap (λ (x : Range). x .high) e ∙ ap decode-of (sym eh) ∙ ap (λ (x : Value). x .n) (sym qh) in
+      (ap₂ span-of l h ∙ sym ec, l)
+
+  pub known : {body : ℕ} → body ≡ t .inner at → count ≤ 4096 → depth < 16 → Known t depth at body (vl .n) count
+  known {body} eb few deep = record {
+    says = λ values d x. (span-is values (x .values) .0, span-is values (x .values) .1, subst (Stands t (depth + 1) d) (sym eb) (x .part));
+    few = few;
+    deep = deep;
+  }
+
+  pub loop-many : (env : Env) (vars next ix : List ℤ) → 4096 < count → RunsLoop t env depth at vars next ix vars next ix On
+  loop-many env vars next ix l = record { says = λ values d x. absurd (let e = span-is values (x .values) .0 in let f = x .few in omega arith); kept = refl }
+
+pub loop-deep : (t : Table) (env : Env) (depth at : ℕ) (vars next ix : List ℤ) → 16 ≤ depth → RunsLoop t env depth at vars next ix vars next ix On
+loop-deep t env depth at vars next ix l = record { says = λ values d x. absurd (let f = x .room in omega arith); kept = refl }
+
+take-less : (d : ℕ) (xs ys : List ℤ) → take (suc d) xs ≡ take (suc d) ys → take d xs ≡ take d ys
+take-less d xs ys e = sym (cut d xs) ∙ ap (take d) e ∙ cut d ys
+  where
+    cut : (d : ℕ) (zs : List ℤ) → take d (take (suc d) zs) ≡ take d zs
+    cut zero zs = refl
+    cut (suc d) [] = refl
+    cut (suc d) (z ∷ zs) = ap (λ (l : List ℤ). z ∷ l) (cut d zs)
+
+module _ (t : Table) (env : Env) (depth at body : ℕ) (low : ℤ) (count : ℕ) (vars₀ next₀ ix₀ : List ℤ) where
+  -- all turns, and those that are left after the first k
+  abbrev turns : Block → ℕ → ℤ → List ℤ → List ℤ → Frame
+  turns d n v vars next = each (body-of env (take depth ix₀) d) n v (frame on vars next)
+
+  -- the first k turns are done
+  pub record Turns (k : ℕ) (vars next ix : List ℤ) : Type 0 where
+    pub says : (d : Block) → Stands t (depth + 1) d body → turns d count low vars₀ next₀ ≡ turns d (count - k) (low +ℤ pos k) vars next
+    pub kept : take depth ix ≡ take depth ix₀
+    pub turn : k ≤ count
+    pub numbers : Known t depth at body low count
+
+  pub turns-start : Known t depth at body low count → Turns 0 vars₀ next₀ ix₀
+  turns-start kn = record {
+    says = λ d s. ap₂ (λ (n : ℕ) (z : ℤ). turns d n z vars₀ next₀) (let e : count ≡ count - 0 = omega arith in e) (sym (+ℤ-idr low));
+    kept = refl;
+    turn = omega arith;
+    numbers = kn;
+  }
+
+  module _ {k : ℕ} {vars next ix : List ℤ} (so : Turns k vars next ix) where
+    module _ (l : k < count) (room : depth < length ix) {ix₁ : List ℤ} (e₁ : ix₁ ≡ set ix depth (low +ℤ pos k)) {vars′ next′ ix′ : List ℤ} {r : Going}
+        (run : RunsBlock t env (depth + 1) body vars next ix₁ vars′ next′ ix′ r) where
+      pushed : take (depth + 1) ix₁ ≡ take depth ix₀ ++ ((low +ℤ pos k) ∷ [])
+      pushed =
+          let s : depth + 1 ≡ suc depth = omega arith in
+          ap (λ (n : ℕ). take n ix₁) s ∙ ap (take (suc depth)) e₁
+          ∙ take-suc (set ix depth (low +ℤ pos k)) depth (pos 0) (subst (λ (n : ℕ). depth < n) (sym (length-set ix depth (low +ℤ pos k))) room)
+          ∙ ap₂ (λ (xs : List ℤ) (z : ℤ). xs ++ (z ∷ [])) (take-set-le depth ix depth (low +ℤ pos k) (omega arith) ∙ so .kept) (getD-set-same ix depth (low +ℤ pos k) (pos 0) room)
+
+      kept-on : take depth ix′ ≡ take depth ix₀
+      kept-on =
+          let s : depth + 1 ≡ suc depth = omega arith in
+          take-less depth ix′ ix₁ (subst (λ (n : ℕ). take n ix′ ≡ take n ix₁) s (run .kept))
+          ∙ ap (take depth) e₁ ∙ take-set-le depth ix depth (low +ℤ pos k) (omega arith) ∙ so .kept
+
+      -- the turn that is done now
+      turned-now : (d : Block) → Stands t (depth + 1) d body
+          → turns d count low vars₀ next₀ ≡ turned (flow-of r) (left r vars′ next′) (each (body-of env (take depth ix₀) d) (count - (k + 1)) (low +ℤ pos k +ℤ pos 1))
+      unfolding each
+      turned-now d s =
+          let n : count - k ≡ suc (count - (k + 1)) = omega arith in
+          so .says d s ∙ ap (λ (m : ℕ). turns d m (low +ℤ pos k) vars next) n
+          ∙ ap (λ (F : Frame). turned (F .flow) F (each (body-of env (take depth ix₀) d) (count - (k + 1)) (low +ℤ pos k +ℤ pos 1)))
+          (sym (run .says d s ∙ ap (λ (vs : List ℤ). exec env vs d (frame on vars next)) pushed))
+
+      by-turn : (d : Block) {g : Going} → r ≡ g
+          → turned (flow-of r) (left r vars′ next′) (each (body-of env (take depth ix₀) d) (count - (k + 1)) (low +ℤ pos k +ℤ pos 1))
+          ≡ turned (flow-of g) (left g vars′ next′) (each (body-of env (take depth ix₀) d) (count - (k + 1)) (low +ℤ pos k +ℤ pos 1))
+      by-turn d e = ap (λ (x : Going). turned (flow-of x) (left x vars′ next′) (each (body-of env (take depth ix₀) d) (count - (k + 1)) (low +ℤ pos k +ℤ pos 1))) e
+
+      pub turns-more : r ≡ On → Turns (k + 1) vars′ next′ ix′
+      turns-more e = record {
+        says = λ d s. turned-now d s ∙ by-turn d e ∙ ap (λ (z : ℤ). turns d (count - (k + 1)) z vars′ next′) (+ℤ-assoc low (pos k) (pos 1));
+        kept = kept-on;
+        turn = omega arith;
+        numbers = so .numbers;
+      }
+
+      pub loop-leaves : r ≡ Leaving → RunsLoop t env depth at vars₀ next₀ ix₀ vars′ next′ ix′ On
+      loop-leaves e = record {
+        says = λ values d x.
+            let kn = so .numbers .says values d x in
+            sym (ap₂ (λ (n : ℕ) (z : ℤ). turns d n z vars₀ next₀) (kn .0) (kn .1) ∙ turned-now d (kn .2) ∙ by-turn d e);
+        kept = kept-on;
+      }
+
+      pub loop-faults : {a p : ℕ} → r ≡ Faulted a p → RunsLoop t env depth at vars₀ next₀ ix₀ vars′ next′ ix′ (Faulted a p)
+      loop-faults {a} {p} e = record {
+        says = λ values d x.
+            let kn = so .numbers .says values d x in
+            sym (ap₂ (λ (n : ℕ) (z : ℤ). turns d n z vars₀ next₀) (kn .0) (kn .1) ∙ turned-now d (kn .2) ∙ by-turn d e);
+        kept = kept-on;
+      }
+
+    pub loop-done : count ≤ k → RunsLoop t env depth at vars₀ next₀ ix₀ vars next ix On
+    unfolding each
+    loop-done l = record {
+      says = λ values d x.
+          let kn = so .numbers .says values d x in
+          let z : count - k ≡ 0 = omega arith in
+          sym (ap₂ (λ (n : ℕ) (z : ℤ). turns d n z vars₀ next₀) (kn .0) (kn .1) ∙ so .says d (kn .2) ∙ ap (λ (n : ℕ). turns d n (low +ℤ pos k) vars next) z);
+      kept = so .kept;
+    }
+
+-- ---- a run from memory that is as it was at first, and one loop deeper
+
+pub choice-from : {t : Table} {env : Env} {depth at : ℕ} {a a₀ b b₀ i i₀ a′ b′ i′ : List ℤ} {r : Going} → a ≡ a₀ → b ≡ b₀ → i ≡ i₀
+    → RunsChoice t env depth at a b i a′ b′ i′ r → RunsChoice t env depth at a₀ b₀ i₀ a′ b′ i′ r
+choice-from {t} {env} {depth} {at} {a} {a₀} {b} {b₀} {i} {i₀} {a′} {b′} {i′} {r} e f g x =
+    subst (λ (z : List ℤ). RunsChoice t env depth at a₀ b₀ z a′ b′ i′ r) g
+    (subst (λ (z : List ℤ). RunsChoice t env depth at a₀ z i a′ b′ i′ r) f (subst (λ (z : List ℤ). RunsChoice t env depth at z b i a′ b′ i′ r) e x))
+
+pub deeper : {words sizes place : List ℕ} {grid : List ℤ} {site : Site} {depth : ℕ} → Ready words sizes place grid site depth → depth < 16 → Ready words sizes place grid site (depth + 1)
+deeper r l = record {
+  table = r .table;
+  tokens = r .tokens;
+  base = r .base;
+  fields = r .fields;
+  slots = r .slots;
+  time = r .time;
+  dims = r .dims;
+  positive = r .positive;
+  cells = r .cells;
+  cell = r .cell;
+  own = r .own;
+  entries = r .entries;
+  loops = omega arith;
+}

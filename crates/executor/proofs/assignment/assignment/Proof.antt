@@ -1,0 +1,91 @@
+use Prim.Native.Nat.{_-_}
+use mathlib.Core.Path.{_≡_, refl, ap}
+use native.Mathlib.Omega.{arith}
+use Rattle.evaluator.proofs.TableLaws.{token, link-bounds}
+use lib.ListN.{take, length}
+use borrow.Author.Needs.{needs}
+use Rattle.evaluator.specs.Working.{site-table, env-of}
+use Rattle.executor.proofs.AssignmentLaws.{Tried, tried-start, assigns-none, assigns-chosen, assigns-fault, tried-more, assigns-from}
+use Rattle.executor.proofs.assignment.assignment.Statement.{statement}
+use Rattle.executor.proofs.assignment.assignment.Tie as tie
+
+abbrev Inv-loop : tie.InvT-loop
+Inv-loop words sizes place grid vars₀ index next₀ site depth at n here₀ vars next here = Tried (site-table words sizes site) (env-of words sizes grid site) (take depth index) at (take (site .slots) vars) next here × (vars ≡ vars₀) × (next ≡ next₀) × (length next ≡ length next₀)
+
+abbrev μ-loop : tie.MeasureT-loop
+μ-loop words sizes place grid vars₀ index next₀ site depth at n here₀ vars next here = site .tokens - here
+
+clause-of-requires : tie.Need-clause-of-requires Inv-loop μ-loop
+clause-of-requires c κs = search needs
+
+loop-holds : tie.Need-loop-holds Inv-loop μ-loop
+loop-holds c = (tried-start _ _ _ _ _ _ (c .clause-of .ensures), refl, refl, refl)
+
+word-at-requires : tie.Need-word-at-requires Inv-loop μ-loop
+word-at-requires c κs = search needs
+
+guard-requires : tie.Need-guard-requires Inv-loop μ-loop
+guard-requires c κs = ((c .before .before .before .before .before .before .before .before .pre .0), token _ _ _ (c .before .before .word-at .ensures) (omega arith))
+
+enum-told : tie.Need-enum-told Inv-loop μ-loop
+enum-told c = search needs
+
+assign-one-requires : tie.Need-assign-one-requires Inv-loop μ-loop
+assign-one-requires c κs = ((c .before .before .before .before .before .before .before .before .before .before .before .before .before .pre .0), token _ _ _ (c .before .before .before .before .before .before .before .word-at .ensures) (omega arith))
+
+same-length : tie.Need-same-length Inv-loop μ-loop
+same-length c = search needs
+
+returns : tie.Need-returns Inv-loop μ-loop
+returns c = assigns-from (ap (take (c .before .before .before .before .before .before .before .before .before .before .before .before .before .before .before .args .site .slots)) (c .before .before .before .before .before .before .before .before .before .before .loop .inv .1)) (c .before .before .before .before .before .before .before .before .before .before .loop .inv .2) (assigns-chosen _ _ _ _ _ _ (c .before .before .before .before .before .before .before .before .before .before .loop .inv .0) (c .before .before .before .before .before .before .before .before .before .word-at .ensures) (c .before .before .before .before .before .before .before .before .if1 .taken) (c .before .before .before .before .before .before .guard .ensures) (c .before .before .before .before .enum-told .given .1) (c .before .assign-one .ensures))
+
+enum-told-2 : tie.Need-enum-told-2 Inv-loop μ-loop
+enum-told-2 c = search needs
+
+link-at-requires : tie.Need-link-at-requires Inv-loop μ-loop
+link-at-requires c κs = search needs
+
+loop-less : tie.Need-loop-less Inv-loop μ-loop
+loop-less c = omega (arith, link-bounds _ _ _ (c .link-at .ensures) (token _ _ _ (c .before .before .before .before .before .before .word-at .ensures) (omega arith)))
+
+loop-again : tie.Need-loop-again Inv-loop μ-loop
+loop-again c = (tried-more _ _ _ _ _ _ (c .before .before .before .before .before .before .before .loop .inv .0) (c .before .before .before .before .before .before .word-at .ensures) (c .before .before .before .before .before .if1 .taken) (c .before .before .before .guard .ensures) (c .before .enum-told2 .given .1) (c .link-at .ensures), (c .before .before .before .before .before .before .before .loop .inv .1), (c .before .before .before .before .before .before .before .loop .inv .2), (c .before .before .before .before .before .before .before .loop .inv .3))
+
+enum-known-chosen : tie.Need-enum-known-chosen Inv-loop μ-loop
+enum-known-chosen c = search needs
+
+same-length-2 : tie.Need-same-length-2 Inv-loop μ-loop
+same-length-2 c = search needs
+
+returns-2 : tie.Need-returns-2 Inv-loop μ-loop
+returns-2 c = assigns-from (ap (take (c .before .before .before .before .before .before .before .before .before .before .before .before .args .site .slots)) (c .before .before .before .before .before .before .before .loop .inv .1)) (c .before .before .before .before .before .before .before .loop .inv .2) (assigns-fault _ _ _ _ _ _ (c .before .before .before .before .before .before .before .loop .inv .0) (c .before .before .before .before .before .before .word-at .ensures) (c .before .before .before .before .before .if1 .taken) (c .before .before .before .guard .ensures) (c .before .chosen .given .1))
+
+same-length-3 : tie.Need-same-length-3 Inv-loop μ-loop
+same-length-3 c = search needs
+
+returns-3 : tie.Need-returns-3 Inv-loop μ-loop
+returns-3 c = assigns-from (ap (take (c .before .before .before .before .before .before .before .args .site .slots)) (c .before .before .loop .inv .1)) (c .before .before .loop .inv .2) (assigns-none _ _ _ _ _ _ (c .before .before .loop .inv .0) (c .before .word-at .ensures) (c .if1 .left))
+
+pub assignment-spec : {M : Type 1} → statement M
+assignment-spec =
+    tie.close
+    (tie.spec
+    Inv-loop
+    μ-loop
+    clause-of-requires
+    loop-holds
+    word-at-requires
+    guard-requires
+    enum-told
+    assign-one-requires
+    same-length
+    returns
+    enum-told-2
+    link-at-requires
+    loop-less
+    loop-again
+    enum-known-chosen
+    same-length-2
+    returns-2
+    same-length-3
+    returns-3)

@@ -1,0 +1,51 @@
+use native.Mathlib.Omega.{arith}
+use Rattle.evaluator.proofs.TableLaws.{link-bounds}
+use Rattle.executor.proofs.AssignmentLaws.{guard-none, guard-holds, guard-fails, guard-fault}
+use borrow.Author.Needs.{needs}
+use Rattle.executor.proofs.assignment.guard.Statement.{statement}
+use Rattle.executor.proofs.assignment.guard.Tie as tie
+
+word-at-requires : tie.Need-word-at-requires
+word-at-requires c κs = search needs
+
+returns : tie.Need-returns
+returns c = guard-none _ _ _ _ _ (c .before .word-at .ensures) (c .if1 .taken)
+
+link-at-requires : tie.Need-link-at-requires
+link-at-requires c κs = search needs
+
+expression-requires : tie.Need-expression-requires
+expression-requires c κs = ((c .before .before .before .before .before .before .pre .0), omega arith, link-bounds _ _ _ (c .link-at .ensures) (c .before .before .before .before .before .before .pre .1) .1)
+
+enum-known-told : tie.Need-enum-known-told
+enum-known-told c = search needs
+
+is-true-requires : tie.Need-is-true-requires
+is-true-requires c κs = search needs
+
+returns-2 : tie.Need-returns-2
+returns-2 c = guard-holds _ _ _ _ _ (c .before .before .before .before .before .before .before .before .word-at .ensures) (c .before .before .before .before .before .before .before .if1 .left) (c .before .before .before .before .before .before .link-at .ensures) (c .before .before .before .before .before .expression .ensures) (c .before .before .before .told .given .1) (c .before .is-true .ensures) (c .if2 .taken)
+
+enum-known-told-2 : tie.Need-enum-known-told-2
+enum-known-told-2 c = search needs
+
+returns-3 : tie.Need-returns-3
+returns-3 c = guard-fails _ _ _ _ _ (c .before .before .before .before .before .before .before .before .word-at .ensures) (c .before .before .before .before .before .before .before .if1 .left) (c .before .before .before .before .before .before .link-at .ensures) (c .before .before .before .before .before .expression .ensures) (c .before .before .before .told .given .1) (c .before .is-true .ensures) (c .if2 .left)
+
+returns-4 : tie.Need-returns-4
+returns-4 c = guard-fault _ _ _ _ _ (c .before .before .before .before .before .before .word-at .ensures) (c .before .before .before .before .before .if1 .left) (c .before .before .before .before .link-at .ensures) (c .before .before .before .expression .ensures) (c .before .told2 .given .1)
+
+pub guard-spec : {M : Type 1} → statement M
+guard-spec =
+    tie.close
+    (tie.spec
+    word-at-requires
+    returns
+    link-at-requires
+    expression-requires
+    enum-known-told
+    is-true-requires
+    returns-2
+    enum-known-told-2
+    returns-3
+    returns-4)

@@ -1,0 +1,22 @@
+use mathlib.Core.Path.{_≡_}
+use mir.Val.{toZ, ofZ}
+use mir.Syntax.{w32}
+use Rattle.executor.proofs.AssignmentLaws.{front-set, front-same}
+use borrow.Author.Needs.{needs}
+use Rattle.executor.proofs.assignment.put_variable.Statement.{statement}
+use Rattle.executor.proofs.assignment.put_variable.Tie as tie
+
+mul-n : tie.Need-mul-n
+mul-n c = search needs
+
+element-set-from-n : tie.Need-element-set-from-n
+element-set-from-n c = search needs
+
+returns : tie.Need-returns
+returns c = let e : toZ w32 (ofZ w32 (c .before .before .args .v .n)) ≡ (c .before .before .args .v .n) = search needs in rw e (front-set (c .before .before .args .slots) (c .before .before .args .vars .now) _ _ (c .before .if1 .taken))
+
+returns-2 : tie.Need-returns-2
+returns-2 c = front-same (c .before .args .slots) (c .before .args .vars .now) _ _ (c .if1 .left)
+
+pub put-variable-spec : {M : Type 1} → statement M
+put-variable-spec = tie.close (tie.spec mul-n element-set-from-n returns returns-2)

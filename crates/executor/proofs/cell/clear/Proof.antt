@@ -1,0 +1,54 @@
+use Prim.Native.Nat.{_≤_, _-_}
+use mathlib.Core.Path.{_≡_, refl, _∙_}
+use lib.ListN.{length, take, replicate, length-set}
+use lib.IntN.{pos}
+use native.Mathlib.Omega.{arith}
+use borrow.Author.Needs.{needs}
+use Rattle.executor.proofs.CellLaws.{cleared}
+use Rattle.executor.proofs.cell.clear.Statement.{statement}
+use Rattle.executor.proofs.cell.clear.Tie as tie
+
+abbrev Inv-loop : tie.InvT-loop
+Inv-loop vars₀ slots k₀ vars k = (k ≤ slots) × (take k vars ≡ replicate k (pos 0)) × (length vars ≡ length vars₀)
+
+abbrev μ-loop : tie.MeasureT-loop
+μ-loop vars₀ slots k₀ vars k = slots - k
+
+loop-holds : tie.Need-loop-holds Inv-loop μ-loop
+loop-holds c = (omega arith, refl, refl)
+
+mul-vars : tie.Need-mul-vars Inv-loop μ-loop
+mul-vars c = search needs
+
+slice-set-of-vars : tie.Need-slice-set-of-vars Inv-loop μ-loop
+slice-set-of-vars c = search needs
+
+add-k : tie.Need-add-k Inv-loop μ-loop
+add-k c = search needs
+
+loop-less : tie.Need-loop-less Inv-loop μ-loop
+loop-less c = search needs
+
+loop-again : tie.Need-loop-again Inv-loop μ-loop
+loop-again c = (omega arith, cleared (c .before .loop .vars) (c .before .loop .k) (c .before .loop .inv .1) (omega arith) refl, length-set (c .before .loop .vars) _ _ ∙ (c .before .loop .inv .2))
+
+same-length : tie.Need-same-length Inv-loop μ-loop
+same-length c = search needs
+
+returns : tie.Need-returns Inv-loop μ-loop
+returns c = let e : (c .before .before .args .slots) ≡ (c .before .loop .k) = omega arith in rw e (c .before .loop .inv .1)
+
+pub clear-spec : {M : Type 1} → statement M
+clear-spec =
+    tie.close
+    (tie.spec
+    Inv-loop
+    μ-loop
+    loop-holds
+    mul-vars
+    slice-set-of-vars
+    add-k
+    loop-less
+    loop-again
+    same-length
+    returns)

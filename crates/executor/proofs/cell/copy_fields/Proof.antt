@@ -1,0 +1,79 @@
+use Prim.Native.Nat.{_≤_, _-_, _+_, _*_, suc}
+use mathlib.Core.Path.{subst}
+use lib.ListN.{length, getD, set}
+use lib.IntN.{pos}
+use mir.Val.{toZ, ofZ}
+use mir.Syntax.{w32}
+use Prim.Native.Nat.{ℕ}
+use Rattle.automaton.specs.Grid.{cell-of}
+use Prim.Native.Nat.{_≤_, _-_, _+_, _*_}
+use mathlib.Core.Path.{_≡_, refl, ap}
+use lib.ListN.{length, getD}
+use lib.IntN.{pos}
+use native.Mathlib.Omega.{arith}
+use borrow.Author.Needs.{needs}
+use Rattle.automaton.specs.Listed.{Made, made-start, made-go, made-done}
+use Rattle.executor.proofs.cell.copy_fields.Statement.{statement}
+use Rattle.executor.proofs.cell.copy_fields.Tie as tie
+
+abbrev Inv-loop : tie.InvT-loop
+Inv-loop grid cell next₀ fields from k₀ next k = (k ≤ fields) × Made (λ i. getD grid (cell * length next₀ + i) (pos 0)) (pos 0) (length next₀) next k × (fields ≡ length next₀) × (from ≡ cell * length next₀)
+
+abbrev μ-loop : tie.MeasureT-loop
+μ-loop grid cell next₀ fields from k₀ next k = fields - k
+
+mul-from : tie.Need-mul-from Inv-loop μ-loop
+mul-from c = search needs
+
+loop-holds : tie.Need-loop-holds Inv-loop μ-loop
+loop-holds c = (omega arith, made-start _ _ _ _ refl, refl, refl)
+
+add-n : tie.Need-add-n Inv-loop μ-loop
+add-n c = search needs
+
+mul-n : tie.Need-mul-n Inv-loop μ-loop
+mul-n c = search needs
+
+shared-slice-copy-out-n : tie.Need-shared-slice-copy-out-n Inv-loop μ-loop
+shared-slice-copy-out-n c = search needs
+
+mul-n-2 : tie.Need-mul-n-2 Inv-loop μ-loop
+mul-n-2 c = search needs
+
+slice-set-from-n : tie.Need-slice-set-from-n Inv-loop μ-loop
+slice-set-from-n c = search needs
+
+add-k : tie.Need-add-k Inv-loop μ-loop
+add-k c = search needs
+
+loop-less : tie.Need-loop-less Inv-loop μ-loop
+loop-less c = search needs
+
+loop-again : tie.Need-loop-again Inv-loop μ-loop
+loop-again c = let s : (c .before .before .loop .k) + 1 ≡ suc (c .before .before .loop .k) = omega arith in let e : toZ w32 (ofZ w32 (getD (c .before .before .before .args .grid .now) ((c .before .before .before .args .cell) * length (c .before .before .before .args .next .now) + (c .before .before .loop .k)) (pos 0))) ≡ getD (c .before .before .before .args .grid .now) ((c .before .before .before .args .cell) * length (c .before .before .before .args .next .now) + (c .before .before .loop .k)) (pos 0) = search needs in (omega arith, rw s (made-go (λ i. getD (c .before .before .before .args .grid .now) ((c .before .before .before .args .cell) * length (c .before .before .before .args .next .now) + i) (pos 0)) (pos 0) (length (c .before .before .before .args .next .now)) (c .before .before .loop .next) _ (c .before .before .loop .k) (c .before .before .loop .inv .1) (omega arith) (ap (set (c .before .before .loop .next) (c .before .before .loop .k)) e)), (c .before .before .loop .inv .2), (c .before .before .loop .inv .3))
+
+same-length : tie.Need-same-length Inv-loop μ-loop
+same-length c = search needs
+
+returns : tie.Need-returns Inv-loop μ-loop
+unfolding cell-of
+returns c = let e : (c .before .loop .k) ≡ length (c .before .before .args .next .now) = omega arith in made-done (λ i. getD (c .before .before .args .grid .now) ((c .before .before .args .cell) * length (c .before .before .args .next .now) + i) (pos 0)) (pos 0) (length (c .before .before .args .next .now)) (c .before .loop .next) (subst (λ (i : ℕ). Made (λ i. getD (c .before .before .args .grid .now) ((c .before .before .args .cell) * length (c .before .before .args .next .now) + i) (pos 0)) (pos 0) (length (c .before .before .args .next .now)) (c .before .loop .next) i) e (c .before .loop .inv .1))
+
+pub copy-fields-spec : {M : Type 1} → statement M
+copy-fields-spec =
+    tie.close
+    (tie.spec
+    Inv-loop
+    μ-loop
+    mul-from
+    loop-holds
+    add-n
+    mul-n
+    shared-slice-copy-out-n
+    mul-n-2
+    slice-set-from-n
+    add-k
+    loop-less
+    loop-again
+    same-length
+    returns)

@@ -1,0 +1,254 @@
+// Assignments: clauses are tried in order, and only the chosen expression is worked out.
+ghost use mathlib.Core.Path.{_≡_};
+ghost use Prim.Native.Nat.{_*_, _<_, _≤_};
+ghost use lib.ListN.{length, set, take};
+ghost use Rattle.value.specs.Worked.{truth};
+ghost use Rattle.program.specs.Syntax.{no-range};
+ghost use Rattle.evaluator.specs.Evaluation.{in-field};
+ghost use Rattle.evaluator.specs.Stands.{first-clause};
+ghost use Rattle.evaluator.specs.Working.{site-table, env-of, Ready};
+ghost use Rattle.executor.specs.Running.{field-range, Stores, AssignsOne, Guards, Assigns};
+use crate::Going;
+use evaluator::Site;
+use evaluator::Told;
+use evaluator::expression::expression;
+use evaluator::table::link_at;
+use evaluator::table::place_at;
+use evaluator::table::word_at;
+use program::kind;
+use value::Value;
+
+// Whether a value counts as true: it is not 0.
+pub fn is_true(v: Value) -> bool
+    ensures { λ r. ⌜ r ≡ truth (v .n) ⌝ }
+{
+    v.n != 0
+}
+
+// Stores a variable's value, if there are so many slots.
+fn put_variable(vars: &mut [i32; 256], slots: usize, which: usize, v: Value)
+    requires { ⌜ slots ≤ 256 ⌝ }
+    ensures { λ r. ⌜ take slots (now (vars .exit)) ≡ set (take slots (now (vars .entry))) which (v .n) ⌝ }
+{
+    if which < slots {
+        let n = v.n;
+        vars[which] = n;
+    }
+}
+
+// Stores a field's value, if there is such a field.
+fn put_field(next: &mut [i32], which: usize, v: Value)
+    ensures { λ r. ⌜ now (next .exit) ≡ set (now (next .entry)) which (v .n) ⌝ }
+{
+    if which < next.len() {
+        let n = v.n;
+        next[which] = n;
+    }
+}
+
+// Whether a value is in the range of a field; that of no field is 0 alone.
+fn fits_field(
+    words: &[u32],
+    sizes: &[u32],
+    place: &[u32],
+    grid: &[i32],
+    site: Site,
+    depth: usize,
+    which: usize,
+    v: Value,
+) -> bool
+    requires { ⌜ Ready (now words) (now sizes) (now place) (now grid) site depth ⌝ }
+    ensures { λ r. ⌜ r ≡ in-field (field-range (env-of (now (words .entry)) (now (sizes .entry)) (now (grid .entry)) site) which) (v .n) ⌝ }
+{
+    if which < site.fields {
+        let n = site.tokens;
+        let at = site.base + which;
+        let low = Value::decode(word_at(words, n, 2, at));
+        return v.within(low, Value::decode(word_at(words, n, 3, at)));
+    }
+    v.within(Value { n: 0 }, Value { n: 0 })
+}
+
+// Stores a value in the target of the assignment at a position; `here` is the position of the `:=` before the value.
+fn put(
+    words: &[u32],
+    sizes: &[u32],
+    place: &[u32],
+    grid: &[i32],
+    vars: &mut [i32; 256],
+    next: &mut [i32],
+    site: Site,
+    depth: usize,
+    at: usize,
+    here: usize,
+    v: Value,
+) -> Going
+    requires { ⌜ Ready (now words) (now sizes) (now place) (now grid) site depth ⌝ }
+    ensures { λ r. ⌜ Stores (site-table (now (words .entry)) (now (sizes .entry)) site) (env-of (now (words .entry)) (now (sizes .entry)) (now (grid .entry)) site) at here (v .n) (take (site .slots) (now (vars .entry))) (now (next .entry)) (take (site .slots) (now (vars .exit))) (now (next .exit)) r ⌝ }
+{
+    let n = site.tokens;
+    let which = word_at(words, n, 2, at) as usize;
+    if word_at(words, n, 0, at) == kind::CELL {
+        if fits_field(words, sizes, place, grid, site, depth, which, v) {
+            put_field(next, which, v);
+            return Going::On;
+        }
+        return Going::Faulted(33, place_at(words, n, here));
+    }
+    put_variable(vars, site.slots, which, v);
+    Going::On
+}
+
+// The clause at a `:=`, for the assignment at a position: its expression is worked out and stored.
+fn assign_one(
+    words: &[u32],
+    sizes: &[u32],
+    place: &[u32],
+    grid: &[i32],
+    vars: &mut [i32; 256],
+    index: &[i32; 16],
+    next: &mut [i32],
+    site: Site,
+    depth: usize,
+    at: usize,
+    here: usize,
+) -> Going
+    requires { ⌜ Ready (now words) (now sizes) (now place) (now grid) site depth × (here < site .tokens) ⌝ }
+    ensures { λ r. ⌜ AssignsOne (site-table (now (words .entry)) (now (sizes .entry)) site) (env-of (now (words .entry)) (now (sizes .entry)) (now (grid .entry)) site) (take depth (now (index .entry))) at here (take (site .slots) (now (vars .entry))) (now (next .entry)) (take (site .slots) (now (vars .exit))) (now (next .exit)) r ⌝ }
+{
+    let told = expression(
+        words,
+        sizes,
+        place,
+        grid,
+        vars,
+        index,
+        site,
+        depth,
+        here + 1,
+        1,
+    );
+    match told {
+        Told::Found(v, _) => put(
+            words,
+            sizes,
+            place,
+            grid,
+            vars,
+            next,
+            site,
+            depth,
+            at,
+            here,
+            v,
+        ),
+        Told::Failed(k, p) => Going::Faulted(k, p),
+    }
+}
+
+// What the condition of a clause or an arm says.
+pub enum Verdict {
+    Holds,
+    Fails,
+    Faulted(u32, u32),
+}
+
+// The condition of the clause at a `:=`; a clause without one is chosen.
+fn guard(
+    words: &[u32],
+    sizes: &[u32],
+    place: &[u32],
+    grid: &[i32],
+    vars: &[i32; 256],
+    index: &[i32; 16],
+    site: Site,
+    depth: usize,
+    here: usize,
+) -> Verdict
+    requires { ⌜ Ready (now words) (now sizes) (now place) (now grid) site depth × (here < site .tokens) ⌝ }
+    ensures { λ r. ⌜ Guards (site-table (now (words .entry)) (now (sizes .entry)) site) (env-of (now (words .entry)) (now (sizes .entry)) (now (grid .entry)) site) (take depth (now (index .entry))) here (take (site .slots) (now (vars .entry))) r ⌝ }
+{
+    let n = site.tokens;
+    if word_at(words, n, 2, here) == 0 {
+        return Verdict::Holds;
+    }
+    let told = expression(
+        words,
+        sizes,
+        place,
+        grid,
+        vars,
+        index,
+        site,
+        depth,
+        link_at(words, n, 2, here),
+        1,
+    );
+    match told {
+        Told::Found(v, _) => {
+            if is_true(v) {
+                return Verdict::Holds;
+            }
+            Verdict::Fails
+        }
+        Told::Failed(k, p) => Verdict::Faulted(k, p),
+    }
+}
+
+// The position of the first `:=` of the assignment at a position.
+fn clause_of(words: &[u32], sizes: &[u32], site: Site, at: usize) -> usize
+    requires { ⌜ (4 * site .tokens ≤ length (now words)) × (site .tokens ≤ 4096) × (at ≤ 4096) ⌝ }
+    ensures { λ r. ⌜ r ≡ first-clause (site-table (now (words .entry)) (now (sizes .entry)) site) at ⌝ }
+{
+    if word_at(words, site.tokens, 0, at + 1) == kind::DOT {
+        return at + 3;
+    }
+    at + 1
+}
+
+// The assignment at a position.
+pub fn assignment(
+    words: &[u32],
+    sizes: &[u32],
+    place: &[u32],
+    grid: &[i32],
+    vars: &mut [i32; 256],
+    index: &[i32; 16],
+    next: &mut [i32],
+    site: Site,
+    depth: usize,
+    at: usize,
+) -> Going
+    requires { ⌜ Ready (now words) (now sizes) (now place) (now grid) site depth × (at < site .tokens) ⌝ }
+    ensures { λ r. ⌜ Assigns (site-table (now (words .entry)) (now (sizes .entry)) site) (env-of (now (words .entry)) (now (sizes .entry)) (now (grid .entry)) site) (take depth (now (index .entry))) at (take (site .slots) (now (vars .entry))) (now (next .entry)) (take (site .slots) (now (vars .exit))) (now (next .exit)) r ⌝ }
+{
+    let n = site.tokens;
+    let mut here = clause_of(words, sizes, site, at);
+    while word_at(words, n, 0, here) == kind::ASSIGN {
+        let chosen = guard(words, sizes, place, grid, vars, index, site, depth, here);
+        match chosen {
+            Verdict::Holds => {
+                return assign_one(
+                    words,
+                    sizes,
+                    place,
+                    grid,
+                    vars,
+                    index,
+                    next,
+                    site,
+                    depth,
+                    at,
+                    here,
+                );
+            }
+            Verdict::Fails => {
+                here = link_at(words, n, 3, here);
+            }
+            Verdict::Faulted(k, p) => {
+                return Going::Faulted(k, p);
+            }
+        }
+    }
+    Going::On
+}

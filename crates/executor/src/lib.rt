@@ -1,0 +1,18 @@
+// Evaluating one cell, off the word table: statements.
+
+pub mod assignment;
+pub mod cell;
+pub mod statements;
+
+// How statements go on: with the next one; by leaving the innermost loop; or not at all, after a fault, by its number and place.
+pub enum Going {
+    On,
+    Leaving,
+    Faulted(u32, u32),
+}
+
+// What evaluating a cell gives: its next fields, which stand in the memory lent for them; or its first fault, by its number and place.
+pub enum Outcome {
+    Done,
+    Fault(u32, u32),
+}

@@ -1,0 +1,56 @@
+-- `token::runs::comment_end` meets its contract.
+use Prim.Native.Nat.{_-_}
+use mathlib.Core.Path.{_≡_}
+use mathlib.Core.Bool.{true}
+use lib.ListN.{length}
+use borrow.Author.Needs.{needs}
+use borrow.Author.Tests.{not-false}
+use Rattle.token.specs.Promises.{Sorts, Skips}
+use Rattle.token.proofs.Blanks.{Comments}
+use Rattle.token.proofs.runs.comment_end.Statement.{statement}
+use Rattle.token.proofs.runs.comment_end.Tie as tie
+
+abbrev Inv-loop : tie.InvT-loop
+Inv-loop source kinds at inside end₀ end = Skips inside source at end × Sorts kinds × (inside ≡ true)
+
+abbrev μ-loop : tie.MeasureT-loop
+μ-loop source kinds at inside end₀ end = length source - end
+
+returns : tie.Need-returns Inv-loop μ-loop
+returns c = search Comments
+
+loop-holds : tie.Need-loop-holds Inv-loop μ-loop
+loop-holds c = search (needs, Comments, not-false)
+
+kind-at-requires : tie.Need-kind-at-requires Inv-loop μ-loop
+kind-at-requires c κs = search needs
+
+returns-2 : tie.Need-returns-2 Inv-loop μ-loop
+returns-2 c = search needs
+
+add-end : tie.Need-add-end Inv-loop μ-loop
+add-end c = search needs
+
+loop-less : tie.Need-loop-less Inv-loop μ-loop
+loop-less c = search needs
+
+loop-again : tie.Need-loop-again Inv-loop μ-loop
+loop-again c = search (needs, Comments)
+
+returns-3 : tie.Need-returns-3 Inv-loop μ-loop
+returns-3 c = search needs
+
+pub comment-end-spec : {M : Type 1} → statement M
+comment-end-spec =
+    tie.close
+    (tie.spec
+    Inv-loop
+    μ-loop
+    returns
+    loop-holds
+    kind-at-requires
+    returns-2
+    add-end
+    loop-less
+    loop-again
+    returns-3)
