@@ -9,7 +9,7 @@ A case is one line of JSON, as `reference cases` writes it:
    "full": {"number": .., "place": .., "cell": .., "steps": .., "count": .., "grid": [..]}, "quiet_count": k}
 A run may also have "words", "names", "scratch" and "marks", the lengths of what is lent, where they are not the right ones.
 
-It copies the crates into target/definitions, adds to crate cellang a module with lists of N cases and for each list the claim that no
+It copies the crates into target/definitions, adds to crate services a module with lists of N cases and for each list the claim that no
 case fails, and checks it. A list that is refused, for a failing case or for the step limit, is checked again case by case. It prints
 the failing cases' numbers (from 0), how many cases there were and the time; its exit status is 0 only if all hold.
 """
@@ -31,7 +31,7 @@ use mathlib.Core.List.{List, [], _∷_}
 use Prim.Native.Nat.{ℕ}
 use lib.IntN.{ℤ, pos, negsuc}
 use Rattle.stepper.specs.Admission.{Request}
-use Rattle.cellang.specs.Cases.{Lent, Case, checks, runs, report, failing, holds}
+use Rattle.services.specs.Cases.{Lent, Case, checks, runs, report, failing, holds}
 
 abbrev lent : List ℕ → ℕ → ℕ → Lent
 lent source words names = record { source = source; words = words; names = names }
@@ -88,10 +88,10 @@ def singles(cases, which):
 
 def check(text):
     """The numbers of the claims that are refused, and the seconds that it took."""
-    with open(os.path.join(SCRATCH, "crates/cellang/specs/Claims.antt"), "w") as f:
+    with open(os.path.join(SCRATCH, "crates/services/specs/Claims.antt"), "w") as f:
         f.write(text)
     begun = time.time()
-    r = subprocess.run(["rt", "dev", "cellang"], cwd=SCRATCH, stdout=subprocess.PIPE, stderr=subprocess.STDOUT, text=True)
+    r = subprocess.run(["rt", "dev", "services"], cwd=SCRATCH, stdout=subprocess.PIPE, stderr=subprocess.STDOUT, text=True)
     refused = sorted({int(n) for n in re.findall(r"`claim(\d+)`", r.stdout)})
     if r.returncode != 0 and not refused:
         sys.exit("the check failed otherwise:\n" + r.stdout[-3000:])
@@ -101,16 +101,16 @@ def check(text):
 def prepare():
     shutil.rmtree(os.path.join(SCRATCH, "crates"), ignore_errors=True)
     os.makedirs(SCRATCH, exist_ok=True)
-    listed = ["value", "automaton", "token", "names", "program", "grammar", "evaluator", "stepper", "cellang"]
+    listed = ["value", "automaton", "token", "names", "program", "grammar", "evaluator", "stepper", "services"]
     lines = [l for l in open(os.path.join(ROOT, "crates.txt")) if l.split(":")[0] in listed]
     with open(os.path.join(SCRATCH, "crates.txt"), "w") as f:
         f.writelines(lines)
     for name in listed:
         shutil.copytree(os.path.join(ROOT, "crates", name), os.path.join(SCRATCH, "crates", name))
-    lib = os.path.join(SCRATCH, "crates/cellang/specs/Lib.antt")
+    lib = os.path.join(SCRATCH, "crates/services/specs/Lib.antt")
     text = open(lib).read().replace("pub mod Examples\n", "") + "pub mod Claims\n"
     open(lib, "w").write(text)
-    os.remove(os.path.join(SCRATCH, "crates/cellang/specs/Examples.antt"))
+    os.remove(os.path.join(SCRATCH, "crates/services/specs/Examples.antt"))
 
 
 def main():

@@ -1,5 +1,5 @@
 #!/usr/bin/env python3
-"""Writes into crates/cellang/specs/Cases.antt the names of all definitions that a worked case computes with.
+"""Writes into crates/services/specs/Cases.antt the names of all definitions that a worked case computes with.
 
 Run it after a definition was added, renamed or removed. It rewrites the `use` lines of whole modules and the `unfolding` line of `holds`.
 """
@@ -8,7 +8,7 @@ import re
 import textwrap
 
 ROOT = os.path.dirname(os.path.dirname(os.path.abspath(__file__)))
-CASES = os.path.join(ROOT, "crates/cellang/specs/Cases.antt")
+CASES = os.path.join(ROOT, "crates/services/specs/Cases.antt")
 # the modules of definitions, in reading order
 DEFINITIONS = [
     ("automaton", ["Listed", "Step", "Shape", "Grid"]),
@@ -17,7 +17,7 @@ DEFINITIONS = [
     ("grammar", ["Complaint", "Reader", "Constants", "Expressions", "Statements", "Source", "Checking"]),
     ("evaluator", ["Operators", "Evaluation", "Written"]),
     ("stepper", ["Reach", "Admission", "Report"]),
-    ("cellang", ["Services"]),
+    ("services", ["Services"]),
 ]
 
 
@@ -32,7 +32,7 @@ def modules():
 def main():
     uses, opened = [], ["same-report"]
     for crate, module, names in modules():
-        path = "Rattle.cellang.specs" if crate == "cellang" else "Rattle.%s.specs" % crate
+        path = "Rattle.services.specs" if crate == "services" else "Rattle.%s.specs" % crate
         uses.append("use %s.%s" % (path, module))
         opened += ["%s.%s" % (module, name) for name in names]
     text = open(CASES).read()

@@ -8,3 +8,4 @@ pub mod ShapeLaws
 pub mod Grid
 pub mod GridLaws
 pub mod Marking
+pub mod Going

@@ -152,7 +152,7 @@ or-true : (a b : Bool) → (a || b) ≡ true → (a ≡ true) ⊎ (b ≡ true)
 or-true true b e = inl refl
 or-true false b e = inr e
 
-any-some : (p : ℕ → Bool) (xs : List ℕ) → any-of p xs ≡ true → (x : ℕ) × List·Memᴰ x xs × (p x ≡ true)
+pub any-some : (p : ℕ → Bool) (xs : List ℕ) → any-of p xs ≡ true → (x : ℕ) × List·Memᴰ x xs × (p x ≡ true)
 unfolding any-of
 any-some p [] e = absurd (true≢false (sym e))
 any-some p (y ∷ ys) e = go (any-some p ys) (or-true (p y) (any-of p ys) e)

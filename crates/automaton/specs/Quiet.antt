@@ -124,30 +124,30 @@ any-of-false p (y ∷ ys) e x m = go (any-of-false p ys (or-false (p y) (any-of 
 
 module _ {Grid State : Type 0} (M : Automaton Grid State) where
   -- what one step of each leaves, where it has no fault and where it has
-  run-go : (n t : ℕ) (g : Grid) → step-of M g t .fault ≡ no-fault → run-of M (suc n) t g ≡ one-more (run-of M n (suc t) (step-of M g t .grid))
+  pub run-go : (n t : ℕ) (g : Grid) → step-of M g t .fault ≡ no-fault → run-of M (suc n) t g ≡ one-more (run-of M n (suc t) (step-of M g t .grid))
   unfolding run-of
   run-go n t g e = rw (e, run-of)
 
-  run-stop : (n t : ℕ) (g : Grid) (c k p : ℕ) → step-of M g t .fault ≡ fault-at c k p
+  pub run-stop : (n t : ℕ) (g : Grid) (c k p : ℕ) → step-of M g t .fault ≡ fault-at c k p
       → run-of M (suc n) t g ≡ record { fault = fault-at c k p; steps = 0; grid = step-of M g t .grid }
   unfolding run-of
   run-stop n t g c k p e = rw (e, run-of)
 
-  open-go : (o : ℕ → Bool) (n t : ℕ) (g : Grid) → step-of M g t .fault ≡ no-fault
+  pub open-go : (o : ℕ → Bool) (n t : ℕ) (g : Grid) → step-of M g t .fault ≡ no-fault
       → open-count M o (suc n) t g ≡ how-many o (step-of M g t .count) + open-count M (open-after M g (step-of M g t .grid)) n (suc t) (step-of M g t .grid)
   unfolding open-count
   open-go o n t g e = rw (e, open-count)
 
-  open-stop : (o : ℕ → Bool) (n t : ℕ) (g : Grid) (c k p : ℕ) → step-of M g t .fault ≡ fault-at c k p
+  pub open-stop : (o : ℕ → Bool) (n t : ℕ) (g : Grid) (c k p : ℕ) → step-of M g t .fault ≡ fault-at c k p
       → open-count M o (suc n) t g ≡ how-many o (step-of M g t .count)
   unfolding open-count
   open-stop o n t g c k p e = rw (e, open-count)
 
-  full-go : (n t : ℕ) (g : Grid) → step-of M g t .fault ≡ no-fault → full-count M (suc n) t g ≡ step-of M g t .count + full-count M n (suc t) (step-of M g t .grid)
+  pub full-go : (n t : ℕ) (g : Grid) → step-of M g t .fault ≡ no-fault → full-count M (suc n) t g ≡ step-of M g t .count + full-count M n (suc t) (step-of M g t .grid)
   unfolding full-count
   full-go n t g e = rw (e, full-count)
 
-  full-stop : (n t : ℕ) (g : Grid) (c k p : ℕ) → step-of M g t .fault ≡ fault-at c k p → full-count M (suc n) t g ≡ step-of M g t .count
+  pub full-stop : (n t : ℕ) (g : Grid) (c k p : ℕ) → step-of M g t .fault ≡ fault-at c k p → full-count M (suc n) t g ≡ step-of M g t .count
   unfolding full-count
   full-stop n t g c k p e = rw (e, full-count)
 

@@ -8,6 +8,7 @@ use mathlib.Core.List.{List, [], _∷_, map, List·Memᴰ, List·Memᴰ·head, L
 use mathlib.Core.Bool.{Bool, true, false, cond}
 use borrow.Author.Tests.{ltb-true, ltb-false, lt-ltb, le-ltb}
 use lib.Dec.{ltb}
+use lib.ListN.{length}
 use Rattle.automaton.specs.Listed.{list-of, mem-list-of, of-mem-list-of}
 use lib.IntN.{ℤ, pos, negsuc, negℤ, negℤ-negℤ}
 use Rattle.value.specs.Number.{modZ}
@@ -35,6 +36,12 @@ Alike [] [] = Unit {0}
 Alike [] (b ∷ bs) = ⊥
 Alike (a ∷ as′) [] = ⊥
 Alike (a ∷ as′) (b ∷ bs) = Alike as′ bs
+
+pub alike-length : {A B : Type 0} (xs : List A) (ys : List B) → length ys ≡ length xs → Alike xs ys
+alike-length [] [] e = tt
+alike-length [] (y ∷ ys) e = absurd (omega arith)
+alike-length (x ∷ xs) [] e = absurd (omega arith)
+alike-length (x ∷ xs) (y ∷ ys) e = alike-length xs ys (omega arith)
 
 -- document 01's formula, for three dimensions and for two
 pub number-3 : (p q r i j k : ℕ) → cell-number (p ∷ q ∷ r ∷ []) (i ∷ j ∷ k ∷ []) ≡ (i * q + j) * r + k

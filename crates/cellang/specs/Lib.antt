@@ -1,4 +1,4 @@
--- Runs of a source, and the marked examples. Read in this order.
-pub mod Services
-pub mod Cases
-pub mod Examples
+-- The row of records that a name list means, what the calls over it promise, and what those for programs in other languages promise.
+pub mod Rows
+pub mod Promises
+pub mod Told

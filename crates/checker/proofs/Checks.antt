@@ -2,23 +2,26 @@
 use Prim.Native.Nat.{ℕ, _≤_, _<_}
 use mathlib.Core.Path.{_≡_, refl, sym, ap, subst, _∙_}
 use mathlib.Core.List.{List}
-use mathlib.Core.Bool.{Bool, true, false, not, _&&_}
+use mathlib.Core.Bool.{true, false}
 use lib.ListN.{length, replicate}
-use lib.Dec.{eqb, ltb}
 use borrow.Author.Tests.{eq-eqb, ne-eqb, lt-ltb, le-ltb}
+use Rattle.value.specs.Laws.{never}
 use Rattle.token.specs.declared.Scan.{Scan}
-use Rattle.token.specs.Scanning.{table-words, scan, scan-of, scanned-words}
+use Rattle.token.specs.Kind.{kind}
 use Rattle.token.specs.Promises.{Scans}
-use Rattle.names.specs.Names.{name-words}
-use Rattle.grammar.specs.Reader.{Result, ok, fail, State}
-use Rattle.grammar.specs.Source.{Accepted, sized, read-program, what-is-read, parse}
-use Rattle.grammar.specs.Checking.{Outcome, outcome-of, rooms-fit, read-source, check, words-after, names-after}
-use Rattle.reader.specs.Reading.{input, state, Told, Gives}
+use Rattle.grammar.specs.Reader.{ok, fail}
+use Rattle.grammar.specs.Source.{Accepted, has-kind, sized, read-program, what-is-read, parse}
+use Rattle.grammar.specs.Checking.{outcome-of, rooms-fit, read-source, check, words-after, names-after}
+use Rattle.reader.specs.Reading.{input, state, Told}
 use Rattle.reader.specs.declared.Reading.{Reading}
 use Rattle.reader.specs.declared.Read.{Read}
 use Rattle.reader.specs.declared.Read.the-variants.{Next, Refused}
 use Rattle.reader.proofs.Steps.{went-on}
-use Rattle.checker.specs.Promises.{begun, Whole, Checks}
+use Rattle.checker.specs.Promises.{begun, Whole, Programs, Checks, is-accepted, Loads, Unloaded}
+use Rattle.checker.specs.declared.checking.ProgramRead.{ProgramRead}
+use Rattle.checker.specs.declared.checking.Outline.{Outline}
+use Rattle.checker.specs.declared.checking.Loaded.{Loaded}
+use Rattle.checker.proofs.Traces.{parses, outlined}
 
 -- ---- whether the rooms fit
 
@@ -35,66 +38,94 @@ module _ (ws ns : List ℕ) where
   unfolding rooms-fit
   both-right e f = simp (eq-eqb _ _ e, eq-eqb _ _ f)
 
-module _ (source ws ns : List ℕ) where
-  turned-away-1 : rooms-fit (length ws) (length ns) ≡ false → Checks source ws ns 1 0 ws ns
-  unfolding check words-after names-after read-source
-  turned-away-1 e = record { reply = simp e; words = simp e; names = simp e }
+-- what loading a source gives
+abbrev Answers : (source ws ns : List ℕ) → Loaded → (ws′ ns′ : List ℕ) → Type 0
+Answers source ws ns u ws′ ns′ = Checks source ws ns (u .number) (u .place) ws′ ns′ × Loads source ws ns (u .accepted) (u .outline)
 
-  pub no-table : (length ws ≡ 16384 → ⊥) → Checks source ws ns 1 0 ws ns
+-- a source that is not accepted
+unaccepted : {source ws ns ws′ ns′ : List ℕ} {k p : ℕ} {u : Loaded} → Checks source ws ns k p ws′ ns′
+    → false ≡ is-accepted (read-source (rooms-fit (length ws) (length ns)) source) → Unloaded k p u → Answers source ws ns u ws′ ns′
+unaccepted x e y = (
+  rw (y .number, y .place) x,
+  record {
+    is = y .unaccepted ∙ e;
+    given = λ q. never (sym (y .unaccepted) ∙ q);
+    reads = λ q. never (sym (y .unaccepted) ∙ q);
+    table = λ q. never (sym (y .unaccepted) ∙ q);
+    list = λ q. never (sym (y .unaccepted) ∙ q);
+    short = λ q. never (sym (y .unaccepted) ∙ q);
+    none = λ _. y .outline;
+  },
+)
+
+module _ (source ws ns : List ℕ) {u : Loaded} where
+  turned-away-1 : rooms-fit (length ws) (length ns) ≡ false → Unloaded 1 0 u → Answers source ws ns u ws ns
+  unfolding check words-after names-after read-source
+  turned-away-1 e = unaccepted (record { reply = simp e; words = simp e; names = simp e }) (simp e)
+
+  pub no-table : (length ws ≡ 16384 → ⊥) → Unloaded 1 0 u → Answers source ws ns u ws ns
   no-table n = turned-away-1 (words-wrong ws ns n)
 
-  pub no-list : length ws ≡ 16384 → (length ns ≡ 1024 → ⊥) → Checks source ws ns 1 0 ws ns
+  pub no-list : length ws ≡ 16384 → (length ns ≡ 1024 → ⊥) → Unloaded 1 0 u → Answers source ws ns u ws ns
   no-list e n = turned-away-1 (names-wrong ws ns e n)
 
-  pub too-long : length ws ≡ 16384 → length ns ≡ 1024 → 65535 < length source → Checks source ws ns 2 65535 ws ns
+  pub too-long : length ws ≡ 16384 → length ns ≡ 1024 → 65535 < length source → Unloaded 2 65535 u → Answers source ws ns u ws ns
   unfolding check words-after names-after read-source
   too-long e f l =
-      record {
+      unaccepted
+      (record {
         reply = simp (both-right ws ns e f, lt-ltb _ _ l);
         words = simp (both-right ws ns e f, lt-ltb _ _ l);
         names = simp (both-right ws ns e f, lt-ltb _ _ l);
-      }
+      })
+      (simp (both-right ws ns e f, lt-ltb _ _ l))
 
-  -- ---- reading
+-- ---- reading
 
-  module _ (e : length ws ≡ 16384) (f : length ns ≡ 1024) (l : length source ≤ 65535) where
-    refuses : (k p : ℕ) → parse source ≡ fail k p → Checks source ws ns k p (replicate (length ws) 0) (replicate (length ns) 0)
-    unfolding check words-after names-after read-source
-    refuses k p q =
-        record {
-          reply = simp (both-right ws ns e f, le-ltb _ _ l, q);
-          words = simp (both-right ws ns e f, le-ltb _ _ l, q);
-          names = simp (both-right ws ns e f, le-ltb _ _ l, q);
-        }
+module _ (source ws ns : List ℕ) (e : length ws ≡ 16384) (f : length ns ≡ 1024) (l : length source ≤ 65535) where
+  reads : read-source (rooms-fit (length ws) (length ns)) source ≡ outcome-of (parse source)
+  unfolding read-source
+  reads = simp (both-right ws ns e f, le-ltb _ _ l)
 
-    accepts : (a : Accepted) → parse source ≡ ok a → Checks source ws ns 0 0 (a .words) (a .names)
-    unfolding check words-after names-after read-source
-    accepts a q =
-        record {
-          reply = simp (both-right ws ns e f, le-ltb _ _ l, q);
-          words = simp (both-right ws ns e f, le-ltb _ _ l, q);
-          names = simp (both-right ws ns e f, le-ltb _ _ l, q);
-        }
+  refuses : (k p : ℕ) → parse source ≡ fail k p → Checks source ws ns k p (replicate (length ws) 0) (replicate (length ns) 0)
+  unfolding check words-after names-after
+  refuses k p q = record { reply = simp (reads, q); words = simp (reads, q); names = simp (reads, q) }
 
-    -- what reading gives from the tokens of the source, where no name is declared
-    module _ {sc : Scan} {ws₁ ns₁ ws₂ ns₂ : List ℕ} {r : Read} (x : Scans source sc ws₁) (z : ns₁ ≡ replicate 1024 0)
-        (g : Gives (Whole ns₂ ws₂) read-program source sc begun ns₁ ws₁ r ns₂ ws₂) where
-      parsed : parse source ≡ what-is-read (read-program (input source sc) (state begun ns₁ ws₁))
-      unfolding parse
-      parsed = rw (x .is, x .words, z) refl
+  accepts : (a : Accepted) → parse source ≡ ok a → Checks source ws ns 0 0 (a .words) (a .names)
+  unfolding check words-after names-after
+  accepts a q = record { reply = simp (reads, q); words = simp (reads, q); names = simp (reads, q) }
 
-      read-refused : {k p : ℕ} → r ≡ Refused k p → parse source ≡ fail k p
-      read-refused q = parsed ∙ ap what-is-read (subst (λ (u : Read). Told (Whole ns₂ ws₂) (read-program (input source sc) (state begun ns₁ ws₁)) u ns₂ ws₂) q (g .is))
+  -- what reading gives from the tokens of the source, where no name is declared
+  module _ {sc : Scan} {ws₁ ns₁ ws₂ ns₂ : List ℕ} {p : ProgramRead} (x : Scans source sc ws₁) (z : ns₁ ≡ replicate 1024 0) (g : Programs source sc ns₁ ws₁ p ns₂ ws₂) where
+    parsed : parse source ≡ what-is-read (read-program (input source sc) (state begun ns₁ ws₁))
+    unfolding parse
+    parsed = rw (x .is, x .words, z) refl
 
-      pub refused-with : {k p : ℕ} {ws′ ns′ : List ℕ} → r ≡ Refused k p → length ws₂ ≡ length ws → length ns₂ ≡ length ns → ws′ ≡ replicate (length ws₂) 0 → ns′ ≡ replicate (length ns₂) 0
-          → Checks source ws ns k p ws′ ns′
-      refused-with {k} {p} q a b c d =
-          rw (c ∙ ap (λ (n : ℕ). replicate n 0) a, d ∙ ap (λ (n : ℕ). replicate n 0) b) (refuses k p (read-refused q))
+    read-refused : {k n : ℕ} → p .read ≡ Refused k n → parse source ≡ fail k n
+    read-refused q = parsed ∙ ap what-is-read (subst (λ (u : Read). Told (Whole ns₂ ws₂) (read-program (input source sc) (state begun ns₁ ws₁)) u ns₂ ws₂) q (g .gives .is))
 
-      pub accepted-with : {t : Reading} {ns′ : List ℕ} → r ≡ Next t → ns′ ≡ sized ws₂ ns₂ (t .count) → Checks source ws ns 0 0 ws₂ ns′
-      accepted-with {t} {ns′} q d =
-          let y = went-on g q .is in
-          let a = y .0 in
-          let w = y .1 in
-          subst (λ (l : List ℕ). Checks source ws ns 0 0 l ns′) (w .words)
-          (subst (λ (l : List ℕ). Checks source ws ns 0 0 (a .words) l) (w .names ∙ sym d) (accepts a (parsed ∙ ap what-is-read (y .2))))
+    pub refused-with : {k n : ℕ} {ws′ ns′ : List ℕ} {u : Loaded} → p .read ≡ Refused k n → length ws₂ ≡ length ws → length ns₂ ≡ length ns → ws′ ≡ replicate (length ws₂) 0
+        → ns′ ≡ replicate (length ns₂) 0 → Unloaded k n u → Answers source ws ns u ws′ ns′
+    refused-with {k} {n} q a b c d =
+        unaccepted (rw (c ∙ ap (λ (n : ℕ). replicate n 0) a, d ∙ ap (λ (n : ℕ). replicate n 0) b) (refuses k n (read-refused q))) (simp (reads, read-refused q))
+
+    pub accepted-with : {t : Reading} {ns′ : List ℕ} → p .read ≡ Next t → ns′ ≡ sized ws₂ ns₂ (t .count)
+        → (o : Outline) → o .tokens ≡ sc .count → o .base ≡ p .base → o .body ≡ p .body → o .dims ≡ p .dims → o .fields ≡ p .fields → o .slots ≡ t .count
+        → o .timed ≡ has-kind (kind .time) ws₂ (sc .count)
+        → Checks source ws ns 0 0 ws₂ ns′ × Loads source ws ns true o
+    accepted-with {t} {ns′} q d o tokens base body dims fields slots timed =
+        let y = went-on (g .gives) q .is in
+        let a = y .0 in
+        let w = y .1 in
+        let h : parse source ≡ ok a = parsed ∙ ap what-is-read (y .2) in (
+          subst (λ (l : List ℕ). Checks source ws ns 0 0 l ns′) (w .words) (subst (λ (l : List ℕ). Checks source ws ns 0 0 (a .words) l) (w .names ∙ sym d) (accepts a h)),
+          record {
+            is = simp (reads, h);
+            given = λ _. outlined x z (g .follows t q) o tokens base body dims fields slots timed;
+            reads = λ _ u. reads ∙ ap outcome-of (parses u);
+            table = λ _. e;
+            list = λ _. f;
+            short = λ _. l;
+            none = λ k. never (sym k);
+          },
+        )

@@ -3,19 +3,17 @@ use Prim.Native.Nat.{ℕ, _≤_}
 use native.Mathlib.Omega.{arith}
 use mathlib.Core.Path.{_≡_, refl, sym, ap, ap₂, subst, _∙_}
 use mathlib.Core.List.{List}
-use mathlib.Core.Bool.{Bool, true, false}
-use lib.Dec.{eqb}
+use mathlib.Core.Bool.{Bool}
 use borrow.Author.Tests.{eq-eqb, ne-eqb}
 use Rattle.token.specs.declared.Scan.{Scan}
 use Rattle.token.specs.declared.Token.{Token}
-use Rattle.token.specs.Kind.{kind}
 use Rattle.token.specs.Scanning.{token-in}
 use Rattle.program.specs.Syntax.{Block}
 use Rattle.program.specs.Standing.{Stands}
-use Rattle.grammar.specs.Reader.{refuse}
+use Rattle.grammar.specs.Reader.{ok}
 use Rattle.grammar.specs.Expressions.{Cell}
 use Rattle.grammar.specs.Statements.{read-block}
-use Rattle.grammar.specs.Source.{Accepted, Declared, has-kind, sized, most-open, finish}
+use Rattle.grammar.specs.Source.{Declared, most-open, finish}
 use Rattle.reader.specs.Reading.{input, state, anything, Gives, refusal}
 use Rattle.reader.specs.declared.Reading.{Reading}
 use Rattle.reader.specs.declared.Read.{Read}
@@ -25,20 +23,16 @@ use Rattle.names.specs.Names.{most-names}
 use Rattle.expressions.specs.Promises.{cell-of}
 use Rattle.declaration.specs.Fields.{Declares}
 use Rattle.declaration.specs.declared.CellRead.{CellRead}
-use Rattle.checker.specs.Promises.{Whole, Ends, Few, Reaches}
+use Rattle.checker.specs.Promises.{Finished, Ends, Few, Reaches, accepted-as}
 
--- what is left of an accepted source
-abbrev accepted-of : Declared → Block → Scan → ℕ → List ℕ → List ℕ → Accepted
-accepted-of d b scan count ns ws =
-    record {
-      program =
-          record { dims = d .cell .dims; fields = d .fields; slots = count; body = b; timed = has-kind (kind .time) ws (scan .count) };
-      words = ws;
-      names = sized ws ns count;
-    }
+-- what is left where the source ends
+pub end-of : (source ns : List ℕ) {ws : List ℕ} {scan : Scan} {s : Reading} (d : Declared) (b : Block) → Finished ws scan s
+    → finish d b (input source scan) (state s ns ws) ≡ ok (accepted-as (input source scan) d b (state s ns ws), state s ns ws)
+unfolding finish
+end-of source ns d b f = simp (eq-eqb _ _ (f .stop), eq-eqb _ _ (f .last), eq-eqb _ _ (f .clear))
 
 -- a refusal does not go on
-never-next : {X : Type 0} {r : Read} {t : Reading} {k p : ℕ} → r ≡ Refused k p → r ≡ Next t → X
+pub never-next : {X : Type 0} {r : Read} {t : Reading} {k p : ℕ} → r ≡ Refused k p → r ≡ Next t → X
 never-next e q = absurd (let z : _≡_ {A = ℕ} 0 1 = cc in omega arith)
 
 module _ (ws : List ℕ) (scan : Scan) (s : Reading) {t : Token} (x : Stands ws scan (s .at) t) where
@@ -55,6 +49,7 @@ module _ (ws : List ℕ) (scan : Scan) (s : Reading) {t : Token} (x : Stands ws 
       record {
         gives = λ source ns d b. by-another (simp (ne-eqb _ _ (λ q. n (ap (λ (u : Token). u .kind) (x .is) ∙ q)))) (refused {s = s} 7 e);
         stays = λ u q. never-next e q;
+        finished = λ u q. never-next e q;
       }
 
   -- another stop than the end of the source
@@ -64,6 +59,7 @@ module _ (ws : List ℕ) (scan : Scan) (s : Reading) {t : Token} (x : Stands ws 
       record {
         gives = λ source ns d b. by-another (simp (eq-eqb _ _ (kind-is k), ne-eqb _ _ (λ q. n (ap (λ (u : Token). u .value) (x .is) ∙ q)))) (refused {s = s} 7 e);
         stays = λ u q. never-next e q;
+        finished = λ u q. never-next e q;
       }
 
   -- a complaint was noted
@@ -73,17 +69,17 @@ module _ (ws : List ℕ) (scan : Scan) (s : Reading) {t : Token} (x : Stands ws 
       record {
         gives = λ source ns d b. record { is = simp (eq-eqb _ _ (kind-is k), eq-eqb _ _ (value-is v), ne-eqb _ _ n) };
         stays = λ u q. never-next refl q;
+        finished = λ u q. never-next refl q;
       }
 
   -- the source ends there
   pub ended : t .kind ≡ 0 → t .value ≡ 7 → s .noted ≡ 0 → Ends ws scan s (Next s)
-  unfolding finish
   ended k v n =
+      let f : Finished ws scan s = record { stop = kind-is k; last = value-is v; clear = n } in
       record {
-        gives = λ source ns d b. record {
-          is = (accepted-of d b scan (s .count) ns ws, record { words = refl; names = refl }, simp (eq-eqb _ _ (kind-is k), eq-eqb _ _ (value-is v), eq-eqb _ _ n));
-        };
+        gives = λ source ns d b. record { is = (accepted-as (input source scan) d b (state s ns ws), record { words = refl; names = refl }, end-of source ns d b f) };
         stays = λ u q. same q;
+        finished = λ u q. f;
       }
     where
       same : {u : Reading} → Next s ≡ Next u → u ≡ s

@@ -1,13 +1,13 @@
-// The core call: check a source.
+// The core call: check a source, and what a run needs of an accepted one.
 ghost use mathlib.Core.Path.{_≡_};
 ghost use Prim.Native.Nat.{_≤_};
-ghost use lib.ListN.{length, replicate};
+ghost use lib.ListN.{length};
 ghost use Rattle.token.specs.Scanning.{most-tokens, table-words};
 ghost use Rattle.names.specs.Names.{name-words};
-ghost use Rattle.grammar.specs.Source.{read-program};
-ghost use Rattle.reader.specs.Reading.{Gives, state};
-ghost use Rattle.checker.specs.Promises.{begun, Ends, Whole, Checks, Reaches};
+ghost use Rattle.grammar.specs.Checking.{most-bytes};
+ghost use Rattle.checker.specs.Promises.{Ends, Programs, Checks, Unloaded, Loads};
 use crate::clear;
+use crate::has_kind;
 use crate::size_arrays;
 use constants::read_constants;
 use declaration::read_cell;
@@ -25,6 +25,36 @@ use token::scan_source;
 pub struct Reply {
     pub number: u32,
     pub place: u32,
+}
+
+// An accepted source as its reading leaves it: the number of tokens, the position of the token that has the first field's range, that of the
+// first statement, the numbers of dimensions, of fields and of names, and whether `time` stands in it.
+pub struct Outline {
+    pub tokens: usize,
+    pub base: usize,
+    pub body: usize,
+    pub dims: u32,
+    pub fields: u32,
+    pub slots: u32,
+    pub timed: bool,
+}
+
+// A source as it was read: whether it is accepted, the number and place of the reply, and the outline, all zero if it is not accepted.
+pub struct Loaded {
+    pub accepted: bool,
+    pub number: u32,
+    pub place: u32,
+    pub outline: Outline,
+}
+
+// How the reading of a program ends; where it goes on, the position of the token that has the first field's range, that of the first statement,
+// and the numbers of dimensions and of fields.
+struct ProgramRead {
+    read: Read,
+    base: usize,
+    body: usize,
+    dims: u32,
+    fields: u32,
 }
 
 // The end of the source stands behind the last statement, and no complaint is noted.
@@ -45,11 +75,24 @@ fn finish(words: &[u32], scan: Scan, s: Reading) -> Read
     Read::Next(s)
 }
 
-// Reads a source whose tokens stand in the table, where no name is declared.
-fn read_program(source: &[u8], names: &mut [u32], words: &mut [u32], scan: Scan) -> Read
+// No program is read.
+fn no_program(r: Read) -> ProgramRead
+    ensures { λ p. ⌜ p .read ≡ r ⌝ }
+{
+    ProgramRead {
+        read: r,
+        base: 0,
+        body: 0,
+        dims: 0,
+        fields: 0,
+    }
+}
+
+// Reads a source whose tokens stand in the table, where no name is declared. The fields' ranges stand from the `of` behind `dimensions` on,
+// two tokens behind the constants.
+fn read_program(source: &[u8], names: &mut [u32], words: &mut [u32], scan: Scan) -> ProgramRead
     requires { ⌜ (scan .count ≤ most-tokens) × (length (now words) ≡ table-words) × (length (now names) ≡ name-words) ⌝ }
-    ensures { λ r. ⌜ Gives (Whole (now (names .exit)) (now (words .exit))) read-program (now (source .entry)) scan begun (now (names .entry)) (now (words .entry)) r (now (names .exit)) (now (words .exit)) ⌝ }
-    ensures { λ r. ⌜ Reaches r ⌝ }
+    ensures { λ p. ⌜ Programs (now (source .entry)) scan (now (names .entry)) (now (words .entry)) p (now (names .exit)) (now (words .exit)) ⌝ }
 {
     let start = Reading {
         at: 0,
@@ -61,12 +104,12 @@ fn read_program(source: &[u8], names: &mut [u32], words: &mut [u32], scan: Scan)
     };
     let a = read_constants(source, names, words, scan, start);
     let Read::Next(b) = a else {
-        return a;
+        return no_program(a);
     };
     let c = read_cell(source, names, words, scan, b);
     let r = c.read;
     let Read::Next(d) = r else {
-        return r;
+        return no_program(r);
     };
     let cell = Cell {
         dims: c.dims,
@@ -74,49 +117,100 @@ fn read_program(source: &[u8], names: &mut [u32], words: &mut [u32], scan: Scan)
     };
     let e = read_block(source, names, words, scan, d, cell, 0, 16);
     let Read::Next(f) = e else {
-        return e;
+        return no_program(e);
     };
-    finish(words, scan, f)
+    ProgramRead {
+        read: finish(words, scan, f),
+        base: b.at + 2,
+        body: d.at,
+        dims: c.dims,
+        fields: c.fields,
+    }
 }
 
-// Checks a source: whether it is accepted, else the number and place of the reply that refuses it. An accepted source leaves its program
-// in the table and its names in the list.
-pub fn check(source: &[u8], words: &mut [u32], names: &mut [u32]) -> Reply
-    ensures { λ r. ⌜ Checks (now (source .entry)) (now (words .entry)) (now (names .entry)) (r .number) (r .place) (now (words .exit)) (now (names .exit)) ⌝ }
+// What is loaded of a source that is not accepted: the number and place of the reply.
+fn unloaded(number: u32, place: u32) -> Loaded
+    ensures { λ r. ⌜ Unloaded number place r ⌝ }
 {
-    if words.len() != 16384 {
-        return Reply {
-            number: 1,
-            place: 0,
-        };
+    let outline = Outline {
+        tokens: 0,
+        base: 0,
+        body: 0,
+        dims: 0,
+        fields: 0,
+        slots: 0,
+        timed: false,
+    };
+    Loaded {
+        accepted: false,
+        number,
+        place,
+        outline,
     }
-    if names.len() != 1024 {
-        return Reply {
-            number: 1,
-            place: 0,
-        };
-    }
-    if 65535 < source.len() {
-        return Reply {
-            number: 2,
-            place: 65535,
-        };
-    }
+}
+
+// Reads a source of allowed length into rooms that fit.
+fn load_into(source: &[u8], words: &mut [u32], names: &mut [u32]) -> Loaded
+    requires { ⌜ (length (now words) ≡ table-words) × (length (now names) ≡ name-words) × (length (now source) ≤ most-bytes) ⌝ }
+    ensures { λ r. ⌜ Checks (now (source .entry)) (now (words .entry)) (now (names .entry)) (r .number) (r .place) (now (words .exit)) (now (names .exit)) ⌝ }
+    ensures { λ r. ⌜ Loads (now (source .entry)) (now (words .entry)) (now (names .entry)) (r .accepted) (r .outline) ⌝ }
+{
     let scan = scan_source(source, words);
     clear(names);
-    let r = read_program(source, names, words, scan);
+    let p = read_program(source, names, words, scan);
+    let r = p.read;
     match r {
         Read::Next(s) => {
             size_arrays(words, names, s.count);
-            Reply {
+            let outline = Outline {
+                tokens: scan.count,
+                base: p.base,
+                body: p.body,
+                dims: p.dims,
+                fields: p.fields,
+                slots: s.count as u32,
+                timed: has_kind(words, scan.count, kind::TIME),
+            };
+            Loaded {
+                accepted: true,
                 number: 0,
                 place: 0,
+                outline,
             }
         }
         Read::Refused(number, place) => {
             clear(words);
             clear(names);
-            Reply { number, place }
+            unloaded(number, place)
         }
+    }
+}
+
+// Reads a source for a run: whether it is accepted, else the number and place of the reply that refuses it. An accepted source leaves its
+// program in the table and its names in the list.
+pub fn load(source: &[u8], words: &mut [u32], names: &mut [u32]) -> Loaded
+    ensures { λ r. ⌜ Checks (now (source .entry)) (now (words .entry)) (now (names .entry)) (r .number) (r .place) (now (words .exit)) (now (names .exit)) ⌝ }
+    ensures { λ r. ⌜ Loads (now (source .entry)) (now (words .entry)) (now (names .entry)) (r .accepted) (r .outline) ⌝ }
+{
+    if words.len() != 16384 {
+        return unloaded(1, 0);
+    }
+    if names.len() != 1024 {
+        return unloaded(1, 0);
+    }
+    if 65535 < source.len() {
+        return unloaded(2, 65535);
+    }
+    load_into(source, words, names)
+}
+
+// Checks a source: the number and place of the reply. The table and the list are left as reading leaves them.
+pub fn check(source: &[u8], words: &mut [u32], names: &mut [u32]) -> Reply
+    ensures { λ r. ⌜ Checks (now (source .entry)) (now (words .entry)) (now (names .entry)) (r .number) (r .place) (now (words .exit)) (now (names .exit)) ⌝ }
+{
+    let l = load(source, words, names);
+    Reply {
+        number: l.number,
+        place: l.place,
     }
 }

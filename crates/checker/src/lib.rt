@@ -12,8 +12,11 @@ use program::word_at;
 mod checking;
 mod line;
 
+pub use checking::Loaded;
+pub use checking::Outline;
 pub use checking::Reply;
 pub use checking::check;
+pub use checking::load;
 pub use line::write_line;
 
 // Whether one of n tokens of a table is of the kind.

@@ -3,7 +3,7 @@ use Prim.Native.Nat.{ℕ, zero, suc, _+_, _≤_, _<_}
 use native.Mathlib.Decide.{decLt}
 use native.Mathlib.Omega.{arith}
 use mathlib.Core.Path.{_≡_, refl, sym, ap, _∙_, subst}
-use mathlib.Core.Bool.{Bool, true, false}
+use mathlib.Core.Bool.{Bool, true, false, _||_}
 use mathlib.Core.List.{List}
 use lib.Dec.{eqb}
 use lib.IntN.{ℤ}
@@ -15,10 +15,11 @@ use Rattle.value.specs.declared.Value.{Value}
 use Rattle.program.specs.Syntax.{Expr, element, unary, binary}
 use Rattle.evaluator.specs.Operators.{Worth, worth, failed, placed, apply-unary, apply-binary}
 use Rattle.evaluator.specs.Evaluation.{Env, element-at, eval}
-use Rattle.evaluator.specs.Stands.{Table, array-in, is-unary, Decoded, parsed, nothing, and-then, decode-expression, decode-chain, decode-operand, decode-primary, decode-name, decode-bracket}
-use Rattle.evaluator.specs.Working.{told-of, Onward, primary-from, EvalsExpression, EvalsOperand, EvalsPrimary, EvalsName, EvalsPlain, EvalsBracket}
+use Rattle.evaluator.specs.Stands.{Table, array-in, is-sign, is-unary, Decoded, parsed, nothing, and-then, decode-expression, decode-chain, decode-operand, decode-primary, decode-name, decode-bracket}
+use Rattle.evaluator.specs.Working.{told-of, Onward, primary-from, EvalsExpression, EvalsOperand, EvalsPrimary, EvalsName, EvalsPlain, EvalsBracket, Leaf, Quick, Joins}
 use Rattle.evaluator.specs.declared.Told.{Told}
 use Rattle.evaluator.specs.declared.Told.the-variants.{Found, Failed}
+use Rattle.evaluator.proofs.OperatorLaws.{level-small, level-some}
 use Rattle.evaluator.proofs.PrimaryLaws.{never, as-value}
 
 -- ---- what an answer says of the worth
@@ -60,6 +61,30 @@ module _ (t : Table) (at next : ℕ) (e : Expr) where
   unfolding decode-operand
   was-bare k zero q = never q
   was-bare k (suc f) q = (f, simp k at q)
+
+  plus-none : t .kind at ≡ 43 → (fuel : ℕ) → decode-primary fuel t at ≡ parsed e next → ⊥
+  unfolding decode-primary
+  plus-none k zero q = never q
+  plus-none k (suc f) q = never (simp k at q)
+
+  minus-none : t .kind at ≡ 45 → (fuel : ℕ) → decode-primary fuel t at ≡ parsed e next → ⊥
+  unfolding decode-primary
+  minus-none k zero q = never q
+  minus-none k (suc f) q = never (simp k at q)
+
+  not-none : t .kind at ≡ 33 → (fuel : ℕ) → decode-primary fuel t at ≡ parsed e next → ⊥
+  unfolding decode-primary
+  not-none k zero q = never q
+  not-none k (suc f) q = never (simp k at q)
+
+  unary-none : is-unary (t .kind at) ≡ true → (fuel : ℕ) → decode-primary fuel t at ≡ parsed e next → ⊥
+  unfolding is-unary is-sign
+  unary-none h fuel q = go (eqb (t .kind at) 43) refl (eqb (t .kind at) 45) refl h
+    where
+      go : (a : Bool) → eqb (t .kind at) 43 ≡ a → (b : Bool) → eqb (t .kind at) 45 ≡ b → ((a || b) || eqb (t .kind at) 33) ≡ true → ⊥
+      go true ea b eb h = plus-none (eqb-true _ _ ea) fuel q
+      go false ea true eb h = minus-none (eqb-true _ _ eb) fuel q
+      go false ea false eb h = not-none (eqb-true _ _ h) fuel q
 
   was-paren : t .kind at ≡ 40 → (fuel : ℕ) → decode-primary fuel t at ≡ parsed e next → (f : ℕ) × (decode-bracket f t 41 at ≡ parsed e next)
   unfolding decode-primary
@@ -225,6 +250,10 @@ module _ (t : Table) (env : Env) (vars vs : List ℤ) where
       pub primary-plain : {r : Told} → (k ≡ 40 → ⊥) → (k ≡ 1 → ⊥) → EvalsPlain t env vars vs n at r → EvalsPrimary t env vars vs n at r
       primary-plain {r} kp kn b = record { says = λ fuel e next q. b .says (λ u. kn (ek ∙ u)) (λ u. kp (ek ∙ u)) fuel e next q; onward = b .onward }
 
+      -- by the short way, where no name stands, or that of no array constant
+      pub primary-quick : {r : Told} → (k ≡ 40 → ⊥) → (k ≡ 1 → t .word2 at ≡ 2 → ⊥) → Quick t env vars vs n at 5 r → EvalsPrimary t env vars vs n at r
+      primary-quick kp na x = x .only refl (λ z. kp (ek ∙ z)) (λ y z. na (ek ∙ y) z)
+
       module _ (kn : k ≡ 1) {w : ℕ} (ew : w ≡ t .word2 at) where
         pub primary-name : {r : Told} → (w ≡ 2 → ⊥) → EvalsName t env vars vs n at r → EvalsPrimary t env vars vs n at r
         primary-name {r} other b = record { says = λ fuel e next q. let s = was-name t at next e (sym ek ∙ kn) fuel q in b .says (λ u. other (ew ∙ u)) (s .0) e next (s .1); onward = b .onward }
@@ -300,6 +329,32 @@ module _ (t : Table) (env : Env) (vars vs : List ℤ) where
                 let s = worth-of (ev e₀) next (sym g ∙ x .says f e₀ next q) in
                 ho ∙ ap (told-of (placed (t .place at) (apply-unary k (v .n)))) (sym (s .1))
                 ∙ sym (ap (λ (y : Worth). told-of y next) (ap ev he ∙ unary-worth (t .kind at) (t .place at) e₀ (s .0) ∙ ap (λ (i : ℕ). placed (t .place at) (apply-unary i (v .n))) (sym ek)))
+
+    -- an operand that is a leaf
+
+    lost : {A : Type 0} {a p next : ℕ} {v : Value} → Failed a p ≡ Found v next → A
+    lost h = let z : _≡_ {A = ℕ} 0 1 = cc in absurd (omega arith)
+
+    module _ {k : ℕ} (ek : k ≡ t .kind at) where
+      pub leaf-array : {w a p : ℕ} → k ≡ 1 → w ≡ t .word2 at → w ≡ 2 → Leaf t env vars vs n at (Failed a p)
+      leaf-array kn ew h = record { found = λ v next e. lost e; only = λ np na. absurd (na (sym ek ∙ kn) (sym ew ∙ h)) }
+
+      pub leaf-paren : {a p : ℕ} → k ≡ 40 → Leaf t env vars vs n at (Failed a p)
+      leaf-paren h = record { found = λ v next e. lost e; only = λ np na. absurd (np (sym ek ∙ h)) }
+
+      pub leaf-unary : {b : Bool} {a p : ℕ} → b ≡ is-unary k → b ≡ true → Leaf t env vars vs n at (Failed a p)
+      leaf-unary eb h = record {
+        found = λ v next e. lost e;
+        only = λ np na. record { says = λ fuel e next q. absurd (unary-none t at next e (ap is-unary (sym ek) ∙ sym eb ∙ h) fuel q); onward = tt };
+      }
+
+      pub leaf-name : {w : ℕ} {r : Told} → k ≡ 1 → w ≡ t .word2 at → (w ≡ 2 → ⊥) → EvalsName t env vars vs n at r → Leaf t env vars vs n at r
+      unfolding is-unary is-sign
+      leaf-name kn ew other x =
+          record { found = λ v next h. bare ek {b = is-unary k} refl (rw kn refl) (primary-name ek kn ew other x); only = λ np na. primary-name ek kn ew other x }
+
+      pub leaf-plain : {b : Bool} {r : Told} → (k ≡ 1 → ⊥) → (k ≡ 40 → ⊥) → b ≡ is-unary k → b ≡ false → EvalsPlain t env vars vs n at r → Leaf t env vars vs n at r
+      leaf-plain kn kp eb h x = record { found = λ v next g. bare ek eb h (primary-plain ek kp kn x); only = λ np na. primary-plain ek kp kn x }
 
     module _ {k : ℕ} (ek : k ≡ t .kind at) {from : ℕ} (ef : from ≡ primary-from k at) {r : Told} (x : EvalsPrimary t env vars vs n from r) where
       behind : is-unary k ≡ true → EvalsPrimary t env vars vs n (at + 1) r
@@ -426,3 +481,87 @@ module _ (t : Table) (env : Env) (vars vs : List ℤ) where
                 let s = worth-of (placed (t .place here) (apply-binary k (left .n) (b .n))) past (sym g ∙ ho) .1 in
                 let y : (here + 1 < past) × (past ≤ n) = rw h at (x .onward) in
                 (omega arith, omega arith)
+
+  -- ---- the short way
+
+  -- the operand behind an operator is its right side, where the next operator is no tighter
+  quick-right : (n at own : ℕ) {r : Told} {b : Value} {next k after : ℕ} → EvalsOperand t env vars vs n at r → r ≡ Found b next → k ≡ t .kind next → after ≡ level-of k → after ≤ own
+      → EvalsExpression t env vars vs n at (own + 1) (Found b next)
+  quick-right n at own x h ek ea l = chain-end n at (own + 1) (first-found n at (own + 1) x h) ek ea (omega arith)
+
+  module _ (n at level : ℕ) where
+    -- nothing is read yet; or a chain up to an operator
+    pub data Pending (left : Value) (op own last here : ℕ) : Type 0 where
+      first : op ≡ 0 → own ≡ 4 → here ≡ at → Pending left op own last here
+      behind-operator : Chain n at level left last → last + 1 ≡ here → op ≡ t .kind last → own ≡ level-of op → level ≤ own → Pending left op own last here
+
+    pub record Underway (left : Value) (op own last here : ℕ) : Type 0 where
+      pub within : here ≤ n
+      pub pending : Pending left op own last here
+
+    pub begun : {left : Value} {last : ℕ} → at ≤ n → Underway left 0 4 last at
+    begun l = record { within = l; pending = first refl refl refl }
+
+    module _ (some-level : 1 ≤ level) {left : Value} {op own last here : ℕ} (p : Underway left op own last here) {r : Told} (x : Leaf t env vars vs n here r) where
+      pub quick-none : {a k : ℕ} → r ≡ Failed a k → Quick t env vars vs n at level r
+      quick-none {a} {k} h = record { found = λ v next e. lost n at (sym h ∙ e); only = λ five np na. go (p .pending) five np na }
+        where
+          go : Pending left op own last here → level ≡ 5 → (t .kind at ≡ 40 → ⊥) → (t .kind at ≡ 1 → t .word2 at ≡ 2 → ⊥) → EvalsPrimary t env vars vs n at r
+          go (first o w e) five np na =
+              subst (λ (i : ℕ). EvalsPrimary t env vars vs n i r) e (x .only (λ z. np (ap (t .kind) (sym e) ∙ z)) (λ y z. na (ap (t .kind) (sym e) ∙ y) (ap (t .word2) (sym e) ∙ z)))
+          go (behind-operator ch s ek eo l) five np na = absurd (let m = level-small op in omega (arith, m, eo, l, five))
+
+      module _ {b : Value} {next k tight : ℕ} (h : r ≡ Found b next) (ek : k ≡ t .kind next) (et : tight ≡ level-of k) where
+        pub quick-tighter : {a c : ℕ} → own < tight → Quick t env vars vs n at level (Failed a c)
+        quick-tighter {a} {c} u = record { found = λ v next e. lost n at e; only = λ five np na. absurd (go (p .pending) five) }
+          where
+            go : Pending left op own last here → level ≡ 5 → ⊥
+            go (first o w e) five = let m = level-small k in omega (arith, m, et, w, u)
+            go (behind-operator ch s eo ew l) five = let m = level-small op in omega (arith, m, ew, l, five)
+
+        module _ (u : tight ≤ own) {o : Told} (j : Joins (t .place last) op (left .n) b next o) where
+          pub quick-fault : {a c a′ c′ : ℕ} → o ≡ Failed a c → Quick t env vars vs n at level (Failed a′ c′)
+          quick-fault {a} {c} g = record { found = λ v next e. lost n at e; only = λ five np na. absurd (go (p .pending) five) }
+            where
+              go : Pending left op own last here → level ≡ 5 → ⊥
+              go (first z w e) five = lost n at (sym g ∙ j .alone z)
+              go (behind-operator ch s eo ew l) five = let m = level-small op in omega (arith, m, ew, l, five)
+
+          module _ {c : Value} {m : ℕ} (g : o ≡ Found c m) where
+            joined-chain : Pending left op own last here → Chain n at level c m
+            joined-chain (first z w e) =
+                let q : Found b next ≡ Found c m = sym (j .alone z) ∙ g in
+                first-found n at level (subst (λ (i : ℕ). EvalsOperand t env vars vs n i r) e (x .found b next h)) (h ∙ q)
+            joined-chain (behind-operator ch s eo ew l) =
+                chain-more n at level ch eo ew l (quick-right n (last + 1) own (subst (λ (i : ℕ). EvalsOperand t env vars vs n i r) (sym s) (x .found b next h)) h ek et u) refl
+                (j .applied (λ z. let y = level-some op ew some-level l in omega arith)) g
+
+            same-next : Pending left op own last here → next ≡ m
+            same-next (first z w e) = let q : Found b next ≡ Found c m = sym (j .alone z) ∙ g in cc
+            same-next (behind-operator ch s eo ew l) =
+                worth-of (placed (t .place last) (apply-binary op (left .n) (b .n))) next (sym g ∙ j .applied (λ z. let y = level-some op ew some-level l in omega arith)) .1
+
+            kind-there : k ≡ t .kind m
+            kind-there = ek ∙ ap (t .kind) (same-next (p .pending))
+
+            pub quick-end : tight < level → Quick t env vars vs n at level (Found c m)
+            quick-end v = record { found = λ y next e. chain-end n at level (joined-chain (p .pending)) kind-there et v; only = λ five np na. go (p .pending) five np na }
+              where
+                go : Pending left op own last here → level ≡ 5 → (t .kind at ≡ 40 → ⊥) → (t .kind at ≡ 1 → t .word2 at ≡ 2 → ⊥) → EvalsPrimary t env vars vs n at (Found c m)
+                go (first z w e) five np na =
+                    subst (EvalsPrimary t env vars vs n at) (h ∙ sym (j .alone z) ∙ g)
+                    (subst (λ (i : ℕ). EvalsPrimary t env vars vs n i r) e (x .only (λ z. np (ap (t .kind) (sym e) ∙ z)) (λ y z. na (ap (t .kind) (sym e) ∙ y) (ap (t .word2) (sym e) ∙ z))))
+                go (behind-operator ch s eo ew l) five np na = absurd (let q = level-small op in omega (arith, q, ew, l, five))
+
+            pub quick-again : level ≤ tight → next < n → Underway c k tight m (m + 1)
+            quick-again v l = let e = same-next (p .pending) in record { within = omega arith; pending = behind-operator (joined-chain (p .pending)) refl kind-there et v }
+
+            pub quick-within : (here < m) × (m ≤ n)
+            quick-within = let y : (here < next) × (next ≤ n) = rw h at (x .found b next h .onward) in let e = same-next (p .pending) in (omega arith, omega arith)
+
+-- a value joined by an operator, or alone
+pub joined-none : (place op : ℕ) (a : ℤ) (b : Value) (next : ℕ) → op ≡ 0 → Joins place op a b next (Found b next)
+joined-none place op a b next h = record { alone = λ z. refl; applied = λ z. absurd (z h) }
+
+pub joined-some : (place op : ℕ) (a : ℤ) (b : Value) (next : ℕ) {r : Told} → (op ≡ 0 → ⊥) → r ≡ told-of (placed place (apply-binary op a (b .n))) next → Joins place op a b next r
+joined-some place op a b next h e = record { alone = λ z. absurd (h z); applied = λ z. e }

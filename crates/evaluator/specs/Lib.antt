@@ -5,3 +5,5 @@ pub mod Written
 -- What it is for a program to stand in the word table, and what the evaluators promise.
 pub mod Stands
 pub mod Working
+-- The written indices, as they stand in the word table.
+pub mod Listing

@@ -6,12 +6,13 @@ use lib.ListN.{length}
 use lib.IntN.{ℤ}
 use Rattle.value.specs.Choice.{if_then_else_}
 use Rattle.value.specs.Worked.{value}
+use Rattle.value.specs.declared.Value.{Value}
 use Rattle.automaton.specs.Shape.{product, coordinates, neighbour}
 use Rattle.automaton.specs.ShapeLaws.{Positive}
 use Rattle.automaton.specs.Grid.{cell-of}
 use Rattle.token.specs.Kind.{kind}
 use Rattle.program.specs.Syntax.{Expr}
-use Rattle.evaluator.specs.Operators.{Worth, worth, failed}
+use Rattle.evaluator.specs.Operators.{Worth, worth, failed, placed, apply-binary}
 use Rattle.evaluator.specs.Evaluation.{Env, eval}
 use Rattle.evaluator.specs.Stands.{Table, table-of, ranges-in, most-loops, refers, is-unary, parsed, decode-expression, decode-operand, decode-primary, decode-name, decode-bracket}
 use Rattle.evaluator.specs.declared.Site.{Site}
@@ -93,3 +94,22 @@ pub record EvalsPlain (t : Table) (env : Env) (vars vs : List ℤ) (n at : ℕ) 
 pub record EvalsBracket (t : Table) (env : Env) (vars vs : List ℤ) (n at close : ℕ) (r : Told) : Type 0 where
   pub says : (fuel : ℕ) (e : Expr) (next : ℕ) → decode-bracket fuel t close at ≡ parsed e next → r ≡ told-of (eval env vars vs e) next
   pub onward : Onward at n r
+
+-- ---- the short ways, which may be left
+
+-- a value that is found is that of the operand at a position
+pub record Leaf (t : Table) (env : Env) (vars vs : List ℤ) (n at : ℕ) (r : Told) : Type 0 where
+  pub found : (v : Value) (next : ℕ) → r ≡ Found v next → EvalsOperand t env vars vs n at r
+  -- where no parentheses and no array constant stand there, it is the primary
+  pub only : (t .kind at ≡ kind .paren → ⊥) → (t .kind at ≡ kind .name → t .word2 at ≡ refers .array → ⊥) → EvalsPrimary t env vars vs n at r
+
+-- a value that is found is that of the expression at a position
+pub record Quick (t : Table) (env : Env) (vars vs : List ℤ) (n at level : ℕ) (r : Told) : Type 0 where
+  pub found : (v : Value) (next : ℕ) → r ≡ Found v next → EvalsExpression t env vars vs n at level r
+  -- of operators tighter than all there are, it is the primary, where no parentheses and no array constant stand there
+  pub only : level ≡ 5 → (t .kind at ≡ kind .paren → ⊥) → (t .kind at ≡ kind .name → t .word2 at ≡ refers .array → ⊥) → EvalsPrimary t env vars vs n at r
+
+-- a value is joined by an operator with the one before it; or is alone, where the operator is 0
+pub record Joins (place op : ℕ) (a : ℤ) (b : Value) (next : ℕ) (r : Told) : Type 0 where
+  pub alone : op ≡ 0 → r ≡ Found b next
+  pub applied : (op ≡ 0 → ⊥) → r ≡ told-of (placed place (apply-binary op a (b .n))) next

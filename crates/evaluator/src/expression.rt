@@ -1,8 +1,9 @@
 // Expressions: operators by their levels, operands, and expressions in brackets. The evaluators call each other in a cycle.
 ghost use mathlib.Core.Path.{_≡_};
-ghost use Prim.Native.Nat.{_<_, _≤_};
-ghost use lib.ListN.{take};
-ghost use Rattle.evaluator.specs.Working.{site-table, env-of, Ready, primary-from, EvalsExpression, EvalsOperand, EvalsPrimary, EvalsBracket};
+ghost use Prim.Native.Nat.{_*_, _<_, _≤_, _%_};
+ghost use lib.ListN.{length, take};
+ghost use Rattle.evaluator.specs.Stands.{word-in};
+ghost use Rattle.evaluator.specs.Working.{site-table, env-of, Ready, primary-from, EvalsExpression, EvalsOperand, EvalsPrimary, EvalsBracket, Quick, Joins};
 use crate::Site;
 use crate::Told;
 use crate::operators::is_unary;
@@ -10,13 +11,118 @@ use crate::operators::level_of;
 use crate::operators::operate;
 use crate::operators::operate_unary;
 use crate::primary::element;
-use crate::primary::name;
-use crate::primary::plain;
+use crate::primary::leaf;
 use crate::table::word_at;
 use program::kind;
+use value::Value;
 
-// The expression at a position, of operators of a level or tighter. Operators of one level go from left to right.
+// The value behind an operator at a position, joined with the left one; the value itself, where there is no operator.
+fn joined(words: &[u32], n: usize, last: usize, op: u32, a: Value, b: Value, next: usize) -> Told
+    requires { ⌜ (4 * n ≤ length (now words)) × (n ≤ 4096) ⌝ }
+    ensures { λ r. ⌜ Joins (word-in (now (words .entry)) n 1 last % 65536) op (a .n) b next r ⌝ }
+{
+    if op == 0 {
+        return Told::Found(b, next);
+    }
+    operate(words, n, last, op, a, b, next)
+}
+
+// The expression at a position, of operators of a level or tighter, if it has no parentheses, unary operators and array constants, no operator
+// is tighter than the one before it, and there is no fault. Else a fault is told, which says nothing; but at level 5 it is that of the primary.
+pub fn quick(
+    words: &[u32],
+    sizes: &[u32],
+    place: &[u32],
+    grid: &[i32],
+    vars: &[i32; 256],
+    index: &[i32; 16],
+    site: Site,
+    depth: usize,
+    at: usize,
+    level: u32,
+) -> Told
+    requires { ⌜ Ready (now words) (now sizes) (now place) (now grid) site depth × (1 ≤ level) × (at ≤ site .tokens) ⌝ }
+    ensures { λ r. ⌜ Quick (site-table (now (words .entry)) (now (sizes .entry)) site) (env-of (now (words .entry)) (now (sizes .entry)) (now (grid .entry)) site) (take (site .slots) (now (vars .entry))) (take depth (now (index .entry))) (site .tokens) at level r ⌝ }
+{
+    let n = site.tokens;
+    let mut left = Value { n: 0 };
+    let mut op: u32 = 0;
+    let mut own: u32 = 4;
+    let mut last: usize = 0;
+    let mut here = at;
+    loop {
+        let part = leaf(words, sizes, place, grid, vars, index, site, depth, here);
+        let Told::Found(b, next) = part else {
+            return part;
+        };
+        let after = word_at(words, n, 0, next);
+        let tight = level_of(after);
+        if own < tight {
+            return Told::Failed(0, 0);
+        }
+        let done = joined(words, n, last, op, left, b, next);
+        let Told::Found(c, m) = done else {
+            return Told::Failed(0, 0);
+        };
+        if tight < level {
+            return Told::Found(c, m);
+        }
+        left = c;
+        op = after;
+        own = tight;
+        last = m;
+        here = m + 1;
+    }
+}
+
+// The expression at a position, of operators of a level or tighter.
 pub fn expression(
+    words: &[u32],
+    sizes: &[u32],
+    place: &[u32],
+    grid: &[i32],
+    vars: &[i32; 256],
+    index: &[i32; 16],
+    site: Site,
+    depth: usize,
+    at: usize,
+    level: u32,
+) -> Told
+    requires { ⌜ Ready (now words) (now sizes) (now place) (now grid) site depth × (1 ≤ level) × (at ≤ site .tokens) ⌝ }
+    ensures { λ r. ⌜ EvalsExpression (site-table (now (words .entry)) (now (sizes .entry)) site) (env-of (now (words .entry)) (now (sizes .entry)) (now (grid .entry)) site) (take (site .slots) (now (vars .entry))) (take depth (now (index .entry))) (site .tokens) at level r ⌝ }
+{
+    let short = quick(
+        words,
+        sizes,
+        place,
+        grid,
+        vars,
+        index,
+        site,
+        depth,
+        at,
+        level,
+    );
+    let Told::Found(v, next) = short else {
+        return chain(
+            words,
+            sizes,
+            place,
+            grid,
+            vars,
+            index,
+            site,
+            depth,
+            at,
+            level,
+        );
+    };
+    Told::Found(v, next)
+}
+
+// The expression at a position, of operators of a level or tighter, worked out by every way that an expression can go. Operators of one level go
+// from left to right.
+fn chain(
     words: &[u32],
     sizes: &[u32],
     place: &[u32],
@@ -169,9 +275,9 @@ fn primary(
             }
             return Told::Failed(0, 0);
         }
-        return name(words, sizes, place, grid, vars, index, site, depth, at);
+        return quick(words, sizes, place, grid, vars, index, site, depth, at, 5);
     }
-    plain(words, sizes, place, grid, vars, index, site, depth, at)
+    quick(words, sizes, place, grid, vars, index, site, depth, at, 5)
 }
 
 // The expression between the opening token at a position and a token of the closing kind.

@@ -1,7 +1,7 @@
 // Evaluating one cell, off the word table: expressions.
 
 pub mod expression;
-mod neighbour;
+pub mod neighbour;
 mod operators;
 mod primary;
 pub mod table;

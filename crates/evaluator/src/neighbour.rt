@@ -81,7 +81,7 @@ fn element_value(
 }
 
 // The position of the element behind the one at a position.
-fn element_after(words: &[u32], n: usize, dims: usize, at: usize) -> usize
+pub fn element_after(words: &[u32], n: usize, dims: usize, at: usize) -> usize
     requires { ⌜ (4 * n ≤ length (now words)) × (n ≤ 4096) × (at ≤ 8192) ⌝ }
     ensures { λ r. ⌜ (r ≡ next-index (table-of (now (words .entry)) n dims) at) × (r ≤ at + 3) ⌝ }
 {

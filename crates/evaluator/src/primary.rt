@@ -5,12 +5,13 @@ ghost use lib.ListN.{length, take};
 ghost use Rattle.value.specs.Worked.{value};
 ghost use Rattle.evaluator.specs.Evaluation.{entry, element-at};
 ghost use Rattle.evaluator.specs.Stands.{word-in, table-of, array-in};
-ghost use Rattle.evaluator.specs.Working.{site-table, env-of, Ready, told-of, EvalsName, EvalsPlain};
+ghost use Rattle.evaluator.specs.Working.{site-table, env-of, Ready, told-of, EvalsName, EvalsPlain, Leaf};
 use crate::Site;
 use crate::Told;
 use crate::neighbour::field_of;
 use crate::neighbour::index_value;
 use crate::neighbour::neighbour_field;
+use crate::operators::is_unary;
 use crate::table::link_at;
 use crate::table::place_at;
 use crate::table::word_at;
@@ -49,7 +50,7 @@ pub fn element(words: &[u32], n: usize, dims: usize, at: usize, i: Value, next: 
 }
 
 // The name at a position: a variable, a constant or an index variable.
-pub fn name(
+fn name(
     words: &[u32],
     sizes: &[u32],
     place: &[u32],
@@ -79,7 +80,7 @@ pub fn name(
 }
 
 // The primary at a position: a literal, a relative index, `cell` or `time`.
-pub fn plain(
+fn plain(
     words: &[u32],
     sizes: &[u32],
     place: &[u32],
@@ -115,4 +116,36 @@ pub fn plain(
         return Told::Found(Value::decode(site.time), at + 1);
     }
     Told::Failed(0, 0)
+}
+
+// The operand at a position, if it is a literal, a name, a relative index, `cell` or `time` alone. Else a fault is told, which says nothing.
+pub fn leaf(
+    words: &[u32],
+    sizes: &[u32],
+    place: &[u32],
+    grid: &[i32],
+    vars: &[i32; 256],
+    index: &[i32; 16],
+    site: Site,
+    depth: usize,
+    at: usize,
+) -> Told
+    requires { ⌜ Ready (now words) (now sizes) (now place) (now grid) site depth × (at ≤ site .tokens) ⌝ }
+    ensures { λ r. ⌜ Leaf (site-table (now (words .entry)) (now (sizes .entry)) site) (env-of (now (words .entry)) (now (sizes .entry)) (now (grid .entry)) site) (take (site .slots) (now (vars .entry))) (take depth (now (index .entry))) (site .tokens) at r ⌝ }
+{
+    let n = site.tokens;
+    let kind = word_at(words, n, 0, at);
+    if kind == kind::NAME {
+        if word_at(words, n, 2, at) == 2 {
+            return Told::Failed(0, 0);
+        }
+        return name(words, sizes, place, grid, vars, index, site, depth, at);
+    }
+    if kind == kind::PAREN {
+        return Told::Failed(0, 0);
+    }
+    if is_unary(kind) {
+        return Told::Failed(0, 0);
+    }
+    plain(words, sizes, place, grid, vars, index, site, depth, at)
 }

@@ -6,12 +6,13 @@ ghost use Rattle.value.specs.Worked.{truth};
 ghost use Rattle.program.specs.Syntax.{no-range};
 ghost use Rattle.evaluator.specs.Evaluation.{in-field};
 ghost use Rattle.evaluator.specs.Stands.{first-clause};
-ghost use Rattle.evaluator.specs.Working.{site-table, env-of, Ready};
+ghost use Rattle.evaluator.specs.Working.{site-table, env-of, Ready, EvalsExpression};
 ghost use Rattle.executor.specs.Running.{field-range, Stores, AssignsOne, Guards, Assigns};
 use crate::Going;
 use evaluator::Site;
 use evaluator::Told;
 use evaluator::expression::expression;
+use evaluator::expression::quick;
 use evaluator::table::link_at;
 use evaluator::table::place_at;
 use evaluator::table::word_at;
@@ -99,6 +100,28 @@ fn put(
     Going::On
 }
 
+// The expression at a position: in one loop where that can be, else by every way that an expression can go.
+pub fn worked_out(
+    words: &[u32],
+    sizes: &[u32],
+    place: &[u32],
+    grid: &[i32],
+    vars: &[i32; 256],
+    index: &[i32; 16],
+    site: Site,
+    depth: usize,
+    at: usize,
+) -> Told
+    requires { ⌜ Ready (now words) (now sizes) (now place) (now grid) site depth × (at ≤ site .tokens) ⌝ }
+    ensures { λ r. ⌜ EvalsExpression (site-table (now (words .entry)) (now (sizes .entry)) site) (env-of (now (words .entry)) (now (sizes .entry)) (now (grid .entry)) site) (take (site .slots) (now (vars .entry))) (take depth (now (index .entry))) (site .tokens) at 1 r ⌝ }
+{
+    let short = quick(words, sizes, place, grid, vars, index, site, depth, at, 1);
+    let Told::Found(v, next) = short else {
+        return expression(words, sizes, place, grid, vars, index, site, depth, at, 1);
+    };
+    Told::Found(v, next)
+}
+
 // The clause at a `:=`, for the assignment at a position: its expression is worked out and stored.
 fn assign_one(
     words: &[u32],
@@ -116,7 +139,7 @@ fn assign_one(
     requires { ⌜ Ready (now words) (now sizes) (now place) (now grid) site depth × (here < site .tokens) ⌝ }
     ensures { λ r. ⌜ AssignsOne (site-table (now (words .entry)) (now (sizes .entry)) site) (env-of (now (words .entry)) (now (sizes .entry)) (now (grid .entry)) site) (take depth (now (index .entry))) at here (take (site .slots) (now (vars .entry))) (now (next .entry)) (take (site .slots) (now (vars .exit))) (now (next .exit)) r ⌝ }
 {
-    let told = expression(
+    let told = worked_out(
         words,
         sizes,
         place,
@@ -126,7 +149,6 @@ fn assign_one(
         site,
         depth,
         here + 1,
-        1,
     );
     match told {
         Told::Found(v, _) => put(
@@ -172,7 +194,7 @@ fn guard(
     if word_at(words, n, 2, here) == 0 {
         return Verdict::Holds;
     }
-    let told = expression(
+    let told = worked_out(
         words,
         sizes,
         place,
@@ -182,7 +204,6 @@ fn guard(
         site,
         depth,
         link_at(words, n, 2, here),
-        1,
     );
     match told {
         Told::Found(v, _) => {

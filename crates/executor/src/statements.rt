@@ -10,9 +10,9 @@ ghost use Rattle.executor.specs.Running.{RunsBlock, RunsStatement, RunsC
 use crate::Going;
 use crate::assignment::assignment;
 use crate::assignment::is_true;
+use crate::assignment::worked_out;
 use evaluator::Site;
 use evaluator::Told;
-use evaluator::expression::expression;
 use evaluator::table::link_at;
 use evaluator::table::word_at;
 use program::kind;
@@ -183,18 +183,7 @@ fn choice(
     let n = site.tokens;
     let mut arm = at;
     loop {
-        let told = expression(
-            words,
-            sizes,
-            place,
-            grid,
-            vars,
-            index,
-            site,
-            depth,
-            arm + 1,
-            1,
-        );
+        let told = worked_out(words, sizes, place, grid, vars, index, site, depth, arm + 1);
         match told {
             Told::Found(v, m) => {
                 if is_true(v) {

@@ -2,7 +2,7 @@
 use Prim.Native.Nat.{ℕ, _+_, _≤_}
 use mathlib.Core.Path.{_≡_, refl, sym, ap, subst}
 use mathlib.Core.Bool.{Bool, true, false, not, _&&_}
-use mathlib.Core.List.{List}
+use mathlib.Core.List.{List, []}
 use mathlib.Core.Option.{Option}
 use lib.Dec.{eqb}
 use lib.ListN.{length}
@@ -18,7 +18,9 @@ use Rattle.grammar.specs.Constants.{read-constants}
 use Rattle.grammar.specs.Statements.{read-block}
 use Rattle.grammar.specs.Source.{Declared, read-cell, most-open, start-state, has-kind, sized, Accepted, finish, read-program, what-is-read, parse}
 use Rattle.evaluator.specs.declared.Rule.{Rule}
-use Rattle.evaluator.specs.Stands.{Holds}
+use Rattle.evaluator.specs.Stands.{Holds, table-of, rule-table}
+use Rattle.evaluator.specs.Written.{written-in}
+use Rattle.evaluator.specs.Listing.{Writes}
 use Rattle.linking.specs.Steps.{Gives, bind, no-end}
 use Rattle.linking.specs.Runs.{tokens}
 use Rattle.linking.specs.Timed.{Timing}
@@ -108,6 +110,14 @@ pub holds : (source : List ℕ) (a : Accepted) (p : Parsed source a) → Holds (
 holds source a p =
     subst (λ (z : Accepted). Holds (z .words) (record { tokens = tokens (input-of source); base = p .s₁ .at + 2; body = p .s₂ .at; dims = z .program .dims; fields = length (z .program .fields); slots = z .program .slots }) (z .program)) (sym (p .is))
     (record { dims = refl; fields = p .linked .fields; slots = refl; body = p .linked .body })
+
+-- the indices that are written in it are those of the tokens from its first statement on
+pub written : (source : List ℕ) (a : Accepted) (p : Parsed source a)
+    → Writes (rule-table (a .words) (rule-of source a p)) [] (rule-of source a p .body) (rule-of source a p .tokens) (written-in (a .program))
+unfolding written-in
+written source a p =
+    subst (λ (z : Accepted). Writes (table-of (z .words) (tokens (input-of source)) (z .program .dims)) [] (p .s₂ .at) (tokens (input-of source)) (written-in (z .program)))
+    (sym (p .is)) (p .linked .indices)
 
 -- its flag `timed` is set where `time` stands in its statements
 pub flagged : {timed-expr : Expr → Bool} {timed-condition : Option Expr → Bool} {timed-clauses : List Clause → Bool} {timed : Block → Bool} → Timing timed-expr timed-condition timed-clauses timed → (source : List ℕ) (a : Accepted) → Parsed source a

@@ -13,18 +13,20 @@ use borrow.Author.Tests.{eqb-true, eqb-false}
 use Rattle.value.specs.Choice.{if_then_else_}
 use Rattle.token.specs.Kind.{kind}
 use Rattle.names.specs.Names.{name-kind, is, entry-at}
-use Rattle.program.specs.Syntax.{Expr, Target, to-field, to-variable, Clause, Block, assign}
+use Rattle.program.specs.Syntax.{Range, Expr, Target, to-field, to-variable, Clause, Block, assign}
 use Rattle.grammar.specs.Reader.{Input, State, Reader, return, Turn, again, done, repeat, turns, token-of, is-kind, is-name, by-name}
 use Rattle.grammar.specs.Expressions.{Cell}
 use Rattle.grammar.specs.Statements.{old-variable, new-variable, named-target, field-target, read-target, target-number, clause, when-clause, clause-end, clause-turn, read-assignment}
 use Rattle.evaluator.specs.Stands.{Table, table-of, word-in, ExprAt, target-in, first-clause, ClausesAt, assigns, Stands}
+use Rattle.evaluator.specs.Written.{written-in-expr, written-in-condition, written-in-clauses, written-in-block}
 use Rattle.linking.specs.Steps.{advanced, written, named, Gives, gave, refused, refused-last, bind, made, regroup, choose, at-position, at-token, at-entry, over, wrote, wrote-both, named-last, by-found, expected, forbidden, Turned, repeated}
 use Rattle.linking.specs.Runs.{tokens, Text, Sound, Run, stay, join, go-on, write-first, word-other}
 use Rattle.linking.specs.Naming.{of-kind, head-is, name-it}
 use Rattle.linking.specs.Constants.{is-name-inside, fresh-gives}
 use Rattle.linking.specs.Tables.{View, Claim, first-part, second-part, inner-part, unwritten, view-word, view-kind, view-place}
+use Rattle.linking.specs.Adding.{plain-kind, plain-of, Adds, adds-none, adds-both, adds-plain}
 use Rattle.linking.specs.Decoding.{Expression, as-expression}
-use Rattle.linking.specs.Fields.{dot-gives, first-2, first-past, first-inner, first-behind, write-both-first}
+use Rattle.linking.specs.Fields.{AddsNone, plain-name, dot-gives, first-2, first-past, first-inner, first-behind, write-both-first}
 use Rattle.linking.specs.Expressions.{ReadsLevel}
 use Rattle.linking.specs.Proper.{ProperClauses, Proper}
 
@@ -36,6 +38,7 @@ module _ {input : Input} {text : List ℕ} (T : Text input text) (cell : Cell) (
     pub run : Run input text (advanced s) t
     pub is : to ≡ (if is-kind (token-of input s (s .at)) (kind .cell) then to-field (target-number to) else to-variable (target-number to))
     pub first : Claim input text (cell .dims) (advanced s) t (λ tb. first-clause tb (s .at) ≡ t .at)
+    pub adds : AddsNone T (cell .dims) (advanced s) t
 
   field-aim : {s : State} → Sound input text s → is-kind (token-of input s (s .at)) (kind .cell) ≡ true → Gives input (field-target cell) s (λ f t. Aim s (to-field f) t)
   unfolding field-target named-target first-clause
@@ -55,6 +58,7 @@ module _ {input : Input} {text : List ℕ} (T : Text input text) (cell : Cell) (
         run = h .1;
         is = rw q;
         first = λ wf v. let k : word-in wf (tokens input) 0 (s .at + 1) ≡ kind .dot = view-kind v (r .sound) (s .at + 1) ∙ eqb-true _ _ (h .2) in rw k (sym a);
+        adds = h .3;
       })))))
       )
       (λ _.
@@ -67,6 +71,7 @@ module _ {input : Input} {text : List ℕ} (T : Text input text) (cell : Cell) (
         run = stay (r .sound);
         is = rw q;
         first = λ wf v. let k : eqb (word-in wf (tokens input) 0 (s .at + 1)) (kind .dot) ≡ false = ap (λ (y : ℕ). eqb y (kind .dot)) (view-kind v (r .sound) (s .at + 1)) ∙ n in rw k;
+        adds = λ wf v loops. adds-none _ loops (s .at + 1);
       })))))
 
   variable-aim : {s : State} → Sound input text s → s .at < tokens input → Gives input (by-name (token-of input s (s .at)) false old-variable new-variable) s (λ _ t. Run input text (advanced s) t × (t .at ≡ s .at + 1))
@@ -101,6 +106,7 @@ module _ {input : Input} {text : List ℕ} (T : Text input text) (cell : Cell) (
         first = λ wf v.
             let k : eqb (word-in wf (tokens input) 0 (s .at + 1)) (kind .dot) ≡ false = ap (λ (y : ℕ). eqb y (kind .dot)) (view-kind v (h .0 .sound) (s .at + 1) ∙ ap (λ (y : ℕ). token-of input t y .kind) (sym (h .1))) ∙ n in
             rw k (sym (h .1));
+        adds = λ wf v loops. subst (λ (i : ℕ). Adds (table-of wf (tokens input) (cell .dims)) loops (s .at + 1) i []) (sym (h .1)) (adds-none _ loops (s .at + 1));
       }))))
       (λ slot t h. (h, not-time)))))
 
@@ -114,6 +120,7 @@ module _ {input : Input} {text : List ℕ} (T : Text input text) (cell : Cell) (
     pub are : all ≡ got ++ these
     pub proper : ProperClauses these
     pub stand : Claim input text (cell .dims) s t (λ tb. ClausesAt tb these (s .at))
+    pub adds : Claim input text (cell .dims) s t (λ tb. (loops : List Range) → Adds tb loops (s .at) (t .at) (written-in-clauses loops these))
 
   module _ (expr : Reader Expr) (reads : ReadsLevel T cell some-dims 1 expr) where
     -- a clause's `:=` and expression are read, from s up to u
@@ -125,6 +132,7 @@ module _ {input : Input} {text : List ℕ} (T : Text input text) (cell : Cell) (
 
     -- a condition is read up to w, and noted at the `:=`
     record Guarded (s u : State) (c : Expr) (w : State) : Type 0 where
+      pub is-when : is-kind (token-of input u (u .at)) (kind .when-word) ≡ true
       pub over-when : Run input text u (advanced u)
       pub run : Run input text (advanced u) w
       pub stands : Claim input text (cell .dims) (advanced u) w (λ tb. Expression tb 1 (u .at + 1) c (w .at))
@@ -133,6 +141,7 @@ module _ {input : Input} {text : List ℕ} (T : Text input text) (cell : Cell) (
     record Unguarded (got : List Clause) (s : State) (e : Expr) (u : State) (now : List Clause) (t : State) : Type 0 where
       pub are : now ≡ got ++ clause (token-of input s (s .at)) e none ∷ []
       pub run : Run input text u t
+      pub adds : AddsNone T (cell .dims) u t
 
     record Ended (got : List Clause) (s : State) (e : Expr) (u : State) (now : List Clause) (t : State) : Type 0 where
       pub condition : Expr
@@ -146,7 +155,7 @@ module _ {input : Input} {text : List ℕ} (T : Text input text) (cell : Cell) (
     Ending got s e u (done now) t = (Ended got s e u now t × (is-kind (token-of input t (t .at)) (kind .assign) ≡ false)) ⊎ Unguarded got s e u now t
 
     end-gives : (got : List Clause) (s : State) (e : Expr) (u : State) → Begun s e u → Gives input (clause-end expr got (s .at) (token-of input s (s .at)) e) u (Ending got s e u)
-    unfolding clause-end when-clause
+    unfolding clause-end when-clause plain-kind
     end-gives got s e u b =
         at-token _
         (choose _
@@ -158,13 +167,13 @@ module _ {input : Input} {text : List ℕ} (T : Text input text) (cell : Cell) (
         (λ c w h.
         wrote _ _ _
         (at-token _
-        (let it : Ended got s e u (got ++ clause (token-of input s (s .at)) e (some c) ∷ []) (written w (s .at) 2 (u .at + 1)) = record { condition = c; are = refl; before = w; guarded = record { over-when = r; run = h .0; stands = h .1 }; noted = refl } in
+        (let it : Ended got s e u (got ++ clause (token-of input s (s .at)) e (some c) ∷ []) (written w (s .at) 2 (u .at + 1)) = record { condition = c; are = refl; before = w; guarded = record { is-when = q; over-when = r; run = h .0; stands = h .1 }; noted = refl } in
         turned (is-kind (token-of input (written w (s .at) 2 (u .at + 1)) (w .at)) (kind .assign)) (λ k. (it, k)) (λ k. inl (it, k))))))))
         (λ _.
         choose (is-kind (token-of input u (u .at)) (kind .comma)) (λ _. refused 6)
         (λ _.
-        choose (eqb (length got) 0) (λ _. gave (done (got ++ clause (token-of input s (s .at)) e none ∷ [])) (inr (record { are = refl; run = stay (b .run .sound) })))
-        (λ _. expected (kind .otherwise-word) 7 (λ k. gave (done (got ++ clause (token-of input s (s .at)) e none ∷ [])) (inr (record { are = refl; run = go-on (b .run .sound) (of-kind (b .run .sound) (u .at) (kind .otherwise-word) (omega arith) k) })))))))
+        choose (eqb (length got) 0) (λ _. gave (done (got ++ clause (token-of input s (s .at)) e none ∷ [])) (inr (record { are = refl; run = stay (b .run .sound); adds = λ wf v loops. adds-none _ loops (u .at) })))
+        (λ _. expected (kind .otherwise-word) 7 (λ k. gave (done (got ++ clause (token-of input s (s .at)) e none ∷ [])) (inr (record { are = refl; run = go-on (b .run .sound) (of-kind (b .run .sound) (u .at) (kind .otherwise-word) (omega arith) k); adds = λ wf v loops. adds-plain _ loops (u .at) (plain-of (kind .otherwise-word) (view-kind v (b .run .sound) (u .at) ∙ eqb-true _ _ k) refl) })))))))
       where
         turned : {now : List Clause} {t : State} (k : Bool) → (k ≡ true → Ending got s e u (again now) t) → (k ≡ false → Ending got s e u (done now) t) → Gives input (return (if k then again now else done now)) t (Ending got s e u)
         turned true x y = gave _ (x refl)
@@ -190,6 +199,20 @@ module _ {input : Input} {text : List ℕ} (T : Text input text) (cell : Cell) (
             view-word v (r .sound .within) (s .at) 2 (le-refl _) far (omega arith) ∙ word-other (t .words) (s .at) 3 (t .at) (4 * s .at + 2) (λ q. absurd (omega arith)) ∙ r .below _ (omega (arith, b .run .on)) ∙ b .run .below _ (omega arith)
                 ∙ b .sound .ahead _ (omega arith) ∙ T .clean (s .at) (head-is (b .sound) (s .at) (kind .assign) (omega arith) (b .assigned)),
           )
+
+      -- the `:=` and the expression
+      begun-adds : {wf : List ℕ} {t : State} → View input text (cell .dims) wf s t → View input text (cell .dims) wf (advanced s) u → (loops : List Range)
+          → Adds (table-of wf (tokens input) (cell .dims)) loops (s .at) (u .at) (written-in-expr loops e)
+      unfolding plain-kind
+      begun-adds {wf} v v₁ loops =
+          adds-both _ loops (adds-plain _ loops (s .at) (plain-of (kind .assign) (view-kind v (b .sound) (s .at) ∙ eqb-true _ _ (b .assigned)) refl)) (b .stands wf v₁ .1 loops)
+
+      plain-adds : {t : State} → Run input text u t → AddsNone T (cell .dims) u t → (loops : List Range)
+          → Claim input text (cell .dims) s (written t (s .at) 3 (t .at)) (λ tb. Adds tb loops (s .at) (t .at) (written-in-clauses loops (clause (token-of input s (s .at)) e none ∷ [])))
+      unfolding written-in-clauses written-in-condition
+      plain-adds {t} r a loops wf v =
+          let v₁ : View input text (cell .dims) wf (advanced s) t = unwritten (s .at) 3 (t .at) (inner-part v) (omega arith) (omega arith) in
+          adds-both _ loops (begun-adds v (first-part v₁ r) loops) (a wf (second-part (go-on (b .sound) inside .sound) v₁ (b .run) r) loops)
 
       guarded-run : {c : Expr} {w : State} → Guarded s u c w → Run input text (advanced s) w
       guarded-run g = join (b .run) (join (g .over-when) (g .run))
@@ -220,10 +243,21 @@ module _ {input : Input} {text : List ℕ} (T : Text input text) (cell : Cell) (
             ),
           )
 
+      guarded-adds : {c : Expr} {w : State} (g : Guarded s u c w) (rest : List Clause) {wf : List ℕ}
+          → View input text (cell .dims) wf s (written (written w (s .at) 2 (u .at + 1)) (s .at) 3 (w .at)) → (loops : List Range) {next : ℕ}
+          → Adds (table-of wf (tokens input) (cell .dims)) loops (w .at) next (written-in-clauses loops rest)
+          → Adds (table-of wf (tokens input) (cell .dims)) loops (s .at) next (written-in-clauses loops (clause (token-of input s (s .at)) e (some c) ∷ rest))
+      unfolding written-in-clauses written-in-condition plain-kind
+      guarded-adds {c} {w} g rest {wf} v loops more =
+          let v₁ = first-behind T (cell .dims) (b .sound) (whole (guarded-run g)) (noted-far g) (u .at + 1) (w .at) v in
+          let v₂ = second-part (go-on (b .sound) inside .sound) v₁ (join (b .run) (g .over-when)) (g .run) in
+          adds-both _ loops (begun-adds v (first-part v₁ (join (g .over-when) (g .run))) loops)
+          (adds-both _ loops (adds-plain _ loops (u .at) (plain-of (kind .when-word) (view-kind v (b .run .sound) (u .at) ∙ eqb-true _ _ (g .is-when)) refl)) (adds-both _ loops (g .stands wf v₂ .1 loops) more))
+
     -- ---- all clauses
 
     clauses-gives : {s : State} → Sound input text s → Gives input (repeat turns (clause-turn expr) []) s (Clauses [] s)
-    unfolding clause-turn
+    unfolding clause-turn written-in-clauses
     clauses-gives {s} x = repeated (clause-turn expr) turn turns [] s x
       where
         finish : (got : List Clause) (s : State) (e : Expr) (u : State) → Begun s e u → (k : Turn (List Clause) (List Clause)) (t : State) → Ending got s e u k t → Turned (λ _ t. Sound input text t) Clauses got s k (written t (s .at) 3 (t .at))
@@ -238,6 +272,7 @@ module _ {input : Input} {text : List ℕ} (T : Text input text) (cell : Cell) (
                     are = k .are ∙ ap (λ (z : List Clause). z ++ k .these) (h .0 .are) ∙ append-assoc got _ (k .these);
                     proper = (tt, k .proper);
                     stand = λ wf v. guarded-stands b (h .0 .guarded) (k .these) (first-part v (k .run)) (k .stand wf (second-part (b .sound) v (noted-run b (h .0 .guarded)) (k .run)));
+                    adds = λ wf v loops. guarded-adds b (h .0 .guarded) (k .these) (first-part v (k .run)) loops (k .adds wf (second-part (b .sound) v (noted-run b (h .0 .guarded)) (k .run)) loops);
                   },
             )
         finish got s e u b (done now) t (inl h) =
@@ -250,6 +285,7 @@ module _ {input : Input} {text : List ℕ} (T : Text input text) (cell : Cell) (
               are = h .0 .are;
               proper = (tt, tt);
               stand = λ wf v. guarded-stands b (h .0 .guarded) [] v (λ z. eqb-false _ _ n (sym (view-kind v (write-first (b .sound) (whole b (guarded-run b (h .0 .guarded))) 2 (u .at + 1) (noted-far b (h .0 .guarded)) (omega arith) (omega arith) .sound) (h .0 .before .at)) ∙ z));
+              adds = λ wf v loops. guarded-adds b (h .0 .guarded) [] v loops (adds-none _ loops (h .0 .before .at));
             })
             (h .1)
         finish got s e u b (done now) t (inr h) =
@@ -261,6 +297,7 @@ module _ {input : Input} {text : List ℕ} (T : Text input text) (cell : Cell) (
               are = h .are;
               proper = (refl, tt);
               stand = plain-stands b (h .run);
+              adds = λ wf v loops. plain-adds b (h .run) (h .adds) loops wf v;
             }
 
         turn : (got : List Clause) (s : State) → Sound input text s → Gives input (clause-turn expr got) s (Turned (λ _ t. Sound input text t) Clauses got s)
@@ -277,15 +314,21 @@ module _ {input : Input} {text : List ℕ} (T : Text input text) (cell : Cell) (
 
   -- ---- assignments
 
+  -- the indices written in a list of statements are those from a position on, if those in a last part of it are from another on
+  abbrev pub AddsStatement : Table → ℕ → Block → ℕ → Block → ℕ → Type 0
+  AddsStatement tb depth rest at′ all at =
+      (loops : List Range) → length loops ≡ depth → (next : ℕ) → Adds tb loops at′ next (written-in-block loops rest) → Adds tb loops at next (written-in-block loops all)
+
   -- a statement: it stands where it is read, if what follows stands behind it
   pub record Statement (depth : ℕ) (s : State) (statement : Block → Block) (t : State) : Type 0 where
     pub run : Run input text s t
     pub far : s .at < t .at
     pub proper : (rest : Block) → Proper rest → Proper (statement rest)
     pub stands : (rest : Block) → Claim input text (cell .dims) s t (λ tb. Stands tb depth rest (t .at) → Stands tb depth (statement rest) (s .at))
+    pub adds : (rest : Block) → Claim input text (cell .dims) s t (λ tb. AddsStatement tb depth rest (t .at) (statement rest) (s .at))
 
   pub assignment-gives : (depth : ℕ) (expr : Reader Expr) → ReadsLevel T cell some-dims 1 expr → {s : State} → Sound input text s → is-name (token-of input s (s .at)) ≡ true → Gives input (read-assignment cell expr) s (Statement depth s)
-  unfolding read-assignment Stands assigns target-in is-name
+  unfolding read-assignment Stands assigns target-in is-name written-in-block
   assignment-gives depth expr reads {s} x q =
       let r₁ = go-on x (is-name-inside x (s .at) q) in
       at-position _
@@ -313,6 +356,14 @@ module _ {input : Input} {text : List ℕ} (T : Text input text) (cell : Cell) (
               subst₂ (λ (i : ℕ) (l : List Clause). ClausesAt tb l i) (sym (a .0 .first wf (first-part v₁ (c .run)))) (sym (c .are)) (c .stand wf (second-part (r₁ .sound) v₁ (a .0 .run) (c .run))),
               subst (λ (i : ℕ). Stands tb depth rest i) (sym (first-past T (cell .dims) x r far (target-number to) (u .at) v far (c .run .sound .within))) more,
             );
+        adds = λ rest wf v loops _ next more.
+            let v₁ = first-behind T (cell .dims) x r far (target-number to) (u .at) v in
+            adds-both _ loops
+            (subst (λ (l : List Clause). Adds (table-of wf (tokens input) (cell .dims)) loops (s .at) (u .at) (written-in-clauses loops l)) (sym (c .are))
+            (adds-both _ loops
+            (adds-both _ loops (adds-plain _ loops (s .at) (rw (view-kind v x (s .at)) (plain-name T (cell .dims) (token-of input s (s .at) .kind) q))) (a .0 .adds wf (first-part v₁ (c .run)) loops))
+            (c .adds wf (second-part (r₁ .sound) v₁ (a .0 .run) (c .run)) loops)))
+            more;
       })))))))
     where
       one-of : (a b c : Bool) → (a || b || c) ≡ true → c ≡ false → (a || b) ≡ true

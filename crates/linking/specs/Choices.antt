@@ -6,18 +6,21 @@ use mathlib.Core.Path.{_≡_, refl, sym, ap, _∙_, subst}
 use mathlib.Core.Bool.{Bool, true}
 use mathlib.Core.List.{List, [], _∷_, _++_, append-assoc}
 use lib.Dec.{eqb}
+use lib.ListN.{length}
 use borrow.Author.Tests.{eqb-true}
 use Rattle.token.specs.Kind.{kind}
-use Rattle.program.specs.Syntax.{Expr, Block, empty}
+use Rattle.program.specs.Syntax.{Range, Expr, Block, empty}
 use Rattle.program.specs.Table.{word-at}
 use Rattle.grammar.specs.Reader.{Input, State, Reader, again, done, turns, token-of, is-kind}
 use Rattle.grammar.specs.Expressions.{Cell}
 use Rattle.grammar.specs.Statements.{Arm, choices, arm-end, arm-turn, read-if}
 use Rattle.evaluator.specs.Stands.{Table, table-of, word-in, linked, ElseAt, Stands, Elsif, Choice}
+use Rattle.evaluator.specs.Written.{Written, written-in-expr, written-in-block}
 use Rattle.linking.specs.Steps.{advanced, written, Gives, gave, refused, bind, handed, regroup, choose, at-position, at-token, over, wrote, expected, Turned, repeated}
 use Rattle.linking.specs.Runs.{tokens, Text, Sound, Run, stay, join, go-on, write-first, word-put, word-other}
 use Rattle.linking.specs.Naming.{of-kind, token-kind}
 use Rattle.linking.specs.Tables.{View, Claim, Known, first-part, second-part, inner-part, unwritten, rewritten, view-from, view-word, view-kind, link-to}
+use Rattle.linking.specs.Adding.{append-none, plain-kind, plain-of, Adds, adds-as, adds-both, then-none, adds-plain}
 use Rattle.linking.specs.Decoding.{Expression, as-expression}
 use Rattle.linking.specs.Fields.{inside-words}
 use Rattle.linking.specs.Expressions.{ReadsLevel}
@@ -29,9 +32,11 @@ pub other-kind : {k : ℕ} (a b : ℕ) → eqb k a ≡ true → (a ≡ b → ⊥
 other-kind {k} a b q d e = d (sym (eqb-true k a q) ∙ e)
 
 module _ {input : Input} {text : List ℕ} (T : Text input text) (cell : Cell) (some-dims : 0 < cell .dims) where
-  -- a list of statements: it stands where it is read, if no `exit` stands behind it
+  -- a list of statements: it stands where it is read, if no `exit` stands behind it; and the indices from there on are those written in it
   abbrev pub BlockRead : ℕ → State → Block → State → Type 0
-  BlockRead depth s b t = Run input text s t × ((token-of input t (t .at) .kind ≡ kind .exit-word → ⊥) → Claim input text (cell .dims) s t (λ tb. Stands tb depth b (s .at))) × Proper b
+  BlockRead depth s b t =
+      Run input text s t × ((token-of input t (t .at) .kind ≡ kind .exit-word → ⊥) → Claim input text (cell .dims) s t (λ tb. Stands tb depth b (s .at))) × Proper b
+      × Claim input text (cell .dims) s t (λ tb. (loops : List Range) → length loops ≡ depth → Adds tb loops (s .at) (t .at) (written-in-block loops b))
 
   abbrev pub ReadsBlock : ℕ → Reader Block → Type 0
   ReadsBlock depth m = (s : State) → Sound input text s → Gives input m s (BlockRead depth s)
@@ -42,6 +47,7 @@ module _ {input : Input} {text : List ℕ} (T : Text input text) (cell : Cell) (
     -- the condition is read up to u and the statements up to t; the position behind them is noted at the first token
     record One (s : State) (c : Expr) (d : Block) (u t : State) : Type 0 where
       pub sound : Sound input text s
+      pub plain : plain-kind (token-of input s (s .at) .kind) ≡ true
       pub first : Run input text s (advanced s)
       pub condition : Run input text (advanced s) u
       pub condition-stands : Claim input text (cell .dims) (advanced s) u (λ tb. Expression tb 1 (s .at + 1) c (u .at))
@@ -85,6 +91,16 @@ module _ {input : Input} {text : List ℕ} (T : Text input text) (cell : Cell) (
               rest = subst (λ (i : ℕ). ElseAt tb (λ j. Stands tb depth e j) (λ j. Elsif tb depth e j) (e ≡ empty) i) (sym (arm-inner w)) rest;
             }
 
+        -- the indices of an arm, before those of what follows it
+        arm-adds : (loops : List Range) → length loops ≡ depth → {next : ℕ} {ws : List Written} → Adds (table-of wf (tokens input) (cell .dims)) loops (t .at) next ws
+            → Adds (table-of wf (tokens input) (cell .dims)) loops (s .at) next (written-in-expr loops c ++ (written-in-block loops d ++ ws))
+        unfolding plain-kind
+        arm-adds loops deep more =
+            adds-both _ loops
+            (adds-both _ loops (adds-plain _ loops (s .at) (rw (view-kind v (o .sound) (s .at)) (o .plain))) (o .condition-stands wf (first-part arm-view (join (o .over-then) (o .part .0))) .1 loops))
+            (adds-both _ loops (adds-plain _ loops (u .at) (plain-of (kind .then-word) (view-kind v (o .condition .sound) (u .at) ∙ eqb-true _ _ (o .is-then)) refl))
+            (adds-both _ loops (o .part .3 wf (second-part (o .first .sound) arm-view (join (o .condition) (o .over-then)) (o .part .0)) loops deep) more))
+
     -- ---- arms
 
     -- arms from an `if` or `elsif` on, behind those in `got`. Word 3 of the first token may still be written
@@ -99,9 +115,12 @@ module _ {input : Input} {text : List ℕ} (T : Text input text) (cell : Cell) (
       pub are : statement ≡ choices (got ++ arm ∷ more) last
       pub stands : (wf : List ℕ) → View input text (cell .dims) wf (advanced s) t → word-in wf (tokens input) 2 (s .at) ≡ word-at (t .words) (s .at) 2
           → Choice (table-of wf (tokens input) (cell .dims)) depth (arm .condition) (arm .part) (choices more last empty) (s .at)
+      pub adds : (wf : List ℕ) → View input text (cell .dims) wf (advanced s) t → (loops : List Range) → length loops ≡ depth
+          → Adds (table-of wf (tokens input) (cell .dims)) loops (s .at) (t .at) (written-in-expr loops (arm .condition) ++ (written-in-block loops (arm .part) ++ written-in-block loops (choices more last empty)))
 
     record Here (s : State) : Type 0 where
       pub sound : Sound input text s
+      pub plain : plain-kind (token-of input s (s .at) .kind) ≡ true
       pub inside : s .at < tokens input
 
     module _ (got : List Arm) {s : State} {c : Expr} {d : Block} {u t : State} (o : One s c d u t) where
@@ -117,7 +136,7 @@ module _ {input : Input} {text : List ℕ} (T : Text input text) (cell : Cell) (
 
       -- an `elsif` follows
       arm-elsif : is-kind (token-of input noted (noted .at)) (kind .elsif-word) ≡ true → (f : Block → Block) (z : State) → Arms (got ++ arm ∷ []) noted f z → Arms got s f z
-      unfolding choices Elsif
+      unfolding choices Elsif written-in-block
       arm-elsif q f z k =
           record {
             run = join (one-run o) (k .run);
@@ -137,11 +156,15 @@ module _ {input : Input} {text : List ℕ} (T : Text input text) (cell : Cell) (
                   at-elsif = λ _. (refl, k .stands wf (view-from v (advanced noted) (omega (arith, one-far o)) (arm-known o (k .run) v)) (view-word v (k .run .sound .within) (t .at) 2 (omega (arith, one-far o)) (k .far) (omega arith)));
                   at-end = λ p p′. absurd (p′ (e ∙ eqb-true _ _ q));
                 });
+            adds = λ wf v loops deep.
+                arm-adds o (k .run) v loops deep
+                (adds-as _ loops (ap (λ (ws : List Written). written-in-expr loops (k .arm .condition) ++ (written-in-block loops (k .arm .part) ++ ws)) (sym (append-none _)))
+                (k .adds wf (view-from v (advanced noted) (omega (arith, one-far o)) (arm-known o (k .run) v)) loops deep));
           }
 
       -- the part behind `else` follows
       arm-else : is-kind (token-of input noted (noted .at)) (kind .else-word) ≡ true → Run input text noted (advanced noted) → (e : Block) (z : State) → BlockRead depth (advanced noted) e z → is-kind (token-of input z (z .at)) (kind .end-word) ≡ true → Arms got s (choices (got ++ arm ∷ []) e) (advanced z)
-      unfolding choices
+      unfolding choices plain-kind
       arm-else q r e z h n =
           let last : Run input text z (advanced z) = go-on (h .0 .sound) (of-kind (h .0 .sound) (z .at) (kind .end-word) (omega arith) n) in
           record {
@@ -161,11 +184,16 @@ module _ {input : Input} {text : List ℕ} (T : Text input text) (cell : Cell) (
                   at-elsif = λ p. absurd (other-kind (kind .else-word) (kind .elsif-word) q (λ p. omega arith) (sym k ∙ p));
                   at-end = λ p p′. absurd (p (k ∙ eqb-true _ _ q));
                 });
+            adds = λ wf v loops deep.
+                arm-adds o (join r (join (h .0) last)) v loops deep
+                (then-none _ loops
+                (adds-both _ loops (adds-plain _ loops (t .at) (plain-of (kind .else-word) (view-kind v (one-run o .sound) (t .at) ∙ eqb-true _ _ q) refl)) (h .3 wf (view-from (first-part v last) (advanced noted) (omega (arith, one-far o)) (arm-known o (join r (join (h .0) last)) v)) loops deep))
+                (adds-plain _ loops (z .at) (plain-of (kind .end-word) (view-kind v (h .0 .sound) (z .at) ∙ eqb-true _ _ n) refl)));
           }
 
       -- `end` follows
       arm-last : is-kind (token-of input noted (noted .at)) (kind .end-word) ≡ true → Run input text noted (advanced noted) → Arms got s (choices (got ++ arm ∷ []) empty) (advanced noted)
-      unfolding choices
+      unfolding choices plain-kind written-in-block
       arm-last q r =
           record {
             run = join (one-run o) r;
@@ -184,14 +212,15 @@ module _ {input : Input} {text : List ℕ} (T : Text input text) (cell : Cell) (
                   at-elsif = λ p. absurd (other-kind (kind .end-word) (kind .elsif-word) q (λ p. omega arith) (sym k ∙ p));
                   at-end = λ p p′. refl;
                 });
+            adds = λ wf v loops deep. arm-adds o r v loops deep (adds-plain _ loops (t .at) (plain-of (kind .end-word) (view-kind v (one-run o .sound) (t .at) ∙ eqb-true _ _ q) refl));
           }
 
       end-gives : Gives input (arm-end block (got ++ arm ∷ [])) noted (Turned (λ _ z. Here z) Arms got s)
-      unfolding arm-end
+      unfolding arm-end plain-kind
       end-gives =
           let x : Sound input text noted = one-run o .sound in
           at-token _
-          (choose (is-kind (token-of input noted (noted .at)) (kind .elsif-word)) (λ q. gave (again (got ++ arm ∷ [])) (record { sound = x; inside = of-kind x (t .at) (kind .elsif-word) (omega arith) q }, arm-elsif q))
+          (choose (is-kind (token-of input noted (noted .at)) (kind .elsif-word)) (λ q. gave (again (got ++ arm ∷ [])) (record { sound = x; plain = plain-of {k = token-of input noted (t .at) .kind} (kind .elsif-word) (eqb-true _ _ q) refl; inside = of-kind x (t .at) (kind .elsif-word) (omega arith) q }, arm-elsif q))
           (λ _.
           choose (is-kind (token-of input noted (noted .at)) (kind .else-word))
           (λ q.
@@ -213,17 +242,17 @@ module _ {input : Input} {text : List ℕ} (T : Text input text) (cell : Cell) (
         bind (blocks (advanced u) (r₂ .sound))
         (λ d t b.
         at-position _
-        (wrote _ _ _ (end-gives got (record { sound = h .sound; first = r; condition = e .0; condition-stands = e .1; is-then = q; over-then = r₂; part = b }))))))))
+        (wrote _ _ _ (end-gives got (record { sound = h .sound; plain = h .plain; first = r; condition = e .0; condition-stands = e .1; is-then = q; over-then = r₂; part = b }))))))))
 
     -- ---- the whole
 
     pub if-gives : (room : Bool) {s : State} → Sound input text s → is-kind (token-of input s (s .at)) (kind .if-word) ≡ true → Gives input (read-if room expr block) s (Statement T cell some-dims depth s)
-    unfolding read-if Stands choices
+    unfolding read-if Stands choices plain-kind written-in-block
     if-gives room {s} x q =
         choose room
         (λ _.
         at-position _
-        (bind (repeated (arm-turn expr block) turn-gives turns [] s (record { sound = x; inside = of-kind x (s .at) (kind .if-word) (omega arith) q }))
+        (bind (repeated (arm-turn expr block) turn-gives turns [] s (record { sound = x; plain = plain-of {k = token-of input s (s .at) .kind} (kind .if-word) (eqb-true _ _ q) refl; inside = of-kind x (s .at) (kind .if-word) (omega arith) q }))
         (λ f t a.
         at-position _
         (wrote _ _ _
@@ -241,5 +270,8 @@ module _ {input : Input} {text : List ℕ} (T : Text input text) (cell : Cell) (
                 a .stands wf (unwritten (s .at) 3 (t .at) (inner-part v) (omega arith) (omega arith)) w₂,
                 subst (λ (i : ℕ). Stands tb depth rest i) (sym (ap (linked (tokens input) (s .at)) w ∙ link-to (tokens input) (s .at) (t .at) (a .far) (a .run .sound .within))) more,
               );
+          adds = λ rest wf v loops deep next more.
+              subst (λ (g : Block → Block). Adds (table-of wf (tokens input) (cell .dims)) loops (s .at) next (written-in-block loops (g rest))) (sym (a .are))
+              (adds-as _ loops (simp append-assoc) (adds-both _ loops (a .adds wf (unwritten (s .at) 3 (t .at) (inner-part v) (omega arith) (omega arith)) loops deep) more));
         }))))))
         (λ _. refused 14)

@@ -1,10 +1,11 @@
 -- Expressions: what is read of them stands in every later table.
-use Prim.Native.Nat.{ℕ, zero, suc, _+_, _%_, _≤_, _<_}
+use Prim.Native.Nat.{ℕ, zero, suc, _+_, _*_, _%_, _≤_, _<_}
 use native.Mathlib.Nat.{le-refl}
 use native.Mathlib.Omega.{arith}
 use mathlib.Core.Path.{_≡_, refl, sym, ap, ap₂, _∙_, subst, subst₂}
+use mathlib.Core.Logic.{_⊎_, inl, inr}
 use mathlib.Core.Bool.{Bool, true, false, not, _&&_, _||_}
-use mathlib.Core.List.{List}
+use mathlib.Core.List.{List, []}
 use lib.Dec.{eqb, ltb}
 use lib.IntN.{ℤ}
 use borrow.Author.Tests.{not-true, eqb-true, eqb-false, ltb-false, lt-ltb}
@@ -14,7 +15,7 @@ use Rattle.value.specs.Laws.{never, and-both}
 use Rattle.token.specs.Kind.{kind, level-of}
 use Rattle.names.specs.declared.Entry.{Entry}
 use Rattle.names.specs.Names.{name-kind, is, entry-at, is-field, is-visible, in-space}
-use Rattle.program.specs.Syntax.{Expr, number, time, variable, index, element, unary, binary}
+use Rattle.program.specs.Syntax.{Range, Expr, number, time, variable, index, element, unary, binary}
 use Rattle.grammar.specs.Reader.{Input, State, Reader, _>>_, return, done, turns, token-of, refuse, reference}
 use Rattle.grammar.specs.Constants.{is-sign as is-sign-token}
 use Rattle.grammar.specs.Expressions.{Cell, plain, array-values, read-bracket, read-element, array-use, name-use, read-primary, read-operand, Left, left, read-right, operator-turn, climb, levels, operand-in, read-expression}
@@ -23,7 +24,8 @@ use Rattle.linking.specs.Steps.{advanced, Gives, gave, refused, bind, ma
 use Rattle.linking.specs.Runs.{tokens, Text, Sound, Run, stay, join, go-on}
 use Rattle.linking.specs.Naming.{of-kind, token-inside, token-value, still-noted, note-it, Found, found-name}
 use Rattle.linking.specs.Constants.{of-kinds, used, used-it, use-piece}
-use Rattle.linking.specs.Tables.{Claim, first-part, second-part, inner-part, view-word, view-kind, view-place}
+use Rattle.linking.specs.Tables.{View, Claim, first-part, second-part, inner-part, view-word, view-kind, view-place}
+use Rattle.linking.specs.Adding.{plain-kind, plain-of, Adds, adds-plain, adds-bracket}
 use Rattle.linking.specs.Decoding.{Expression, Chain, Operand, Primary, Name, Bracket, expression, chain-end, chain-on, operand-unary, operand-plain, primary-literal, primary-name, primary-bracket, primary-time, name-variable, name-constant, name-index, name-array, bracket}
 use Rattle.linking.specs.Fields.{plain-it, used-2, used-3, Reads, neighbour-gives, own-gives}
 
@@ -67,10 +69,12 @@ module _ {input : Input} {text : List ℕ} (T : Text input text) (cell : Cell) (
 
   -- ---- brackets and names
 
-  bracket-gives : (room : Bool) (inner : Reader Expr) → ReadsLevel 1 inner → (close : ℕ) → 0 < close → {s : State} → Sound input text s → s .at < tokens input
+  -- the first token is plain, or the `[` of an array constant's element
+  bracket-gives : (room : Bool) (inner : Reader Expr) → ReadsLevel 1 inner → (close : ℕ) → 0 < close → plain-kind close ≡ true → {s : State} → Sound input text s
+      → s .at < tokens input → (plain-kind (token-of input s (s .at) .kind) ≡ true) ⊎ (token-of input s (s .at) .kind ≡ kind .bracket)
       → Gives input (read-bracket room inner close) s (Reads T (cell .dims) (λ tb at e next. Bracket tb close at e next) s)
   unfolding read-bracket
-  bracket-gives room inner reads close o {s} x l =
+  bracket-gives room inner reads close o p {s} x l first =
       let r₁ = go-on x l in
       regroup _ _ _
       (opened room
@@ -80,7 +84,14 @@ module _ {input : Input} {text : List ℕ} (T : Text input text) (cell : Cell) (
       expected close 7
       (λ q.
       let r₂ = go-on (h .0 .sound) (of-kind (h .0 .sound) (t .at) close o q) in
-      gave e (join r₁ (join (h .0) r₂), λ wf v. bracket _ (s .at) close (h .1 wf (first-part (inner-part v) r₂)) (view-kind v (h .0 .sound) (t .at) ∙ eqb-true _ _ q))))))
+      gave e (join r₁ (join (h .0) r₂), λ wf v. bracket _ (s .at) close p (opens v (join (h .0) r₂) first) (h .1 wf (first-part (inner-part v) r₂)) (view-kind v (h .0 .sound) (t .at) ∙ eqb-true _ _ q))))))
+    where
+      opens : {wf : List ℕ} {t : State} → View input text (cell .dims) wf s t → Run input text (advanced s) t
+          → (plain-kind (token-of input s (s .at) .kind) ≡ true) ⊎ (token-of input s (s .at) .kind ≡ kind .bracket) → (loops : List Range)
+          → Adds (table-of wf (tokens input) (cell .dims)) loops (s .at) (s .at + 1) []
+      opens v r (inl k) loops = adds-plain _ loops (s .at) (rw (view-kind v x (s .at)) k)
+      opens v r (inr k) loops =
+          adds-bracket _ loops (s .at) (view-kind v x (s .at) ∙ k) (view-word v (r .sound .within) (s .at) 3 (le-refl _) (omega (arith, r .on)) (omega arith) ∙ r .below (4 * s .at + 3) (omega arith) ∙ x .ahead (4 * s .at + 3) (omega arith) ∙ T .unlinked (s .at))
 
   module _ {s : State} (x : Sound input text s) (q : eqb (token-of input s (s .at) .kind) (kind .name) ≡ true) (slot : ℕ) (f : Found (input .source) (s .names) (s .count) false (token-of input s (s .at) .start) (token-of input s (s .at) .len) slot) where
     inside : s .at < tokens input
@@ -97,7 +108,7 @@ module _ {input : Input} {text : List ℕ} (T : Text input text) (cell : Cell) (
     simple e c = plain-it (gave e (behind, c))
 
     array-gives : (room : Bool) (inner : Reader Expr) → ReadsLevel 1 inner → it .kind ≡ name-kind .array → Gives input (array-use room inner (entry-at (s .names) slot)) (used s slot) (Reads T (cell .dims) (λ tb at e next. Name tb at e next) s)
-    unfolding array-use read-element reference it
+    unfolding array-use read-element reference it plain-kind
     array-gives room inner reads k =
         at-token _
         (choose _
@@ -105,7 +116,7 @@ module _ {input : Input} {text : List ℕ} (T : Text input text) (cell : Cell) (
         let b = of-kind (behind .sound) (s .at + 1) (kind .bracket) (omega arith) c in
         at-token _
         (at-state _
-        (bind (bracket-gives room inner reads (kind .unbracket) (omega arith) (behind .sound) b)
+        (bind (bracket-gives room inner reads (kind .unbracket) (omega arith) refl (behind .sound) b (inr (eqb-true _ _ c)))
         (λ d t h.
         forbidden (kind .dot) 12
         (λ _.
@@ -155,7 +166,7 @@ module _ {input : Input} {text : List ℕ} (T : Text input text) (cell : Cell) (
   -- ---- operands
 
   primary-gives : (room : Bool) (inner : Reader Expr) → ReadsLevel 1 inner → {s : State} → Sound input text s → Gives input (read-primary cell room inner) s (Reads T (cell .dims) (λ tb at e next. Primary tb at e next) s)
-  unfolding read-primary
+  unfolding read-primary plain-kind
   primary-gives room inner reads {s} x =
       at-token _
       (choose _
@@ -171,7 +182,7 @@ module _ {input : Input} {text : List ℕ} (T : Text input text) (cell : Cell) (
       (λ _.
       choose _
       (λ q.
-      given-as (bracket-gives room inner reads (kind .unparen) (omega arith) x (of-kind x (s .at) (kind .paren) (omega arith) q))
+      given-as (bracket-gives room inner reads (kind .unparen) (omega arith) refl x (of-kind x (s .at) (kind .paren) (omega arith) q) (inl (plain-of {k = token-of input s (s .at) .kind} (kind .paren) (eqb-true _ _ q) refl)))
       (λ e t h. (h .0, λ wf v. primary-bracket _ (s .at) (view-kind v x (s .at) ∙ eqb-true _ _ q) (h .1 wf v))))
       (λ _.
       choose _ (neighbour-gives T (cell .dims) cell refl some-dims room x)
@@ -248,7 +259,7 @@ module _ {input : Input} {text : List ℕ} (T : Text input text) (cell : Cell) (
               let tb : Table = table-of wf (tokens input) (cell .dims) in
               let ex : Expression tb (level-of (word-in wf (tokens input) 0 (s .at)) + 1) (s .at + 1) (h .right) (t .at) = subst (λ (y : ℕ). Expression tb (level-of y + 1) (s .at + 1) (h .right) (t .at)) (sym (view-kind v x (s .at))) (h .stands wf (first-part v₁ (k .0))) in
               let ch : Chain tb level (binary (word-in wf (tokens input) 0 (s .at)) (word-in wf (tokens input) 1 (s .at) % 65536) (l .expr) (h .right)) (t .at) e′ (u .at) = subst (λ (y : Expr). Chain tb level y (t .at) e′ (u .at)) (sym p) (k .1 wf (second-part (r .sound) v₁ (h .run) (k .0))) in
-              chain-on tb level (l .expr) (s .at) (ap (λ (y : ℕ). ltb (level-of y) level) (view-kind v x (s .at)) ∙ q) ex ch,
+              chain-on tb level (l .expr) (s .at) o (ap (λ (y : ℕ). ltb (level-of y) level) (view-kind v x (s .at)) ∙ q) ex ch,
         ),
       )))))
 

@@ -17,7 +17,7 @@ use Rattle.token.specs.Kind.{kind}
 use Rattle.names.specs.declared.Entry.{Entry}
 use Rattle.names.specs.Names.{name-kind, is, entry-at, letters}
 use Rattle.token.specs.Bytes.{same}
-use Rattle.program.specs.Syntax.{Index, fixed, moving, Expr, field}
+use Rattle.program.specs.Syntax.{Range, Index, fixed, moving, Expr, field}
 use Rattle.grammar.specs.Reader.{Input, State, Reader, _>>_, unit, again, done, turns, token-of, is-kind, is-name, forbid, reference}
 use Rattle.grammar.specs.Constants.{is-sign as is-sign-token}
 use Rattle.grammar.specs.Expressions.{Cell, plain, field-name, dot-field, field-number, read-field, put-field, named-index, fixed-index, read-index, index-turn, read-indices, read-neighbour, read-own}
@@ -27,6 +27,7 @@ use Rattle.linking.specs.Runs.{tokens, head-at, span-at, Text, Entered, 
 use Rattle.linking.specs.Naming.{of-kind, head-is, token-start, token-len, Found, found-name}
 use Rattle.linking.specs.Constants.{is-name-inside, either, Piece, write-piece, used, used-it, use-piece, signed-gives}
 use Rattle.linking.specs.Tables.{View, Claim, first-part, second-part, inner-part, unwritten, view-word, view-kind, view-place, link-to}
+use Rattle.linking.specs.Adding.{plain-kind, plain-by, plain-of, Adds, adds-none, adds-both, adds-plain}
 use Rattle.linking.specs.Decoding.{Primary, primary-index, primary-own}
 
 -- behind a plain number
@@ -219,24 +220,47 @@ module _ {input : Input} {text : List ℕ} (T : Text input text) where
 
     -- ---- fields
 
-    name-of-field : {s : State} → Sound input text s → Gives input field-name s (λ _ t. (t ≡ advanced s) × (s .at < tokens input))
+    name-of-field : {s : State} → Sound input text s → Gives input field-name s (λ _ t. (t ≡ advanced s) × (s .at < tokens input) × (is-name (token-of input s (s .at)) ≡ true))
     unfolding field-name
-    name-of-field {s} x = at-token _ (choose _ (λ q. by-found _ true (λ slot _. over (gave slot (refl, is-name-inside x (s .at) q))) (refused 12)) (λ _. refused 7))
+    name-of-field {s} x = at-token _ (choose _ (λ q. by-found _ true (λ slot _. over (gave slot (refl, is-name-inside x (s .at) q, q))) (refused 12)) (λ _. refused 7))
 
-    pub dot-gives : {s : State} → Sound input text s → Gives input dot-field s (λ _ t. (t ≡ advanced (advanced s)) × Run input text s t × (eqb (token-of input s (s .at) .kind) (kind .dot) ≡ true))
+    -- no index is written from a state up to another
+    abbrev pub AddsNone : State → State → Type 0
+    AddsNone s t = Claim input text dims s t (λ tb. (loops : List Range) → Adds tb loops (s .at) (t .at) [])
+
+    -- a name, `cell` or `time` is plain
+    pub plain-name : (k : ℕ) → (eqb k (kind .name) || eqb k (kind .cell) || eqb k (kind .time)) ≡ true → plain-kind k ≡ true
+    plain-name k q = plain-by (λ j. eqb j (kind .name) || eqb j (kind .cell) || eqb j (kind .time)) k q refl refl refl
+
+    -- a `.` and a name
+    adds-dot : {s : State} → Sound input text s → eqb (token-of input s (s .at) .kind) (kind .dot) ≡ true → is-name (token-of input s (s .at + 1)) ≡ true → AddsNone s (advanced (advanced s))
+    unfolding plain-kind is-name
+    adds-dot {s} x q n wf v loops =
+        adds-both _ loops (adds-plain _ loops (s .at) (plain-of (kind .dot) (view-kind v x (s .at) ∙ eqb-true _ _ q) refl))
+        (adds-plain _ loops (s .at + 1) (rw (view-kind v x (s .at + 1)) (plain-name (token-of input s (s .at + 1) .kind) n)))
+
+    pub dot-gives : {s : State} → Sound input text s
+        → Gives input dot-field s (λ _ t. (t ≡ advanced (advanced s)) × Run input text s t × (eqb (token-of input s (s .at) .kind) (kind .dot) ≡ true) × AddsNone s t)
     unfolding dot-field
     dot-gives {s} x =
         expected (kind .dot) 6
         (λ q.
         let r = go-on x (of-kind x (s .at) (kind .dot) (omega arith) q) in
-        given-as (name-of-field (r .sound)) (λ slot t h. (h .0, subst (λ (u : State). Run input text s u) (sym (h .0)) (join r (go-on (r .sound) (h .1))), q)))
+        given-as (name-of-field (r .sound))
+        (λ slot t h. (
+          h .0,
+          subst (λ (u : State). Run input text s u) (sym (h .0)) (join r (go-on (r .sound) (h .1))),
+          q,
+          subst (λ (u : State). AddsNone s u) (sym (h .0)) (adds-dot x q (h .2)),
+        )))
 
-    field-gives : (cell : Cell) (unnamed : Reader Unit) → ((s : State) → Gives input unnamed s (λ _ t. t ≡ s)) → {s : State} → Sound input text s → Gives input (read-field cell unnamed) s (λ _ t. Run input text s t)
+    field-gives : (cell : Cell) (unnamed : Reader Unit) → ((s : State) → Gives input unnamed s (λ _ t. t ≡ s)) → {s : State} → Sound input text s
+        → Gives input (read-field cell unnamed) s (λ _ t. Run input text s t × AddsNone s t)
     unfolding read-field field-number
     field-gives cell unnamed stays {s} x =
         choose (cell .named)
-        (λ _. regroup _ _ _ (bind (dot-gives x) (λ slot t h. regroup _ _ _ (forbidden (kind .bracket) 6 (λ _. bind (gave {Q = λ a u. (u ≡ t)} slot refl) (λ a u e. at-entry a _ (gave _ (subst (λ (z : State). Run input text s z) (sym e) (h .1)))))))))
-        (λ _. bind (stays s) (λ _ t e. gave 0 (subst (λ (z : State). Run input text s z) (sym e) (stay x))))
+        (λ _. regroup _ _ _ (bind (dot-gives x) (λ slot t h. regroup _ _ _ (forbidden (kind .bracket) 6 (λ _. bind (gave {Q = λ a u. (u ≡ t)} slot refl) (λ a u e. at-entry a _ (gave _ (subst (λ (z : State). Run input text s z × AddsNone s z) (sym e) (h .1, h .3)))))))))
+        (λ _. bind (stays s) (λ _ t e. gave 0 (subst (λ (z : State). Run input text s z × AddsNone s z) (sym e) (stay x, λ wf v loops. adds-none _ loops (s .at)))))
 
     -- a relative index or `cell`, with the field's number and the position past it at its first token
     put-field-it : {A : Type 0} {s : State} {Q : A → State → Type 0} (i f : ℕ) {h : Reader A} → Gives input h (written (written s i 2 f) i 3 (s .at)) Q → Gives input (put-field i f >> h) s Q
@@ -286,7 +310,8 @@ module _ {input : Input} {text : List ℕ} (T : Text input text) where
         bind (elements-gives cell d (r₁ .sound) l)
         (λ is t h.
         bind (field-gives cell (forbid (kind .dot) 12) (forbid-gives (kind .dot) 12) (h .run .sound))
-        (λ f u r.
+        (λ f u g.
+        let r = g .0 in
         let far : s .at < u .at = omega (arith, h .run .on, r .on) in
         let ru : Run input text s u = join r₁ (join (h .run) r) in
         put-field-it _ _
@@ -294,9 +319,11 @@ module _ {input : Input} {text : List ℕ} (T : Text input text) where
           write-both-first x ru f (u .at) far,
           λ wf v.
               let v₁ = first-part (first-behind x ru far f (u .at) v) r in
+              let w : 0 < word-in wf (tokens input) 3 (s .at) = omega (arith, first-3 x ru far f (u .at) v) in
+              let p : s .at < linked (tokens input) (s .at) (word-in wf (tokens input) 3 (s .at)) = omega (arith, first-past x ru far f (u .at) v far (r .sound .within)) in
               subst (λ (n : ℕ). Primary (table-of wf (tokens input) dims) (s .at) (field is f) n) (first-past x ru far f (u .at) v far (r .sound .within))
               (subst₂ (λ (js : List Index) (g : ℕ). Primary (table-of wf (tokens input) dims) (s .at) (field js g) (linked (tokens input) (s .at) (word-in wf (tokens input) 3 (s .at)))) (sym (h .are wf v₁ ∙ ap (λ (n : ℕ). indices-in (table-of wf (tokens input) dims) n (s .at + 1)) (sub-zero dims))) (first-2 x ru far f (u .at) v)
-              (primary-index _ (s .at) (view-kind v x (s .at) ∙ eqb-true _ _ q))),
+              (primary-index _ (s .at) (view-kind v x (s .at) ∙ eqb-true _ _ q) w p)),
         ))))))
 
     pub own-gives : (cell : Cell) {s : State} → Sound input text s → eqb (token-of input s (s .at) .kind) (kind .cell) ≡ true → Gives input (read-own cell) s (Reads Primary s)
@@ -306,14 +333,17 @@ module _ {input : Input} {text : List ℕ} (T : Text input text) where
         at-position _
         (over
         (bind (field-gives cell plain plain-gives (r₁ .sound))
-        (λ f u r.
+        (λ f u g.
+        let r = g .0 in
         let far : s .at < u .at = omega (arith, r .on) in
         let ru : Run input text s u = join r₁ r in
         put-field-it _ _
         (gave (field [] f) (
           write-both-first x ru f (u .at) far,
           λ wf v.
+              let past = first-past x ru far f (u .at) v far (r .sound .within) in
               subst (λ (n : ℕ). Primary (table-of wf (tokens input) dims) (s .at) (field [] f) n) (first-past x ru far f (u .at) v far (r .sound .within))
               (subst (λ (g : ℕ). Primary (table-of wf (tokens input) dims) (s .at) (field [] g) (linked (tokens input) (s .at) (word-in wf (tokens input) 3 (s .at)))) (first-2 x ru far f (u .at) v)
-              (primary-own _ (s .at) (view-kind v x (s .at) ∙ eqb-true _ _ q))),
+              (primary-own _ (s .at) (view-kind v x (s .at) ∙ eqb-true _ _ q)
+              (λ loops. subst (λ (n : ℕ). Adds (table-of wf (tokens input) dims) loops (s .at + 1) n []) (sym past) (g .1 wf (first-behind x ru far f (u .at) v) loops)))),
         )))))

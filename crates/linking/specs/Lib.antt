@@ -4,6 +4,7 @@ pub mod Runs
 pub mod Naming
 pub mod Constants
 pub mod Tables
+pub mod Adding
 pub mod Decoding
 pub mod Fields
 pub mod Expressions

@@ -1,14 +1,14 @@
 -- The tree that reading gives for a source stands in the word table that reading leaves.
 use Prim.Native.Nat.{ℕ, zero, suc, _+_, _-_, _*_, _/_, _%_, _≤_, _<_}
 use native.Mathlib.Omega.{arith}
-use mathlib.Core.Path.{_≡_, refl, sym, ap, ap₂, _∙_}
+use mathlib.Core.Path.{_≡_, refl, sym, ap, ap₂, _∙_, subst}
 use mathlib.Core.Logic.{_⊎_, inl, inr}
 use mathlib.Core.Bool.{Bool, true, false}
 use mathlib.Core.List.{List, [], _∷_, _++_}
 use lib.Dec.{ltb}
 use lib.ListN.{length, getD, replicate, length-append, length-replicate, List·getD-eq-default}
 use lib.Seq.{getD-append-add, ext-getD}
-use borrow.Author.Tests.{ltb-true, ltb-false}
+use borrow.Author.Tests.{ltb-true, ltb-false, lt-ltb}
 use Rattle.value.specs.Worked.{decode-of}
 use Rattle.automaton.specs.Listed.{length-list-of, getD-list-of}
 use Rattle.token.specs.declared.Token.{Token}
@@ -24,9 +24,13 @@ use Rattle.grammar.specs.Constants.{read-constants}
 use Rattle.grammar.specs.Statements.{read-block}
 use Rattle.grammar.specs.Source.{Declared, read-cell, most-open, start-state, has-kind}
 use Rattle.evaluator.specs.Stands.{table-of, word-in, ranges-in, Stands}
+use Rattle.evaluator.specs.Written.{written-in-block}
+use Rattle.evaluator.specs.Listing.{Writes}
 use Rattle.linking.specs.Runs.{tokens, head-at, span-at, Text, Sound, Run}
 use Rattle.linking.specs.Constants.{constants-gives}
-use Rattle.linking.specs.Tables.{word-inside, known-left}
+use Rattle.linking.specs.Naming.{token-kind, kind-at}
+use Rattle.linking.specs.Tables.{word-inside, known-left, View}
+use Rattle.linking.specs.Adding.{all-of}
 use Rattle.linking.specs.Choices.{BlockRead}
 use Rattle.linking.specs.Statements.{block-gives}
 use Rattle.linking.specs.Source.{CellRead, cell-gives}
@@ -48,23 +52,26 @@ record There (source words : List ℕ) (i : ℕ) : Type 0 where
   pub head : head-at words i ≡ token .kind
   pub span : span-at words i ≡ token .start + 65536 * token .len
   pub value : word-at words i 2 ≡ token .value
+  pub unlinked : word-at words i 3 ≡ 0
 
 there : (source : List ℕ) (ts : List Token) → All (Fit source) ts → (rest : List ℕ) (i : ℕ) → i < length ts → There source (token-words ts ++ rest) i
 unfolding token-words
 there source [] f rest i l = absurd (omega arith)
-there source (t ∷ ts) f rest zero l = record { token = t; fit = f .0; head = refl; span = refl; value = refl }
+there source (t ∷ ts) f rest zero l = record { token = t; fit = f .0; head = refl; span = refl; value = refl; unlinked = refl }
 there source (t ∷ ts) f rest (suc i) l =
     let h = there source ts (f .1) rest i (omega arith) in
     let words = t .kind ∷ (t .start + 65536 * t .len) ∷ t .value ∷ 0 ∷ token-words ts ++ rest in
     let e : 4 * suc i ≡ suc (suc (suc (suc (4 * i)))) = omega arith in
     let e₁ : 4 * suc i + 1 ≡ suc (suc (suc (suc (4 * i + 1)))) = omega arith in
     let e₂ : 4 * suc i + 2 ≡ suc (suc (suc (suc (4 * i + 2)))) = omega arith in
+    let e₃ : 4 * suc i + 3 ≡ suc (suc (suc (suc (4 * i + 3)))) = omega arith in
     record {
       token = h .token;
       fit = h .fit;
       head = ap (λ (j : ℕ). getD words j 0) e ∙ h .head;
       span = ap (λ (j : ℕ). getD words j 0) e₁ ∙ h .span;
       value = ap (λ (j : ℕ). getD words j 0) e₂ ∙ h .value;
+      unlinked = ap (λ (j : ℕ). getD words j 0) e₃ ∙ h .unlinked;
     }
 
 zeros : (n m : ℕ) → _≡_ {A = ℕ} (getD (replicate n 0) m 0) 0
@@ -113,6 +120,15 @@ module _ (source : List ℕ) (short : length source ≤ 65535) where
           let z : word-at (scanned-words (scan source)) i 2 ≡ 0 = behind (scan source .tokens) (16384 - length (token-words (scan source .tokens))) (4 * i + 2) (omega arith) in
           (omega arith, λ e. z)
 
+  -- words 3 of all tokens, and of what lies behind
+  unlinked-at : (i : ℕ) → word-at (scanned-words (scan source)) i 3 ≡ 0
+  unfolding scanned-words
+  unlinked-at i = by (ltb i (tokens (input-of source))) refl
+    where
+      by : (b : Bool) → ltb i (tokens (input-of source)) ≡ b → word-at (scanned-words (scan source)) i 3 ≡ 0
+      by true q = at i (ltb-true i (tokens (input-of source)) q) .unlinked
+      by false q = let l = ltb-false i (tokens (input-of source)) q in behind (scan source .tokens) (16384 - length (token-words (scan source .tokens))) (4 * i + 3) (omega arith)
+
   -- the kind of a word, by its letters
   letters-at : ℕ → List ℕ
   letters-at i = letters source (span-at (scanned-words (scan source)) i % 65536) (span-at (scanned-words (scan source)) i / 65536)
@@ -130,6 +146,7 @@ module _ (source : List ℕ) (short : length source ≤ 65535) where
     size = length-append (token-words (scan source .tokens)) (replicate (16384 - length (token-words (scan source .tokens))) 0) ∙ omega (arith, length-replicate {A = ℕ} (16384 - length (token-words (scan source .tokens))) 0, words-long (scan source .tokens), good .few);
     values = λ i. value-of i .0;
     clean = λ i e. value-of i .1 e;
+    unlinked = unlinked-at;
     apart = λ i j l m name other alike.
         let e : letters-at j ≡ letters-at i = same-lists _ _ alike in
         let k : find-kind (letters-at j) keywords (kind .name) ≡ kind .name = ap (λ (y : List ℕ). find-kind y keywords (kind .name)) e ∙ sym (word-kind i l (rw name)) ∙ name in
@@ -158,6 +175,8 @@ module _ (source : List ℕ) (short : length source ≤ 65535) where
 pub record Linked (source : List ℕ) (s₁ s₂ s₃ : State) (d : Declared) (b : Block) : Type 0 where
   -- the statements stand in the table that is left
   pub body : Stands (table-of (s₃ .words) (tokens (input-of source)) (d .cell .dims)) 0 b (s₂ .at)
+  -- the indices that are written in them are those of the tokens from there on
+  pub indices : Writes (table-of (s₃ .words) (tokens (input-of source)) (d .cell .dims)) [] (s₂ .at) (tokens (input-of source)) (written-in-block [] b)
   -- a clause without a condition is the last
   pub proper : Proper b
   -- the ranges of the fields stand from the `of` behind `dimensions` on, two tokens behind the constants
@@ -165,7 +184,9 @@ pub record Linked (source : List ℕ) (s₁ s₂ s₃ : State) (d : Declared) (b
   pub fields-inside : s₁ .at + 2 + length (d .fields) < s₂ .at
   pub some-dims : 0 < d .cell .dims
   pub few-dims : d .cell .dims ≤ 3
+  pub some-fields : 0 < length (d .fields)
   pub few-fields : length (d .fields) ≤ 8
+  pub few-tokens : tokens (input-of source) ≤ 4096
   -- nothing before the statements was written while they were read
   pub kept : (i : ℕ) → i < 4 * s₂ .at → getD (s₃ .words) i 0 ≡ getD (s₂ .words) i 0
   pub inside : s₂ .at ≤ tokens (input-of source)
@@ -181,20 +202,19 @@ pub record Linked (source : List ℕ) (s₁ s₂ s₃ : State) (d : Declared) (b
 -- ends, and no complaint is noted
 pub linking : (source : List ℕ) → length source ≤ 65535 → (s₁ s₂ s₃ : State) (d : Declared) (b : Block) → read-constants (input-of source) (start-state (scan source)) ≡ ok (unit, s₁) → read-cell (input-of source) s₁ ≡ ok (d, s₂)
     → read-block (d .cell) most-open 0 (input-of source) s₂ ≡ ok (b, s₃) → token-of (input-of source) s₃ (s₃ .at) .kind ≡ kind .stop → s₃ .noted .number ≡ 0 → Linked source s₁ s₂ s₃ d b
+unfolding kind-at
 linking source short s₁ s₂ s₃ d b p q r stop clear =
     record {
-      body = whole .1 (λ e. omega (arith, stop)) (s₃ .words) (record {
-        final = record { heads = run .sound .heads; spans = run .sound .spans };
-        later = λ j l m. refl;
-        known = known-left (d .cell .dims) (cell .run .sound) run clear;
-        clear = clear;
-      });
+      body = whole .1 (λ e. omega (arith, stop)) (s₃ .words) view;
+      indices = subst (λ (n : ℕ). Writes (table-of (s₃ .words) (tokens input) (d .cell .dims)) [] (s₂ .at) n (written-in-block [] b)) at-end (all-of _ [] (whole .3 (s₃ .words) view [] refl));
       proper = whole .2;
       fields = ext-getD no-range (d .fields) _ (sym (length-list-of _ (length (d .fields)))) (λ k l. sym (field k l));
       fields-inside = cell .long;
       some-dims = cell .some-dims;
       few-dims = cell .few-dims;
+      some-fields = cell .some-fields;
       few-fields = cell .few-fields;
+      few-tokens = T .few;
       kept = run .below;
       inside = cell .run .sound .within;
       in-order = run .on;
@@ -219,6 +239,25 @@ linking source short s₁ s₂ s₃ d b p q r stop clear =
 
     run : Run input (scanned-words (scan source)) s₂ s₃
     run = whole .0
+
+    view : View input (scanned-words (scan source)) (d .cell .dims) (s₃ .words) s₂ s₃
+    view = record {
+      final = record { heads = run .sound .heads; spans = run .sound .spans };
+      later = λ j l m. refl;
+      known = known-left (d .cell .dims) (cell .run .sound) run clear;
+      clear = clear;
+    }
+
+    at-end : s₃ .at ≡ tokens input
+    at-end = by (ltb (s₃ .at) (tokens input)) refl
+      where
+        by : (c : Bool) → ltb (s₃ .at) (tokens input) ≡ c → s₃ .at ≡ tokens input
+        by true e =
+            let l = ltb-true (s₃ .at) (tokens input) e in
+            let k : kind-at input (scanned-words (scan source)) (s₃ .at) ≡ head-at (scanned-words (scan source)) (s₃ .at) = rw (lt-ltb (s₃ .at) (tokens input) l) in
+            let t = at source short (s₃ .at) l in
+            absurd (t .fit .going (sym (t .head) ∙ sym k ∙ sym (token-kind (run .sound) (s₃ .at)) ∙ stop))
+        by false e = omega (arith, ltb-false (s₃ .at) (tokens input) e, run .sound .within)
 
     field : (k : ℕ) → k < length (d .fields) → getD (ranges-in (table-of (s₃ .words) (tokens input) (d .cell .dims)) (s₁ .at + 2) (length (d .fields))) k no-range ≡ getD (d .fields) k no-range
     field k l =

@@ -39,6 +39,8 @@ pub record Text (input : Input) (text : List ℕ) : Type 0 where
   -- a literal's value is a word, and a `:=` has none
   pub values : (i : ℕ) → word-at text i 2 < 4294967296
   pub clean : (i : ℕ) → head-at text i ≡ kind .assign → word-at text i 2 ≡ 0
+  -- no token has a word 3
+  pub unlinked : (i : ℕ) → word-at text i 3 ≡ 0
   -- a name is not spelled as `cell` or `time` is
   pub apart : (i j : ℕ) → i < tokens input → j < tokens input → head-at text i ≡ kind .name → (head-at text j ≡ kind .cell) ⊎ (head-at text j ≡ kind .time)
       → alike input (span-at text j % 65536) (span-at text j / 65536) (span-at text i % 65536) (span-at text i / 65536) ≡ true → ⊥

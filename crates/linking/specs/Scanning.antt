@@ -131,6 +131,7 @@ token-lex b bs = by (eqb (kind-of b) (byte-kind .letter)) (eqb (kind-of b) (byte
 -- ---- all tokens
 
 pub record Fit (source : List ℕ) (t : Token) : Type 0 where
+  pub going : t .kind ≡ kind .stop → ⊥
   pub small : t .value < 4294967296
   pub plain : t .kind ≡ kind .assign → t .value ≡ 0
   pub inside : t .start < length source
@@ -140,15 +141,15 @@ abbrev pub All : (Token → Type 0) → List Token → Type 0
 All P [] = Unit {0}
 All P (t ∷ ts) = P t × All P ts
 
--- fewer than 4096 tokens stand before one that is no stop
-goes-on : (count : ℕ) (s : List ℕ) (w : Lexeme) → Lex s w → stop-number count w ≡ 0 → count < 4096
+-- fewer than 4096 tokens stand before one at which scanning goes on, and that is no stop
+goes-on : (count : ℕ) (s : List ℕ) (w : Lexeme) → Lex s w → stop-number count w ≡ 0 → (count < 4096) × (w .kind ≡ kind .stop → ⊥)
 unfolding stop-number
 goes-on count s w x e = by (eqb (w .kind) (kind .stop)) refl (leb 4096 count) refl (eqb (w .kind) (kind .refused)) e
   where
-    by : (a : Bool) → eqb (w .kind) (kind .stop) ≡ a → (b : Bool) → leb 4096 count ≡ b → (c : Bool) → (if a then w .value else if b then 5 else if c then 6 else 0) ≡ 0 → count < 4096
+    by : (a : Bool) → eqb (w .kind) (kind .stop) ≡ a → (b : Bool) → leb 4096 count ≡ b → (c : Bool) → (if a then w .value else if b then 5 else if c then 6 else 0) ≡ 0 → (count < 4096) × (w .kind ≡ kind .stop → ⊥)
     by true p b q c e = absurd (x .told (eqb-true _ _ p) e)
     by false p true q c e = absurd (omega arith)
-    by false p false q c e = leb-false 4096 count q
+    by false p false q c e = (leb-false 4096 count q, eqb-false _ _ p)
 
 pub record Good (source : List ℕ) (count : ℕ) (x : Scanned) : Type 0 where
   pub fit : All (Fit source) (x .tokens)
@@ -178,8 +179,9 @@ scan-good source (suc turns) place count s e l = go (drop (blanks false s) s) re
         x : Lex (b ∷ bs) w
         x = token-lex b bs
 
-        fit : Fit source (token-of w here)
-        fit = record {
+        fit : (w .kind ≡ kind .stop → ⊥) → Fit source (token-of w here)
+        fit some = record {
+          going = some;
           small = x .small;
           plain = x .plain;
           inside = inside;
@@ -191,8 +193,9 @@ scan-good source (suc turns) place count s e l = go (drop (blanks false s) s) re
         by : (c : Bool) → eqb (stop-number count w) 0 ≡ c → Good source count (scan-from (suc turns) place count s)
         by false p = rw (scan-from, q, p) (record { fit = tt; few = omega arith })
         by true p =
-            let m = more (here + w .len) (suc count) (drop (w .len) (b ∷ bs)) (ap (drop (w .len)) rest-is ∙ drop-drop (w .len) here source) (goes-on count (b ∷ bs) w x (eqb-true _ _ p)) in
-            rw (scan-from, q, p) (record { fit = (fit, m .fit); few = omega (arith, m .few) })
+            let g = goes-on count (b ∷ bs) w x (eqb-true _ _ p) in
+            let m = more (here + w .len) (suc count) (drop (w .len) (b ∷ bs)) (ap (drop (w .len)) rest-is ∙ drop-drop (w .len) here source) (g .0) in
+            rw (scan-from, q, p) (record { fit = (fit (g .1), m .fit); few = omega (arith, m .few) })
 
 pub scanned-good : (source : List ℕ) → Good source 0 (scan source)
 unfolding scan

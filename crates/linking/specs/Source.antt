@@ -208,18 +208,19 @@ module _ {input : Input} {text : List ℕ} (T : Text input text) where
       put-ranges-it (s₀ .at) got (n - length got) r
       (more-ranges x f (join run (join (h .1) (g .piece .run))) (bare-piece (h .0 .bare) (g .piece)) (n - length got) r (g .low-in) (g .high-in) (omega (arith, h .0 .long, h .2, g .piece .far)) (omega (arith, h .0 .most, h .2)))))
 
-  fields-gives : {s₀ : State} → Sound input text s₀ → {s : State} → Fields s₀ [] s → Gives input (repeat turns (group-turn (s₀ .at)) []) s (Fields s₀)
+  fields-gives : {s₀ : State} → Sound input text s₀ → {s : State} → Fields s₀ [] s → Gives input (repeat turns (group-turn (s₀ .at)) []) s (λ all t. Fields s₀ all t × (0 < length all))
   unfolding group-turn
   fields-gives {s₀} x {s} f = repeated (group-turn (s₀ .at)) turn turns [] s f
     where
-      turn : (got : List Range) (s : State) → Fields s₀ got s → Gives input (group-turn (s₀ .at) got) s (Turned (Fields s₀) (λ _ _ all t. Fields s₀ all t) got s)
+      turn : (got : List Range) (s : State) → Fields s₀ got s → Gives input (group-turn (s₀ .at) got) s (Turned (Fields s₀) (λ _ _ all t. Fields s₀ all t × (0 < length all)) got s)
       turn got s f =
           let y : Sound input text s = f .bare .run .sound in
           at-token _
           (choose (is-kind (token-of input s (s .at)) (kind .end-word) && ltb 0 (length got))
           (λ q.
-          let p = one-token y (of-kind y (s .at) (kind .end-word) (omega arith) (and-both (is-kind (token-of input s (s .at)) (kind .end-word)) (ltb 0 (length got)) q .0)) in
-          over (gave (done got) (record { bare = bare-piece (f .bare) p; long = omega (arith, f .long); most = f .most; ranges = f .ranges })))
+          let both = and-both (is-kind (token-of input s (s .at)) (kind .end-word)) (ltb 0 (length got)) q in
+          let p = one-token y (of-kind y (s .at) (kind .end-word) (omega arith) (both .0)) in
+          over (gave (done got) (record { bare = bare-piece (f .bare) p; long = omega (arith, f .long); most = f .most; ranges = f .ranges }, ltb-true 0 (length got) (both .1))))
           (λ _.
           choose (is-kind (token-of input s (s .at)) (kind .const-word))
           (λ q.
@@ -232,6 +233,7 @@ module _ {input : Input} {text : List ℕ} (T : Text input text) where
     pub run : Run input text s t
     pub some-dims : 0 < d .cell .dims
     pub few-dims : d .cell .dims ≤ 3
+    pub some-fields : 0 < length (d .fields)
     pub few-fields : length (d .fields) ≤ 8
     pub long : s .at + 2 + length (d .fields) < t .at
     pub ranges : (k : ℕ) → k < length (d .fields) → range-at (t .words) (s .at + 2 + k) ≡ getD (d .fields) k no-range
@@ -254,18 +256,19 @@ module _ {input : Input} {text : List ℕ} (T : Text input text) where
       at-token _
       (at-token-after _
       (choose (is-unnamed (token-of input (advanced s₀) (t .at + 1 + 1)) (token-of input (advanced s₀) (t .at + 1 + 1 + 1)))
-      (λ _. made (declared z false) (bind (range-gives T 4294967296 (p .run .sound)) (λ r u g. put-ranges-it (s₀ .at) [] 1 r (more-ranges (r₁ .sound) f (g .piece .run) (bare-piece b (g .piece)) 1 r (g .low-in) (g .high-in) (omega (arith, g .piece .far)) (omega arith)))) (λ all u k. read-from z false (h .2) (h .1) r₁ k))
-      (λ _. made (declared z true) (fields-gives (r₁ .sound) f) (λ all u k. read-from z true (h .2) (h .1) r₁ k))))))))
+      (λ _. made (declared z false) (bind (range-gives T 4294967296 (p .run .sound)) (λ r u g. put-ranges-it {Q = λ all t. Fields s₀ all t × (0 < length all)} (s₀ .at) [] 1 r (more-ranges (r₁ .sound) f (g .piece .run) (bare-piece b (g .piece)) 1 r (g .low-in) (g .high-in) (omega (arith, g .piece .far)) (omega arith), omega arith))) (λ all u k. read-from z false (h .2) (h .1) r₁ (k .0) (k .1)))
+      (λ _. made (declared z true) (fields-gives (r₁ .sound) f) (λ all u k. read-from z true (h .2) (h .1) r₁ (k .0) (k .1)))))))))
     where
       dims-gives : Gives input read-dims s (λ z t. Piece input text s t × ((0 < encode-of z) × (encode-of z ≤ 3)) × (t .at ≡ s .at + 1))
       dims-gives = bind (constant-gives T x) (λ z t h. choose (within (pos 1) (pos 3) z) (λ q. gave z (h .0, some-dimensions z q, h .2)) (λ _. refused-last 10))
 
-      read-from : (z : ℤ) (named : Bool) {t : State} → t .at ≡ s .at + 1 → (0 < encode-of z) × (encode-of z ≤ 3) → Run input text s (advanced t) → {all : List Range} {u : State} → Fields (advanced t) all u → CellRead s (declared z named all) u
-      read-from z named {t} e l r {all} {u} f =
+      read-from : (z : ℤ) (named : Bool) {t : State} → t .at ≡ s .at + 1 → (0 < encode-of z) × (encode-of z ≤ 3) → Run input text s (advanced t) → {all : List Range} {u : State} → Fields (advanced t) all u → 0 < length all → CellRead s (declared z named all) u
+      read-from z named {t} e l r {all} {u} f some =
           record {
             run = join r (f .bare .run);
             some-dims = l .0;
             few-dims = l .1;
+            some-fields = some;
             few-fields = f .most;
             long = omega (arith, f .long);
             ranges = λ k m. let p : s .at + 2 + k ≡ t .at + 1 + k = omega arith in ap (range-at (u .words)) p ∙ f .ranges k m;

@@ -4,9 +4,9 @@ use native.Mathlib.Nat.{le-refl}
 use native.Mathlib.Omega.{arith}
 use mathlib.Core.Path.{_≡_, refl, sym, ap, ap₂, _∙_, subst}
 use mathlib.Core.Bool.{Bool, true, false, _&&_, _||_}
-use mathlib.Core.List.{List}
+use mathlib.Core.List.{List, [], _∷_, _++_}
 use lib.Dec.{eqb, ltb}
-use lib.ListN.{length}
+use lib.ListN.{length, length-append}
 use borrow.Author.Tests.{eqb-true, ne-eqb}
 use Rattle.value.specs.Worked.{decode-of, encode-of}
 use Rattle.value.specs.Laws.{decode-encode, and-both}
@@ -18,11 +18,13 @@ use Rattle.grammar.specs.Reader.{Input, State, Reader, done, turns, token-of, i
 use Rattle.grammar.specs.Expressions.{Cell}
 use Rattle.grammar.specs.Statements.{read-forall, read-exit, Parts, put-after, statement-turn, read-block}
 use Rattle.evaluator.specs.Stands.{Table, table-of, word-in, linked, begins, Stands}
+use Rattle.evaluator.specs.Written.{written-in-block}
 use Rattle.linking.specs.Steps.{advanced, written, named, revalued, Gives, gave, refused, bind, made, given-as, choose, at-position, at-token, over, wrote, wrote-both, named-it, revalued-it, expected, opened, Turned, repeated}
 use Rattle.linking.specs.Runs.{tokens, head-at, Text, Sound, Run, stay, join, go-on, write-first, word-put, both-2, both-3, entry-new}
 use Rattle.linking.specs.Naming.{of-kind, name-it, revalue-it}
 use Rattle.linking.specs.Constants.{Piece, one-token, join-pieces, past-token, write-piece, range-gives, fresh-it, Declares, declaration-gives}
 use Rattle.linking.specs.Tables.{View, Claim, first-part, second-part, view-word, view-kind, link-to}
+use Rattle.linking.specs.Adding.{plain-kind, plain-of, Adds, all-of, adds-none, adds-both, then-none, adds-plain, adds-constant, adds-loop}
 use Rattle.linking.specs.Fields.{inside-words, first-past, first-inner, first-behind, write-both-first}
 use Rattle.linking.specs.Expressions.{ReadsLevel, expression-gives}
 use Rattle.linking.specs.Proper.{Proper}
@@ -71,8 +73,8 @@ module _ {input : Input} {text : List ℕ} (T : Text input text) (cell : Cell) (
             high-is = view-word v (b .sound .within) (s .at + 1) 3 (le-refl _) (omega (arith, b .on, f .far)) (omega arith) ∙ b .below _ (omega (arith, f .far)) ∙ both-3 (p .words) (s .at + 1) (encode-of (r .low)) (encode-of (r .high)) l
 
     pub forall-gives : (room : Bool) → (room ≡ true → depth < 16) → (block : Reader Block) → ReadsBlock T cell some-dims (depth + 1) block → Gives input (read-forall room depth block) s (Statement T cell some-dims depth s)
-    unfolding read-forall Stands
-    forall-gives room deep block blocks =
+    unfolding read-forall Stands written-in-block plain-kind
+    forall-gives room deep-room block blocks =
         at-position _
         (opened room
         (λ has-room.
@@ -110,7 +112,7 @@ module _ {input : Input} {text : List ℕ} (T : Text input text) (cell : Cell) (
               let v₁ : View input text (cell .dims) wf (advanced s) (advanced t) = record { final = v₀ .final; later = v₀ .later; known = v₀ .known; clear = v₀ .clear } in (
                 view-kind v x (s .at) ∙ eqb-true _ _ q,
                 record {
-                  room = deep has-room;
+                  room = deep-room has-room;
                   few = g .few;
                   values = range-stands r f name-in a-name few₁ (decode-encode (r .low) (g .low-in)) (decode-encode (r .high) (g .high-in)) inner v₁;
                   part = subst (λ (i : ℕ). Stands tb (depth + 1) body i) (sym (first-inner T (cell .dims) x whole far (p .at) (t .at + 1) v (omega (arith, f .far)) (f .run .sound .within)))
@@ -118,12 +120,28 @@ module _ {input : Input} {text : List ℕ} (T : Text input text) (cell : Cell) (
                 },
                 subst (λ (i : ℕ). Stands tb depth rest i) (sym (first-past T (cell .dims) x whole far (p .at) (t .at + 1) v far (last .sound .within))) more,
               );
+          adds = λ rest wf v loops deep next more.
+              let tb : Table = table-of wf (tokens input) (cell .dims) in
+              let v₀ = first-behind T (cell .dims) x whole far (p .at) (t .at + 1) v in
+              let v₁ : View input text (cell .dims) wf (advanced s) (advanced t) = record { final = v₀ .final; later = v₀ .later; known = v₀ .known; clear = v₀ .clear } in
+              let inner-is = first-inner T (cell .dims) x whole far (p .at) (t .at + 1) v (omega (arith, f .far)) (f .run .sound .within) in
+              let past-is = first-past T (cell .dims) x whole far (p .at) (t .at + 1) v far (last .sound .within) in
+              let more-loops : List Range = loops ++ (r ∷ []) in
+              let part : Adds tb more-loops (p .at) (t .at + 1) (written-in-block more-loops body) =
+              then-none tb more-loops
+              (b .3 wf (second-part (first .sound) (first-part v₁ last) (open-run r f name-in a-name few₁) (b .0)) more-loops (omega (arith, length-append loops (r ∷ []))))
+              (adds-plain tb more-loops (t .at) (plain-of (kind .end-word) (view-kind v (b .0 .sound) (t .at) ∙ eqb-true _ _ n) refl))
+              in
+              adds-both tb loops
+              (adds-loop tb loops (s .at) (view-kind v x (s .at) ∙ eqb-true _ _ q) (omega (arith, deep, deep-room has-room)) (range-stands r f name-in a-name few₁ (decode-encode (r .low) (g .low-in)) (decode-encode (r .high) (g .high-in)) inner v₁) inner-is past-is far
+              (all-of tb more-loops part))
+              more;
         }))))))))))))))
 
   -- ---- other statements
 
   exit-gives : (depth : ℕ) {s : State} → Sound input text s → is-kind (token-of input s (s .at)) (kind .exit-word) ≡ true → Gives input read-exit s (Statement T cell some-dims depth s)
-  unfolding read-exit Stands
+  unfolding read-exit Stands written-in-block plain-kind
   exit-gives depth {s} x q =
       let r = go-on x (of-kind x (s .at) (kind .exit-word) (omega arith) q) in
       at-position _
@@ -139,10 +157,11 @@ module _ {input : Input} {text : List ℕ} (T : Text input text) (cell : Cell) (
               view-kind v x (s .at) ∙ eqb-true _ _ q,
               subst (λ (i : ℕ). Stands (table-of wf (tokens input) (cell .dims)) depth rest i) (sym (ap (linked (tokens input) (s .at)) w ∙ link-to (tokens input) (s .at) (s .at + 1) (omega arith) (r .sound .within))) more,
             );
+        adds = λ rest wf v loops _ next more. adds-both _ loops (adds-plain _ loops (s .at) (plain-of (kind .exit-word) (view-kind v x (s .at) ∙ eqb-true _ _ q) refl)) more;
       }))))
 
   constant-stands : (depth : ℕ) {s : State} → Sound input text s → is-kind (token-of input s (s .at)) (kind .const-word) ≡ true → {t : State} → Declares T s t → Statement T cell some-dims depth s constant t
-  unfolding Stands
+  unfolding Stands written-in-block
   constant-stands depth {s} x q {t} d =
       record {
         run = d .run;
@@ -153,6 +172,9 @@ module _ {input : Input} {text : List ℕ} (T : Text input text) (cell : Cell) (
               view-kind v x (s .at) ∙ eqb-true _ _ q,
               subst (λ (i : ℕ). Stands (table-of wf (tokens input) (cell .dims)) depth rest i) (sym (ap (linked (tokens input) (s .at)) w ∙ link-to (tokens input) (s .at) (t .at) (d .far) (d .run .sound .within))) more,
             );
+        adds = λ rest wf v loops _ next more.
+            let w : word-in wf (tokens input) 3 (s .at) ≡ t .at = view-word v (d .run .sound .within) (s .at) 3 (le-refl _) (d .far) (omega arith) ∙ d .past in
+            adds-both _ loops (adds-constant _ loops (s .at) (view-kind v x (s .at) ∙ eqb-true _ _ q) (ap (linked (tokens input) (s .at)) w ∙ link-to (tokens input) (s .at) (t .at) (d .far) (d .run .sound .within)) (d .far)) more;
       }
 
   -- ---- lists of statements
@@ -172,6 +194,7 @@ module _ {input : Input} {text : List ℕ} (T : Text input text) (cell : Cell) (
     pub is : b ≡ before part
     pub proper : Proper part
     pub stands : (token-of input t (t .at) .kind ≡ kind .exit-word → ⊥) → Claim input text (cell .dims) s t (λ tb. Stands tb loops part (s .at))
+    pub adds : Claim input text (cell .dims) s t (λ tb. (ranges : List Range) → length ranges ≡ loops → Adds tb ranges (s .at) (t .at) (written-in-block ranges part))
 
   -- one more statement
   one-more : (loops : ℕ) (before f : Block → Block) {s t : State} → Sound input text s → Statement T cell some-dims loops s f t → Turned (λ _ u. Sound input text u) (Going loops) before s (put-after before f) t
@@ -184,6 +207,7 @@ module _ {input : Input} {text : List ℕ} (T : Text input text) (cell : Cell) (
           is = k .is;
           proper = h .proper (k .part) (k .proper);
           stands = λ n wf v. h .stands (k .part) wf (first-part v (k .run)) (k .stands n wf (second-part x v (h .run) (k .run)));
+          adds = λ wf v ranges deep. h .adds (k .part) wf (first-part v (k .run)) ranges deep _ (k .adds wf (second-part x v (h .run) (k .run)) ranges deep);
         },
   )
 
@@ -194,7 +218,7 @@ module _ {input : Input} {text : List ℕ} (T : Text input text) (cell : Cell) (
   no-more false false t k i f e p q r s u = rw (r, s, u, q)
 
   turn-gives : (loops : ℕ) (parts : Parts) → PartsRead loops parts → (before : Block → Block) (s : State) → Sound input text s → Gives input (statement-turn cell parts loops before) s (Turned (λ _ t. Sound input text t) (Going loops) before s)
-  unfolding statement-turn Stands begins is-name
+  unfolding statement-turn Stands begins is-name written-in-block
   turn-gives loops parts reads before s x =
       at-token _
       (choose (is-name (token-of input s (s .at))) (λ q. made _ (assignment-gives T cell some-dims loops (parts .expr) (reads .expr) x q) (λ f t h. one-more loops before f x h))
@@ -221,10 +245,16 @@ module _ {input : Input} {text : List ℕ} (T : Text input text) (cell : Cell) (
             rw (view-kind v x (s .at))
             (no-more (eqb (token-of input s (s .at) .kind) (kind .name)) (eqb (token-of input s (s .at) .kind) (kind .cell)) (eqb (token-of input s (s .at) .kind) (kind .time)) _ _ _ (eqb (token-of input s (s .at) .kind) (kind .exit-word)) n₁ n₂ n₃ n₄
             (ne-eqb _ _ e));
+        adds = λ wf v ranges _. adds-none _ ranges (s .at);
       })))))))
 
   going-block : (loops : ℕ) {s : State} {b : Block} {t : State} → Going loops (λ after. after) s b t → BlockRead T cell some-dims loops s b t
-  going-block loops {s} g = (g .run, λ n wf v. subst (λ (y : Block). Stands (table-of wf (tokens input) (cell .dims)) loops y (s .at)) (sym (g .is)) (g .stands n wf v), subst Proper (sym (g .is)) (g .proper))
+  going-block loops {s} {b} {t} g = (
+    g .run,
+    λ n wf v. subst (λ (y : Block). Stands (table-of wf (tokens input) (cell .dims)) loops y (s .at)) (sym (g .is)) (g .stands n wf v),
+    subst Proper (sym (g .is)) (g .proper),
+    λ wf v ranges deep. subst (λ (y : Block). Adds (table-of wf (tokens input) (cell .dims)) ranges (s .at) (t .at) (written-in-block ranges y)) (sym (g .is)) (g .adds wf v ranges deep),
+  )
 
   -- a list of statements stands where it is read
   pub block-gives : (room loops : ℕ) → loops + room ≤ 16 → ReadsBlock T cell some-dims loops (read-block cell room loops)

@@ -3,3 +3,4 @@ pub mod Reach
 pub mod Admission
 pub mod Report
 pub mod Locality
+pub mod Fitting

@@ -1,9 +1,10 @@
 use native.Mathlib.Omega.{arith}
-use mathlib.Core.Path.{_∙_}
+use mathlib.Core.Path.{_∙_, refl}
 use Rattle.grammar.specs.Source.{read-program}
 use Rattle.reader.proofs.Steps.{on, off}
 use Rattle.reader.proofs.Going.{went}
-use Rattle.checker.proofs.Finishing.{few-left, cell-is, in-cell}
+use Rattle.checker.proofs.Finishing.{cell-is, in-cell}
+use Rattle.checker.proofs.Traces.{read-so, unread}
 use borrow.Author.Needs.{needs}
 use Rattle.checker.proofs.checking.read_program.Statement.{statement}
 use Rattle.checker.proofs.checking.read_program.Tie as tie
@@ -19,6 +20,9 @@ enum-known-a c = search needs
 enum-told : tie.Need-enum-told
 enum-told c = search needs
 
+no-program-requires : tie.Need-no-program-requires
+no-program-requires c κs = search needs
+
 same-length : tie.Need-same-length
 same-length c = search needs
 
@@ -28,10 +32,11 @@ same-length-2 c = search needs
 returns : tie.Need-returns
 unfolding read-program
 returns c =
-    let read-constants = c .before .before .before .before .before .before .read-constants in
-    let enum-told = c .enum-told in
+    let read-constants = c .before .before .before .before .before .before .before .read-constants in
+    let enum-told = c .before .enum-told in
+    let no-program = c .no-program in
     let y = enum-told .given .1 in
-    (off _ (read-constants .ensures .gives) y, record { few = rw y tt })
+    unread _ (off _ (read-constants .ensures .gives) y) (no-program .ensures) y
 
 read-cell-requires : tie.Need-read-cell-requires
 read-cell-requires c κs =
@@ -47,6 +52,9 @@ enum-known-r c = search needs
 enum-told-2 : tie.Need-enum-told-2
 enum-told-2 c = search needs
 
+no-program-requires-2 : tie.Need-no-program-requires-2
+no-program-requires-2 c κs = search needs
+
 same-length-3 : tie.Need-same-length-3
 same-length-3 c = search needs
 
@@ -56,12 +64,13 @@ same-length-4 c = search needs
 returns-2 : tie.Need-returns-2
 unfolding read-program
 returns-2 c =
-    let read-constants = c .before .before .before .before .before .before .before .before .before .before .before .before .before .before .before .before .read-constants in
-    let a = c .before .before .before .before .before .before .before .before .before .before .a in
-    let read-cell = c .before .before .before .before .before .before .read-cell in
-    let enum-told2 = c .enum-told2 in
+    let read-constants = c .before .before .before .before .before .before .before .before .before .before .before .before .before .before .before .before .before .read-constants in
+    let a = c .before .before .before .before .before .before .before .before .before .before .before .a in
+    let read-cell = c .before .before .before .before .before .before .before .read-cell in
+    let enum-told2 = c .before .enum-told2 in
+    let no-program2 = c .no-program2 in
     let y = enum-told2 .given .1 in
-    (on _ (read-constants .ensures .gives) (a .given .1) (λ _ _. off _ (read-cell .ensures .gives) y), record { few = rw y tt })
+    unread _ (on _ (read-constants .ensures .gives) (a .given .1) (λ _ _. off _ (read-cell .ensures .gives) y)) (no-program2 .ensures) y
 
 read-block-requires : tie.Need-read-block-requires
 read-block-requires c κs =
@@ -78,35 +87,37 @@ enum-known-e c = search needs
 enum-told-3 : tie.Need-enum-told-3
 enum-told-3 c = search needs
 
+no-program-requires-3 : tie.Need-no-program-requires-3
+no-program-requires-3 c κs = search needs
+
 same-length-5 : tie.Need-same-length-5
 same-length-5 c =
-    let read-constants = c .before .before .before .before .before .before .before .before .before .before .before .before .before .before .before .before .before .before .before .before .before .before .before .before .before .before .read-constants in
-    let read-cell = c .before .before .before .before .before .before .before .before .before .before .before .before .before .before .before .before .read-cell in
-    let read-block = c .before .before .before .before .before .before .read-block in
+    let read-constants = c .before .before .before .before .before .before .before .before .before .before .before .before .before .before .before .before .before .before .before .before .before .before .before .before .before .before .before .read-constants in
+    let read-cell = c .before .before .before .before .before .before .before .before .before .before .before .before .before .before .before .before .before .read-cell in
+    let read-block = c .before .before .before .before .before .before .before .read-block in
     read-block .kept .1 .0 ∙ read-cell .kept .1 .0 ∙ read-constants .kept .1 .0
 
 same-length-6 : tie.Need-same-length-6
 same-length-6 c =
-    let read-constants = c .before .before .before .before .before .before .before .before .before .before .before .before .before .before .before .before .before .before .before .before .before .before .before .before .before .before .read-constants in
-    let read-cell = c .before .before .before .before .before .before .before .before .before .before .before .before .before .before .before .before .read-cell in
-    let read-block = c .before .before .before .before .before .before .read-block in
+    let read-constants = c .before .before .before .before .before .before .before .before .before .before .before .before .before .before .before .before .before .before .before .before .before .before .before .before .before .before .before .read-constants in
+    let read-cell = c .before .before .before .before .before .before .before .before .before .before .before .before .before .before .before .before .before .read-cell in
+    let read-block = c .before .before .before .before .before .before .before .read-block in
     read-block .kept .1 .1 .0 ∙ read-cell .kept .1 .1 .0 ∙ read-constants .kept .1 .1 .0
 
 returns-3 : tie.Need-returns-3
 unfolding read-program
 returns-3 c =
-    let read-constants = c .before .before .before .before .before .before .before .before .before .before .before .before .before .before .before .before .before .before .before .before .before .before .before .before .before .before .read-constants in
-    let a = c .before .before .before .before .before .before .before .before .before .before .before .before .before .before .before .before .before .before .before .before .a in
-    let read-cell = c .before .before .before .before .before .before .before .before .before .before .before .before .before .before .before .before .read-cell in
-    let r = c .before .before .before .before .before .before .before .before .before .before .r in
-    let read-block = c .before .before .before .before .before .before .read-block in
-    let enum-told3 = c .enum-told3 in
-    let y = enum-told3 .given .1 in (
-      on _ (read-constants .ensures .gives) (a .given .1)
-          (λ _ _. on _ (read-cell .ensures .gives) (r .given .1)
-          (λ d x. off _ (in-cell (cell-is x) (read-block .ensures .gives)) y)),
-      record { few = rw y tt },
-    )
+    let read-constants = c .before .before .before .before .before .before .before .before .before .before .before .before .before .before .before .before .before .before .before .before .before .before .before .before .before .before .before .read-constants in
+    let a = c .before .before .before .before .before .before .before .before .before .before .before .before .before .before .before .before .before .before .before .before .before .a in
+    let read-cell = c .before .before .before .before .before .before .before .before .before .before .before .before .before .before .before .before .before .read-cell in
+    let r = c .before .before .before .before .before .before .before .before .before .before .before .r in
+    let read-block = c .before .before .before .before .before .before .before .read-block in
+    let enum-told3 = c .before .enum-told3 in
+    let no-program3 = c .no-program3 in
+    let y = enum-told3 .given .1 in
+    unread _ (on _ (read-constants .ensures .gives) (a .given .1) (λ _ _. on _ (read-cell .ensures .gives) (r .given .1)
+    (λ d x. off _ (in-cell (cell-is x) (read-block .ensures .gives)) y)))
+    (no-program3 .ensures) y
 
 finish-requires : tie.Need-finish-requires
 finish-requires c κs =
@@ -116,35 +127,41 @@ finish-requires c κs =
     let read-block = c .before .before .before .before .before .before .before .before .read-block in
     (pre .0, read-block .kept .1 .1 .0 ∙ read-cell .kept .1 .1 .0 ∙ read-constants .kept .1 .1 .0 ∙ pre .1)
 
+add-t29 : tie.Need-add-t29
+add-t29 c =
+    let pre = c .before .before .before .before .before .before .before .before .before .before .before .before .before .before .before .before .before .before .before .before .before .before .before .before .before .before .before .before .before .before .before .before .before .before .before .before .pre in
+    let read-constants = c .before .before .before .before .before .before .before .before .before .before .before .before .before .before .before .before .before .before .before .before .before .before .before .before .before .before .before .before .before .before .read-constants in
+    let a = c .before .before .before .before .before .before .before .before .before .before .before .before .before .before .before .before .before .before .before .before .before .before .before .before .a in
+    let u = went (read-constants .ensures .onward) (a .given .1) in
+    let l = u .within in
+    let m = pre .0 in
+    omega arith
+
 same-length-7 : tie.Need-same-length-7
 same-length-7 c =
-    let read-constants = c .before .before .before .before .before .before .before .before .before .before .before .before .before .before .before .before .before .before .before .before .before .before .before .before .before .before .before .before .before .read-constants in
-    let read-cell = c .before .before .before .before .before .before .before .before .before .before .before .before .before .before .before .before .before .before .before .read-cell in
-    let read-block = c .before .before .before .before .before .before .before .before .before .read-block in
+    let read-constants = c .before .before .before .before .before .before .before .before .before .before .before .before .before .before .before .before .before .before .before .before .before .before .before .before .before .before .before .before .before .before .read-constants in
+    let read-cell = c .before .before .before .before .before .before .before .before .before .before .before .before .before .before .before .before .before .before .before .before .read-cell in
+    let read-block = c .before .before .before .before .before .before .before .before .before .before .read-block in
     read-block .kept .1 .0 ∙ read-cell .kept .1 .0 ∙ read-constants .kept .1 .0
 
 same-length-8 : tie.Need-same-length-8
 same-length-8 c =
-    let read-constants = c .before .before .before .before .before .before .before .before .before .before .before .before .before .before .before .before .before .before .before .before .before .before .before .before .before .before .before .before .before .read-constants in
-    let read-cell = c .before .before .before .before .before .before .before .before .before .before .before .before .before .before .before .before .before .before .before .read-cell in
-    let read-block = c .before .before .before .before .before .before .before .before .before .read-block in
+    let read-constants = c .before .before .before .before .before .before .before .before .before .before .before .before .before .before .before .before .before .before .before .before .before .before .before .before .before .before .before .before .before .before .read-constants in
+    let read-cell = c .before .before .before .before .before .before .before .before .before .before .before .before .before .before .before .before .before .before .before .before .read-cell in
+    let read-block = c .before .before .before .before .before .before .before .before .before .before .read-block in
     read-block .kept .1 .1 .0 ∙ read-cell .kept .1 .1 .0 ∙ read-constants .kept .1 .1 .0
 
 returns-4 : tie.Need-returns-4
-unfolding read-program
 returns-4 c =
-    let read-constants = c .before .before .before .before .before .before .before .before .before .before .before .before .before .before .before .before .before .before .before .before .before .before .before .before .before .before .before .before .before .read-constants in
-    let a = c .before .before .before .before .before .before .before .before .before .before .before .before .before .before .before .before .before .before .before .before .before .before .before .a in
-    let read-cell = c .before .before .before .before .before .before .before .before .before .before .before .before .before .before .before .before .before .before .before .read-cell in
-    let r = c .before .before .before .before .before .before .before .before .before .before .before .before .before .r in
-    let read-block = c .before .before .before .before .before .before .before .before .before .read-block in
-    let e = c .before .before .before .e in
-    let finish = c .finish in (
-      on _ (read-constants .ensures .gives) (a .given .1)
-          (λ _ _. on _ (read-cell .ensures .gives) (r .given .1)
-          (λ d x. on _ (in-cell (cell-is x) (read-block .ensures .gives)) (e .given .1) (λ b _. finish .ensures .gives _ _ d b))),
-      few-left (finish .ensures) (went (read-block .ensures .onward) (e .given .1) .few),
-    )
+    let read-constants = c .before .before .before .before .before .before .before .before .before .before .before .before .before .before .before .before .before .before .before .before .before .before .before .before .before .before .before .before .before .before .read-constants in
+    let a = c .before .before .before .before .before .before .before .before .before .before .before .before .before .before .before .before .before .before .before .before .before .before .before .before .a in
+    let read-cell = c .before .before .before .before .before .before .before .before .before .before .before .before .before .before .before .before .before .before .before .before .read-cell in
+    let r = c .before .before .before .before .before .before .before .before .before .before .before .before .before .before .r in
+    let read-block = c .before .before .before .before .before .before .before .before .before .before .read-block in
+    let e = c .before .before .before .before .e in
+    let finish = c .before .finish in
+    read-so (read-constants .ensures .gives) (a .given .1) (read-cell .ensures .gives) (r .given .1) (read-block .ensures .gives) (e .given .1)
+    _ refl refl refl refl (finish .ensures) (went (read-block .ensures .onward) (e .given .1) .few)
 
 pub read-program-spec : {M : Type 1} → statement M
 read-program-spec =
@@ -153,22 +170,26 @@ read-program-spec =
     read-constants-requires
     enum-known-a
     enum-told
+    no-program-requires
     same-length
     same-length-2
     returns
     read-cell-requires
     enum-known-r
     enum-told-2
+    no-program-requires-2
     same-length-3
     same-length-4
     returns-2
     read-block-requires
     enum-known-e
     enum-told-3
+    no-program-requires-3
     same-length-5
     same-length-6
     returns-3
     finish-requires
+    add-t29
     same-length-7
     same-length-8
     returns-4)

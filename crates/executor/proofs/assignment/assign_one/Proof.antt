@@ -3,11 +3,11 @@ use borrow.Author.Needs.{needs}
 use Rattle.executor.proofs.assignment.assign_one.Statement.{statement}
 use Rattle.executor.proofs.assignment.assign_one.Tie as tie
 
-add-expression : tie.Need-add-expression
-add-expression c = search needs
+add-worked-out : tie.Need-add-worked-out
+add-worked-out c = search needs
 
-expression-requires : tie.Need-expression-requires
-expression-requires c κs = search needs
+worked-out-requires : tie.Need-worked-out-requires
+worked-out-requires c κs = search needs
 
 enum-known-told : tie.Need-enum-known-told
 enum-known-told c = search needs
@@ -22,17 +22,17 @@ same-length : tie.Need-same-length
 same-length c = search needs
 
 returns : tie.Need-returns
-returns c = one-stored _ _ _ _ _ _ _ (c .before .before .before .before .before .before .before .expression .ensures) (c .before .before .before .before .before .told .given .1) (c .before .put .ensures)
+returns c = one-stored _ _ _ _ _ _ _ (c .before .before .before .before .before .before .before .worked-out .ensures) (c .before .before .before .before .before .told .given .1) (c .before .put .ensures)
 
 returns-2 : tie.Need-returns-2
-returns-2 c = one-fault _ _ _ _ _ _ _ (c .before .before .before .expression .ensures) (c .before .told2 .given .1)
+returns-2 c = one-fault _ _ _ _ _ _ _ (c .before .before .before .worked-out .ensures) (c .before .told2 .given .1)
 
 pub assign-one-spec : {M : Type 1} → statement M
 assign-one-spec =
     tie.close
     (tie.spec
-    add-expression
-    expression-requires
+    add-worked-out
+    worked-out-requires
     enum-known-told
     put-requires
     enum-known-told-2

@@ -23,7 +23,7 @@ use Rattle.executor.proofs.statements.+block+choice+forall+statement.Lt
 use Rattle.executor.proofs.statements.statement.Reads as statement′
 use Rattle.executor.proofs.statements.statement.Kinds as statement-kinds
 use Rattle.executor.proofs.statements.+block+choice+forall+statement.Lts-statement as statement-lts
-use Rattle.evaluator.proofs.expression.expression.Reads as expression-reads
+use Rattle.executor.proofs.assignment.worked_out.Reads as worked-out-reads
 use Rattle.evaluator.proofs.table.link_at.Reads as link-at-reads
 use Rattle.evaluator.proofs.table.word_at.Reads as word-at-reads
 use Rattle.executor.proofs.assignment.assignment.Reads as assignment-reads
@@ -82,7 +82,7 @@ abbrev block-calls : ℕ → block-lts.Claims
 block-calls t = (word-at-reads.Asked, word-at-reads.Learnt, begins-reads.Asked, begins-reads.Learnt, statement-below t, statement′.Post, link-at-reads.Asked, link-at-reads.Learnt)
 
 abbrev choice-calls : ℕ → choice-lts.Claims
-choice-calls t = (expression-reads.Asked, expression-reads.Learnt, is-true-reads.Asked, is-true-reads.Learnt, block-below t, block.Post, link-at-reads.Asked, link-at-reads.Learnt, word-at-reads.Asked, word-at-reads.Learnt)
+choice-calls t = (worked-out-reads.Asked, worked-out-reads.Learnt, is-true-reads.Asked, is-true-reads.Learnt, block-below t, block.Post, link-at-reads.Asked, link-at-reads.Learnt, word-at-reads.Asked, word-at-reads.Learnt)
 
 abbrev forall-calls : ℕ → forall-lts.Claims
 forall-calls t = (word-at-reads.Asked, word-at-reads.Learnt, decode-reads.Asked, decode-reads.Learnt, link-at-reads.Asked, link-at-reads.Learnt, span-reads.Asked, span-reads.Learnt, set-index-reads.Asked, set-index-reads.Learnt, block-below t, block.Post)
@@ -147,11 +147,11 @@ choice-μ-loop words sizes place grid vars₀ index₀ next₀ site depth at n a
 choice-loop-holds : (t : ℕ) → choice-lts.Need-loop-holds (choice-calls t) (choice-at t) choice.Post choice-Inv-loop choice-μ-loop
 choice-loop-holds t c = (arms-start _ _ _ _ _ _ _, refl, refl, refl, omega arith, (c .before .before .before .pre .1 .1), refl)
 
-choice-add-expression : (t : ℕ) → choice-lts.Need-add-expression (choice-calls t) (choice-at t) choice.Post choice-Inv-loop choice-μ-loop
-choice-add-expression t c = omega (arith, (c .before .before .loop .inv .5), (c .before .before .before .before .before .before .pre .1 .0 .tokens))
+choice-add-worked-out : (t : ℕ) → choice-lts.Need-add-worked-out (choice-calls t) (choice-at t) choice.Post choice-Inv-loop choice-μ-loop
+choice-add-worked-out t c = omega (arith, (c .before .before .loop .inv .5), (c .before .before .before .before .before .before .pre .1 .0 .tokens))
 
-choice-expression-requires : (t : ℕ) → choice-lts.Need-expression-requires (choice-calls t) (choice-at t) choice.Post choice-Inv-loop choice-μ-loop
-choice-expression-requires t c κs = ((c .before .before .before .before .before .before .pre .1 .0), omega arith, omega (arith, (c .before .before .loop .inv .5)))
+choice-worked-out-requires : (t : ℕ) → choice-lts.Need-worked-out-requires (choice-calls t) (choice-at t) choice.Post choice-Inv-loop choice-μ-loop
+choice-worked-out-requires t c κs = ((c .before .before .before .before .before .before .pre .1 .0), omega (arith, (c .before .before .loop .inv .5)))
 
 choice-enum-known-told : (t : ℕ) → choice-lts.Need-enum-known-told (choice-calls t) (choice-at t) choice.Post choice-Inv-loop choice-μ-loop
 choice-enum-known-told t c = search needs
@@ -163,19 +163,19 @@ choice-add-block : (t : ℕ) → choice-lts.Need-add-block (choice-calls t) (cho
 choice-add-block t c = omega (arith, (c .before .before .before .if2 .taken), (c .before .before .before .before .before .before .before .before .before .before .before .before .before .before .before .before .pre .1 .0 .tokens))
 
 choice-block-requires : (t : ℕ) → choice-lts.Need-block-requires (choice-calls t) (choice-at t) choice.Post choice-Inv-loop choice-μ-loop
-choice-block-requires t c κs = let l = found-onward (c .before .before .before .before .before .before .before .before .before .expression .ensures) (c .before .before .before .before .before .before .before .told .given .1) in (omega (arith, (c .before .before .before .before .before .before .before .before .before .before .before .before .before .before .before .before .pre .0), (c .before .before .before .before .before .before .before .before .before .before .before .before .loop .inv .4), (c .before .before .before .if2 .taken)), ((c .before .before .before .before .before .before .before .before .before .before .before .before .before .before .before .before .pre .1 .0), omega (arith, (c .before .before .before .if2 .taken))))
+choice-block-requires t c κs = let l = found-onward (c .before .before .before .before .before .before .before .before .before .worked-out .ensures) (c .before .before .before .before .before .before .before .told .given .1) in (omega (arith, (c .before .before .before .before .before .before .before .before .before .before .before .before .before .before .before .before .pre .0), (c .before .before .before .before .before .before .before .before .before .before .before .before .loop .inv .4), (c .before .before .before .if2 .taken)), ((c .before .before .before .before .before .before .before .before .before .before .before .before .before .before .before .before .pre .1 .0), omega (arith, (c .before .before .before .if2 .taken))))
 
 choice-same-length : (t : ℕ) → choice-lts.Need-same-length (choice-calls t) (choice-at t) choice.Post choice-Inv-loop choice-μ-loop
 choice-same-length t c = search needs
 
 choice-returns : (t : ℕ) → choice-lts.Need-returns (choice-calls t) (choice-at t) choice.Post choice-Inv-loop choice-μ-loop
-choice-returns t c = choice-from (ap (take (c .before .before .before .before .before .before .before .before .before .before .before .before .before .before .before .before .before .before .args .site .slots)) (c .before .before .before .before .before .before .before .before .before .before .before .before .before .before .loop .inv .1)) (c .before .before .before .before .before .before .before .before .before .before .before .before .before .before .loop .inv .2) (c .before .before .before .before .before .before .before .before .before .before .before .before .before .before .loop .inv .3) (choice-then _ _ _ _ _ _ _ (c .before .before .before .before .before .before .before .before .before .before .before .before .before .before .loop .inv .0) (c .before .before .before .before .before .before .before .before .before .before .before .expression .ensures) (c .before .before .before .before .before .before .before .before .before .told .given .1) (c .before .before .before .before .before .before .before .is-true .ensures) (c .before .before .before .before .before .before .if1 .taken) (c .before .block .ensures))
+choice-returns t c = choice-from (ap (take (c .before .before .before .before .before .before .before .before .before .before .before .before .before .before .before .before .before .before .args .site .slots)) (c .before .before .before .before .before .before .before .before .before .before .before .before .before .before .loop .inv .1)) (c .before .before .before .before .before .before .before .before .before .before .before .before .before .before .loop .inv .2) (c .before .before .before .before .before .before .before .before .before .before .before .before .before .before .loop .inv .3) (choice-then _ _ _ _ _ _ _ (c .before .before .before .before .before .before .before .before .before .before .before .before .before .before .loop .inv .0) (c .before .before .before .before .before .before .before .before .before .before .before .worked-out .ensures) (c .before .before .before .before .before .before .before .before .before .told .given .1) (c .before .before .before .before .before .before .before .is-true .ensures) (c .before .before .before .before .before .before .if1 .taken) (c .before .block .ensures))
 
 choice-same-length-2 : (t : ℕ) → choice-lts.Need-same-length-2 (choice-calls t) (choice-at t) choice.Post choice-Inv-loop choice-μ-loop
 choice-same-length-2 t c = search needs
 
 choice-returns-2 : (t : ℕ) → choice-lts.Need-returns-2 (choice-calls t) (choice-at t) choice.Post choice-Inv-loop choice-μ-loop
-choice-returns-2 t c = choice-from (ap (take (c .before .before .before .before .before .before .before .before .before .before .before .before .before .args .site .slots)) (c .before .before .before .before .before .before .before .before .before .loop .inv .1)) (c .before .before .before .before .before .before .before .before .before .loop .inv .2) (c .before .before .before .before .before .before .before .before .before .loop .inv .3) (choice-wrong _ _ _ _ _ _ _ (c .before .before .before .before .before .before .before .before .before .loop .inv .0) (c .before .before .before .before .before .before .expression .ensures) (c .before .before .before .before .told .given .1) (c .before .before .is-true .ensures) (λ i e. token _ _ i (sym e) (omega arith)) (c .if2 .left))
+choice-returns-2 t c = choice-from (ap (take (c .before .before .before .before .before .before .before .before .before .before .before .before .before .args .site .slots)) (c .before .before .before .before .before .before .before .before .before .loop .inv .1)) (c .before .before .before .before .before .before .before .before .before .loop .inv .2) (c .before .before .before .before .before .before .before .before .before .loop .inv .3) (choice-wrong _ _ _ _ _ _ _ (c .before .before .before .before .before .before .before .before .before .loop .inv .0) (c .before .before .before .before .before .before .worked-out .ensures) (c .before .before .before .before .told .given .1) (c .before .before .is-true .ensures) (λ i e. token _ _ i (sym e) (omega arith)) (c .if2 .left))
 
 choice-link-at-requires : (t : ℕ) → choice-lts.Need-link-at-requires (choice-calls t) (choice-at t) choice.Post choice-Inv-loop choice-μ-loop
 choice-link-at-requires t c κs = ((c .before .before .before .before .before .before .before .before .before .before .before .before .pre .1 .0 .table), (c .before .before .before .before .before .before .before .before .before .before .before .before .pre .1 .0 .tokens), omega arith)
@@ -193,19 +193,19 @@ choice-same-length-3 : (t : ℕ) → choice-lts.Need-same-length-3 (choice-calls
 choice-same-length-3 t c = search needs
 
 choice-returns-3 : (t : ℕ) → choice-lts.Need-returns-3 (choice-calls t) (choice-at t) choice.Post choice-Inv-loop choice-μ-loop
-choice-returns-3 t c = choice-from (ap (take (c .before .before .before .before .before .before .before .before .before .before .before .before .before .before .before .before .before .before .before .before .args .site .slots)) (c .before .before .before .before .before .before .before .before .before .before .before .before .before .before .before .before .loop .inv .1)) (c .before .before .before .before .before .before .before .before .before .before .before .before .before .before .before .before .loop .inv .2) (c .before .before .before .before .before .before .before .before .before .before .before .before .before .before .before .before .loop .inv .3) (choice-else _ _ _ _ _ _ _ (c .before .before .before .before .before .before .before .before .before .before .before .before .before .before .before .before .loop .inv .0) (c .before .before .before .before .before .before .before .before .before .before .before .before .before .expression .ensures) (c .before .before .before .before .before .before .before .before .before .before .before .told .given .1) (c .before .before .before .before .before .before .before .before .before .is-true .ensures) (c .before .before .before .before .before .before .before .before .if1 .left) (c .before .before .before .before .before .before .before .link-at .ensures) (c .before .before .before .before .before .before .word-at .ensures) (c .before .before .before .before .before .if3 .taken) (c .before .block2 .ensures))
+choice-returns-3 t c = choice-from (ap (take (c .before .before .before .before .before .before .before .before .before .before .before .before .before .before .before .before .before .before .before .before .args .site .slots)) (c .before .before .before .before .before .before .before .before .before .before .before .before .before .before .before .before .loop .inv .1)) (c .before .before .before .before .before .before .before .before .before .before .before .before .before .before .before .before .loop .inv .2) (c .before .before .before .before .before .before .before .before .before .before .before .before .before .before .before .before .loop .inv .3) (choice-else _ _ _ _ _ _ _ (c .before .before .before .before .before .before .before .before .before .before .before .before .before .before .before .before .loop .inv .0) (c .before .before .before .before .before .before .before .before .before .before .before .before .before .worked-out .ensures) (c .before .before .before .before .before .before .before .before .before .before .before .told .given .1) (c .before .before .before .before .before .before .before .before .before .is-true .ensures) (c .before .before .before .before .before .before .before .before .if1 .left) (c .before .before .before .before .before .before .before .link-at .ensures) (c .before .before .before .before .before .before .word-at .ensures) (c .before .before .before .before .before .if3 .taken) (c .before .block2 .ensures))
 
 choice-same-length-4 : (t : ℕ) → choice-lts.Need-same-length-4 (choice-calls t) (choice-at t) choice.Post choice-Inv-loop choice-μ-loop
 choice-same-length-4 t c = search needs
 
 choice-returns-4 : (t : ℕ) → choice-lts.Need-returns-4 (choice-calls t) (choice-at t) choice.Post choice-Inv-loop choice-μ-loop
-choice-returns-4 t c = choice-from (ap (take (c .before .before .before .before .before .before .before .before .before .before .before .before .before .before .before .before .args .site .slots)) (c .before .before .before .before .before .before .before .before .before .before .before .before .loop .inv .1)) (c .before .before .before .before .before .before .before .before .before .before .before .before .loop .inv .2) (c .before .before .before .before .before .before .before .before .before .before .before .before .loop .inv .3) (choice-end _ _ _ _ _ _ _ (c .before .before .before .before .before .before .before .before .before .before .before .before .loop .inv .0) (c .before .before .before .before .before .before .before .before .before .expression .ensures) (c .before .before .before .before .before .before .before .told .given .1) (c .before .before .before .before .before .is-true .ensures) (c .before .before .before .before .if1 .left) (c .before .before .before .link-at .ensures) (c .before .before .word-at .ensures) (c .before .if3 .left) (c .if4 .taken))
+choice-returns-4 t c = choice-from (ap (take (c .before .before .before .before .before .before .before .before .before .before .before .before .before .before .before .before .args .site .slots)) (c .before .before .before .before .before .before .before .before .before .before .before .before .loop .inv .1)) (c .before .before .before .before .before .before .before .before .before .before .before .before .loop .inv .2) (c .before .before .before .before .before .before .before .before .before .before .before .before .loop .inv .3) (choice-end _ _ _ _ _ _ _ (c .before .before .before .before .before .before .before .before .before .before .before .before .loop .inv .0) (c .before .before .before .before .before .before .before .before .before .worked-out .ensures) (c .before .before .before .before .before .before .before .told .given .1) (c .before .before .before .before .before .is-true .ensures) (c .before .before .before .before .if1 .left) (c .before .before .before .link-at .ensures) (c .before .before .word-at .ensures) (c .before .if3 .left) (c .if4 .taken))
 
 choice-loop-less : (t : ℕ) → choice-lts.Need-loop-less (choice-calls t) (choice-at t) choice.Post choice-Inv-loop choice-μ-loop
 choice-loop-less t c = omega (arith, link-bounds _ _ _ (c .before .before .before .link-at .ensures) (c .before .before .before .before .before .before .before .before .before .before .before .before .loop .inv .5), (c .before .before .before .before .before .before .before .before .before .before .before .before .loop .inv .5))
 
 choice-loop-again : (t : ℕ) → choice-lts.Need-loop-again (choice-calls t) (choice-at t) choice.Post choice-Inv-loop choice-μ-loop
-choice-loop-again t c = let m = link-bounds _ _ _ (c .before .before .before .link-at .ensures) (c .before .before .before .before .before .before .before .before .before .before .before .before .loop .inv .5) in (arms-more _ _ _ _ _ _ _ (c .before .before .before .before .before .before .before .before .before .before .before .before .loop .inv .0) (c .before .before .before .before .before .before .before .before .before .expression .ensures) (c .before .before .before .before .before .before .before .told .given .1) (c .before .before .before .before .before .is-true .ensures) (c .before .before .before .before .if1 .left) (c .before .before .before .link-at .ensures) (c .before .before .word-at .ensures) (c .if4 .left), (c .before .before .before .before .before .before .before .before .before .before .before .before .loop .inv .1), (c .before .before .before .before .before .before .before .before .before .before .before .before .loop .inv .2), (c .before .before .before .before .before .before .before .before .before .before .before .before .loop .inv .3), omega (arith, (c .before .before .before .before .before .before .before .before .before .before .before .before .loop .inv .4)), token _ _ _ (c .before .before .word-at .ensures) (omega arith), (c .before .before .before .before .before .before .before .before .before .before .before .before .loop .inv .6))
+choice-loop-again t c = let m = link-bounds _ _ _ (c .before .before .before .link-at .ensures) (c .before .before .before .before .before .before .before .before .before .before .before .before .loop .inv .5) in (arms-more _ _ _ _ _ _ _ (c .before .before .before .before .before .before .before .before .before .before .before .before .loop .inv .0) (c .before .before .before .before .before .before .before .before .before .worked-out .ensures) (c .before .before .before .before .before .before .before .told .given .1) (c .before .before .before .before .before .is-true .ensures) (c .before .before .before .before .if1 .left) (c .before .before .before .link-at .ensures) (c .before .before .word-at .ensures) (c .if4 .left), (c .before .before .before .before .before .before .before .before .before .before .before .before .loop .inv .1), (c .before .before .before .before .before .before .before .before .before .before .before .before .loop .inv .2), (c .before .before .before .before .before .before .before .before .before .before .before .before .loop .inv .3), omega (arith, (c .before .before .before .before .before .before .before .before .before .before .before .before .loop .inv .4)), token _ _ _ (c .before .before .word-at .ensures) (omega arith), (c .before .before .before .before .before .before .before .before .before .before .before .before .loop .inv .6))
 
 choice-enum-known-told-2 : (t : ℕ) → choice-lts.Need-enum-known-told-2 (choice-calls t) (choice-at t) choice.Post choice-Inv-loop choice-μ-loop
 choice-enum-known-told-2 t c = search needs
@@ -214,7 +214,7 @@ choice-same-length-5 : (t : ℕ) → choice-lts.Need-same-length-5 (choice-calls
 choice-same-length-5 t c = search needs
 
 choice-returns-5 : (t : ℕ) → choice-lts.Need-returns-5 (choice-calls t) (choice-at t) choice.Post choice-Inv-loop choice-μ-loop
-choice-returns-5 t c = choice-from (ap (take (c .before .before .before .before .before .before .before .before .before .before .args .site .slots)) (c .before .before .before .before .before .before .loop .inv .1)) (c .before .before .before .before .before .before .loop .inv .2) (c .before .before .before .before .before .before .loop .inv .3) (choice-fault _ _ _ _ _ _ _ (c .before .before .before .before .before .before .loop .inv .0) (c .before .before .before .expression .ensures) (c .before .told2 .given .1))
+choice-returns-5 t c = choice-from (ap (take (c .before .before .before .before .before .before .before .before .before .before .args .site .slots)) (c .before .before .before .before .before .before .loop .inv .1)) (c .before .before .before .before .before .before .loop .inv .2) (c .before .before .before .before .before .before .loop .inv .3) (choice-fault _ _ _ _ _ _ _ (c .before .before .before .before .before .before .loop .inv .0) (c .before .before .before .worked-out .ensures) (c .before .told2 .given .1))
 
 abbrev forall-Inv-loop : forall-lts.InvT-loop
 forall-Inv-loop words sizes place grid vars₀ index₀ next₀ site depth at n low high body count k₀ vars index next k = Turns (site-table words sizes site) (env-of words sizes grid site) depth at body (low .n) count (take (site .slots) vars₀) next₀ index₀ k (take (site .slots) vars) next index × (at < body) × (body ≤ site .tokens) × (count ≡ span-of (low .n) (high .n)) × (length next ≡ length next₀)
@@ -365,8 +365,8 @@ pub +block+choice+forall+statement-spec : {M : Type 1} → statement M
     choice-Inv-loop
     choice-μ-loop
     (choice-loop-holds t)
-    (choice-add-expression t)
-    (choice-expression-requires t)
+    (choice-add-worked-out t)
+    (choice-worked-out-requires t)
     (choice-enum-known-told t)
     (choice-is-true-requires t)
     (choice-add-block t)

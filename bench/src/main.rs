@@ -1,0 +1,367 @@
+//! Times runs of the proved library beside the second program's interpreter and loops written by hand, in one run on one grid.
+
+mod hand;
+mod proved;
+
+use proved::Rooms;
+use std::env;
+use std::fs;
+use std::time::Instant;
+
+const SIDE: usize = 1_024;
+const CELLS: usize = SIDE * SIDE;
+const SIZES: [u32; 2] = [SIDE as u32, SIDE as u32];
+const LIFE: &str = "2 dimensions of 0..1
+n := [-1,-1] + [-1,0] + [-1,1] + [0,-1] + [0,1] + [1,-1] + [1,0] + [1,1]
+cell := 1 when n = 3 := cell when n = 2 := 0 otherwise
+";
+const SHIFT: &str = "2 dimensions of grey of 0..255 shift of -1..1 moved of 0..1 end
+if cell.moved = 0 then
+    if cell.shift < 0 then cell.grey := [0,-1].grey
+    elsif cell.shift > 0 then cell.grey := [0,1].grey
+    end
+    cell.moved := 1
+else
+    cell.moved := 0
+end
+";
+/// Every cell changes in each step, and is read by its eight neighbours.
+const FLIP: &str = "2 dimensions of 0..1
+n := [-1,-1] + [-1,0] + [-1,1] + [0,-1] + [0,1] + [1,-1] + [1,0] + [1,1]
+cell := 1 - cell when n >= 0
+";
+
+type Step = fn(&[i32], &mut [i32], usize);
+
+struct Rule {
+    name: &'static str,
+    source: String,
+    fields: usize,
+    grid: Vec<i32>,
+    hand: Step,
+}
+
+/// Numbers that look random.
+struct Random(u64);
+
+impl Random {
+    fn below(&mut self, n: u64) -> i32 {
+        self.0 ^= self.0 << 13;
+        self.0 ^= self.0 >> 7;
+        self.0 ^= self.0 << 17;
+        ((self.0 >> 20) % n) as i32
+    }
+}
+
+/// A rule of 40 branches, one for each of the states 0 to 39, and an `else`.
+fn branching() -> String {
+    let mut text = String::from("2 dimensions of 0..40\n");
+    for state in 0..40 {
+        let word = if state == 0 { "if" } else { "elsif" };
+        let added = (state * 7 + 3) % 41;
+        text += &format!("{word} cell = {state} then cell := ([0,1] + {added}) % 41\n");
+    }
+    text + "else cell := [0,1]\nend\n"
+}
+
+fn rules() -> Vec<Rule> {
+    let mut random = Random(88_172_645_463_325_252);
+    let life = (0..CELLS).map(|_| random.below(2)).collect();
+    let mut shift = Vec::new();
+    for _ in 0..CELLS {
+        shift.extend([random.below(256), random.below(3) - 1, random.below(2)]);
+    }
+    let branches = (0..CELLS).map(|_| random.below(41)).collect();
+    vec![
+        Rule {
+            name: "Life",
+            source: LIFE.into(),
+            fields: 1,
+            grid: life,
+            hand: hand::life,
+        },
+        Rule {
+            name: "shift",
+            source: SHIFT.into(),
+            fields: 3,
+            grid: shift,
+            hand: hand::shift,
+        },
+        Rule {
+            name: "40 branches",
+            source: branching(),
+            fields: 1,
+            grid: branches,
+            hand: hand::branches,
+        },
+    ]
+}
+
+/// The seconds that this thread has run, where the system tells them, so that other work on the machine counts little.
+fn seconds(begun: Instant) -> f64 {
+    let told = fs::read_to_string("/proc/thread-self/schedstat").unwrap_or_default();
+    match told
+        .split(' ')
+        .next()
+        .and_then(|word| word.parse::<u64>().ok())
+    {
+        Some(nanoseconds) => nanoseconds as f64 / 1e9,
+        None => begun.elapsed().as_secs_f64(),
+    }
+}
+
+/// The best time of some, in seconds.
+fn best(times: usize, mut work: impl FnMut()) -> f64 {
+    let begun = Instant::now();
+    let mut least = f64::MAX;
+    for _ in 0..times {
+        let before = seconds(begun);
+        work();
+        least = least.min(seconds(begun) - before);
+    }
+    least
+}
+
+fn run_proved(quiet: bool, source: &str, grid: &[i32], fields: usize, steps: i64) -> Vec<i32> {
+    let mut rooms = Rooms::new(CELLS, fields);
+    let mut left = grid.to_vec();
+    let report = proved::run(
+        quiet,
+        source.as_bytes(),
+        &SIZES,
+        &mut left,
+        &mut rooms,
+        steps,
+    );
+    assert_eq!(report[0], 0, "refused or faulted: {report:?}");
+    assert_eq!(report[3], steps as u64);
+    left
+}
+
+fn run_second(rule: &Rule, steps: i64) -> Vec<i32> {
+    let mut left = rule.grid.clone();
+    let mut scratch = vec![0; left.len()];
+    let mut marks = vec![0; CELLS];
+    let report = reference::run_full(
+        rule.source.as_bytes(),
+        16_384,
+        256,
+        &SIZES,
+        &mut left,
+        &mut scratch,
+        &mut marks,
+        0,
+        steps,
+    );
+    assert_eq!(report.number, 0);
+    left
+}
+
+fn run_hand(rule: &Rule, steps: i64) -> Vec<i32> {
+    let mut left = rule.grid.clone();
+    let mut next = vec![0; left.len()];
+    for _ in 0..steps {
+        (rule.hand)(&left, &mut next, SIDE);
+        std::mem::swap(&mut left, &mut next);
+    }
+    left
+}
+
+/// The full runs: cell evaluations a second, of runs from the source to the grid that is left.
+fn full(times: usize, steps: i64) {
+    println!("full run, {steps} steps, million cell evaluations a second");
+    println!("| rule | proved | second program | by hand | proved / second | by hand / proved |");
+    println!("|---|---|---|---|---|---|");
+    for rule in rules() {
+        let result = run_hand(&rule, 3);
+        let proved = run_proved(false, &rule.source, &rule.grid, rule.fields, 3);
+        assert!(proved == result, "{}: the proved run differs", rule.name);
+        assert!(
+            run_second(&rule, 3) == result,
+            "{}: the second program differs",
+            rule.name
+        );
+        let rate = |seconds: f64| CELLS as f64 * steps as f64 / seconds / 1e6;
+        let a = rate(best(times, || {
+            run_proved(false, &rule.source, &rule.grid, rule.fields, steps);
+        }));
+        let b = rate(best(times, || {
+            run_second(&rule, steps);
+        }));
+        let c = rate(best(times, || {
+            run_hand(&rule, steps);
+        }));
+        println!(
+            "| {} | {a:.2} | {b:.2} | {c:.0} | {:.2} | {:.0} |",
+            rule.name,
+            a / b,
+            c / a
+        );
+    }
+}
+
+/// A step's seconds: the difference of two runs by the difference of their steps.
+fn step_time(times: usize, quiet: bool, source: &str, grid: &[i32], few: i64, many: i64) -> f64 {
+    let short = best(times, || {
+        run_proved(quiet, source, grid, 1, few);
+    });
+    let long = best(times, || {
+        run_proved(quiet, source, grid, 1, many);
+    });
+    (long - short) / (many - few) as f64
+}
+
+fn quiet(times: usize) {
+    let mut glider = vec![0; CELLS];
+    for (row, column) in [(0, 1), (1, 2), (2, 0), (2, 1), (2, 2)] {
+        glider[(500 + row) * SIDE + 500 + column] = 1;
+    }
+    let random = rules().swap_remove(0).grid;
+    println!("quiet run, milliseconds a step");
+    println!("| grid | quiet | full | ratio |");
+    println!("|---|---|---|---|");
+    let table = [
+        ("Life, one glider", LIFE, &glider, 1_001),
+        ("Life, half filled, 20 steps", LIFE, &random, 21),
+        ("every cell changes, 10 steps", FLIP, &random, 11),
+    ];
+    for (name, source, grid, many) in table {
+        let few = if many == 1_001 { 11 } else { many };
+        assert!(
+            run_proved(true, source, grid, 1, few) == run_proved(false, source, grid, 1, few),
+            "{name}: the quiet run differs"
+        );
+        let q = step_time(times, true, source, grid, 1, many);
+        let f = step_time(times, false, source, grid, 1, many.min(21));
+        println!(
+            "| {name} | {:.3} | {:.1} | {:.3} = 1/{:.0} |",
+            q * 1e3,
+            f * 1e3,
+            q / f,
+            f / q
+        );
+    }
+}
+
+/// The seconds of a run of Life on a square grid of some side, for the three programs; so many runs that they evaluate as many cells as on the
+/// largest grid.
+fn on_side(side: usize, times: usize, steps: i64) -> [f64; 3] {
+    let runs = CELLS / (side * side);
+    let mut random = Random(88_172_645_463_325_252);
+    let grid: Vec<i32> = (0..side * side).map(|_| random.below(2)).collect();
+    let sizes = [side as u32, side as u32];
+    let mut rooms = Rooms::new(side * side, 1);
+    let proved = best(times, || {
+        for _ in 0..runs {
+            let mut left = grid.clone();
+            let report = proved::run(false, LIFE.as_bytes(), &sizes, &mut left, &mut rooms, steps);
+            assert_eq!(report[0], 0);
+        }
+    });
+    let second = best(times, || {
+        for _ in 0..runs {
+            let mut left = grid.clone();
+            let (mut scratch, mut marks) = (vec![0; left.len()], vec![0; left.len()]);
+            let report = reference::run_full(
+                LIFE.as_bytes(),
+                16_384,
+                256,
+                &sizes,
+                &mut left,
+                &mut scratch,
+                &mut marks,
+                0,
+                steps,
+            );
+            assert_eq!(report.number, 0);
+        }
+    });
+    let by_hand = best(times, || {
+        for _ in 0..runs {
+            let mut left = grid.clone();
+            let mut next = vec![0; left.len()];
+            for _ in 0..steps {
+                hand::life(&left, &mut next, side);
+                std::mem::swap(&mut left, &mut next);
+            }
+            assert_eq!(left.len(), side * side);
+        }
+    });
+    [proved, second, by_hand].map(|t| t / runs as f64)
+}
+
+/// A source of about so many tokens: constants, and one assignment to `cell`.
+fn long_source(tokens: usize) -> String {
+    let mut text = String::from("1 dimensions of 0..9\n");
+    for line in 0..(tokens - 9) / 5 {
+        text += &format!("x{} := {line} + 1\n", line % 100);
+    }
+    text + "cell := 1\n"
+}
+
+/// A run of 0 steps on one cell: what reading and admission cost.
+fn on_tokens(tokens: usize, times: usize) -> [f64; 2] {
+    let source = long_source(tokens);
+    let mut rooms = Rooms::new(1, 1);
+    let again = 200;
+    let proved = best(times, || {
+        for _ in 0..again {
+            let report = proved::run(false, source.as_bytes(), &[1], &mut [0], &mut rooms, 0);
+            assert_eq!(report[0], 0);
+        }
+    });
+    let second = best(times, || {
+        for _ in 0..again {
+            let report = reference::run_full(
+                source.as_bytes(),
+                16_384,
+                256,
+                &[1],
+                &mut [0],
+                &mut [0],
+                &mut [0],
+                0,
+                0,
+            );
+            assert_eq!(report.number, 0);
+        }
+    });
+    [proved / f64::from(again), second / f64::from(again)]
+}
+
+/// How the times grow with the side of the grid, and with the tokens of the source.
+fn growth(times: usize) {
+    println!("Life, 4 steps, nanoseconds a cell evaluation");
+    println!("| grid | proved | second program | by hand |");
+    println!("|---|---|---|---|");
+    for side in [32, 64, 128, 256, 512, 1_024] {
+        let each = on_side(side, times, 4).map(|t| t * 1e9 / (side * side * 4) as f64);
+        println!(
+            "| {side} x {side} | {:.0} | {:.0} | {:.1} |",
+            each[0], each[1], each[2]
+        );
+    }
+    println!("reading a source for a run of 0 steps, microseconds");
+    println!("| tokens | proved | second program |");
+    println!("|---|---|---|");
+    for tokens in [256, 512, 1_024, 2_048, 4_096] {
+        let each = on_tokens(tokens, times).map(|t| t * 1e6);
+        println!("| {tokens} | {:.0} | {:.0} |", each[0], each[1]);
+    }
+}
+
+/// `bench [TIMES [full|quiet|growth]]`: the best of so many runs counts.
+fn main() {
+    let words: Vec<String> = env::args().collect();
+    let times = words.get(1).and_then(|word| word.parse().ok()).unwrap_or(3);
+    let which = words.get(2).map_or("", String::as_str);
+    if ["", "full"].contains(&which) {
+        full(times, 8);
+    }
+    if ["", "quiet"].contains(&which) {
+        quiet(times);
+    }
+    if ["", "growth"].contains(&which) {
+        growth(times);
+    }
+}

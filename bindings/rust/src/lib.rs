@@ -1,0 +1,58 @@
+//! Checks sources written in Cellang, a small language for cellular automata,
+//! and runs them on grids, by a library that is proved to do what the rules
+//! say.
+//!
+//! ```
+//! use cellang::{check, run, Cell, Fault, FaultKind, Mode, Place, Rooms, Stop};
+//!
+//! let mut rooms = Rooms::new();
+//!
+//! // A check says what is wrong, and where.
+//! let refusal = check(b"1 dimensions of 0..1 x := y", &mut rooms).unwrap_err();
+//! assert_eq!(refusal.number(), 8);
+//! assert_eq!(refusal.place, Place(26));
+//! assert_eq!(
+//!     refusal.to_string(),
+//!     "refused 8 at 26: name unknown, or of the wrong sort for a constant or index",
+//! );
+//!
+//! // Every cell takes the value of its left neighbour, twice.
+//! let source = b"1 dimensions of 0..1 cell := [-1]";
+//! let mut grid = [1, 0, 0, 0, 0];
+//! let done = run(source, &[5], &mut grid, &mut rooms, 0, 2, Mode::Quiet)?;
+//! assert_eq!(grid, [0, 0, 1, 0, 0]);
+//! assert_eq!((done.steps, done.count), (2, 8));
+//!
+//! // A fault names the cell; the grid is as the steps before it left it.
+//! let source = b"1 dimensions of 0..3 cell := cell + 1";
+//! let mut grid = [0, 2, 1];
+//! let stop = run(source, &[3], &mut grid, &mut rooms, 0, 5, Mode::Full).unwrap_err();
+//! assert_eq!(
+//!     stop,
+//!     Stop::Faulted(Fault {
+//!         kind: FaultKind::ValueOutsideField,
+//!         place: Place(26),
+//!         cell: Cell(1),
+//!         steps: 1,
+//!         count: 5,
+//!     }),
+//! );
+//! assert_eq!(grid, [1, 3, 2]);
+//! # Ok::<(), Stop>(())
+//! ```
+
+#![forbid(unsafe_op_in_unsafe_fn)]
+#![warn(missing_docs)]
+
+mod calls;
+mod foreign;
+mod names;
+mod replies;
+mod rooms;
+
+pub use calls::{check, check_in, run, run_in, Lent, Mode};
+pub use names::{Kind, Name, Names};
+pub use replies::{
+    Cell, Done, Entry, Fault, FaultKind, Objection, Outcome, Place, Reason, Refusal, Stop,
+};
+pub use rooms::{Rooms, NAME_WORDS, WORDS};

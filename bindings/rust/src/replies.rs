@@ -1,0 +1,403 @@
+//! What calls answer: every numbered reply as a variant.
+
+use crate::foreign;
+use std::error::Error;
+use std::fmt;
+
+/// A place in a source: the number of a byte, from 0. The end of the source
+/// stands at its length.
+#[derive(Clone, Copy, PartialEq, Eq, PartialOrd, Ord, Hash, Debug)]
+pub struct Place(pub u32);
+
+/// The number of a cell of a grid, from 0.
+#[derive(Clone, Copy, PartialEq, Eq, PartialOrd, Ord, Hash, Debug)]
+pub struct Cell(pub u32);
+
+/// The number of an entry of a grid, from 0: a field of a cell.
+#[derive(Clone, Copy, PartialEq, Eq, PartialOrd, Ord, Hash, Debug)]
+pub struct Entry(pub u32);
+
+impl Place {
+    /// As an index of the source.
+    pub fn index(self) -> usize {
+        self.0 as usize
+    }
+}
+
+impl Cell {
+    /// As a number of cells before it.
+    pub fn index(self) -> usize {
+        self.0 as usize
+    }
+}
+
+impl Entry {
+    /// As an index of the grid.
+    pub fn index(self) -> usize {
+        self.0 as usize
+    }
+}
+
+impl fmt::Display for Place {
+    fn fmt(&self, f: &mut fmt::Formatter<'_>) -> fmt::Result {
+        self.0.fmt(f)
+    }
+}
+
+impl fmt::Display for Cell {
+    fn fmt(&self, f: &mut fmt::Formatter<'_>) -> fmt::Result {
+        self.0.fmt(f)
+    }
+}
+
+impl fmt::Display for Entry {
+    fn fmt(&self, f: &mut fmt::Formatter<'_>) -> fmt::Result {
+        self.0.fmt(f)
+    }
+}
+
+/// Why a source is refused: replies 1 to 15.
+#[derive(Clone, Copy, PartialEq, Eq, Hash, Debug)]
+pub enum Reason {
+    /// The word table or the name list is of the wrong length.
+    RoomLength = 1,
+    /// More than 65,535 bytes.
+    SourceTooLong = 2,
+    /// No token can be read.
+    NoToken = 3,
+    /// A literal over 2147483647.
+    LiteralTooLarge = 4,
+    /// The 4,097th token.
+    TooManyTokens = 5,
+    /// A form of the language that is not taken: `->`, `+%`, `-%`, `"`,
+    /// `agent` or `random` anywhere; `[` after a field name being declared, an
+    /// assignment's left side, or a name in an expression that is no array
+    /// constant; a comma after an assigned expression; no `:` after a `forall`
+    /// name; missing `.name`.
+    NotTaken = 6,
+    /// A token that the grammar does not allow.
+    NotAllowed = 7,
+    /// A name unknown, or of the wrong sort for a constant or index.
+    NameUnknown = 8,
+    /// A name already used, or not assignable.
+    NameUsed = 9,
+    /// Dimensions not 1 to 3, a range reversed or too long, a ninth field, a
+    /// bad array size, or a wrong count of values.
+    BadNumber = 10,
+    /// A sign takes a constant out of range.
+    SignOutOfRange = 11,
+    /// `.` on a plain number, an unknown field, an array constant without
+    /// `[`, or a wrong count of indices.
+    WrongAccess = 12,
+    /// A relation on a bare relation.
+    RelationOnRelation = 13,
+    /// The 17th nesting.
+    NestedTooDeep = 14,
+    /// The 257th name.
+    TooManyNames = 15,
+}
+
+impl Reason {
+    fn of(number: u32) -> Option<Reason> {
+        Some(match number {
+            1 => Reason::RoomLength,
+            2 => Reason::SourceTooLong,
+            3 => Reason::NoToken,
+            4 => Reason::LiteralTooLarge,
+            5 => Reason::TooManyTokens,
+            6 => Reason::NotTaken,
+            7 => Reason::NotAllowed,
+            8 => Reason::NameUnknown,
+            9 => Reason::NameUsed,
+            10 => Reason::BadNumber,
+            11 => Reason::SignOutOfRange,
+            12 => Reason::WrongAccess,
+            13 => Reason::RelationOnRelation,
+            14 => Reason::NestedTooDeep,
+            15 => Reason::TooManyNames,
+            _ => return None,
+        })
+    }
+}
+
+impl fmt::Display for Reason {
+    fn fmt(&self, f: &mut fmt::Formatter<'_>) -> fmt::Result {
+        f.write_str(match self {
+            Reason::RoomLength => "word table or name list of wrong length",
+            Reason::SourceTooLong => "source longer than 65535 bytes",
+            Reason::NoToken => "no token can be read",
+            Reason::LiteralTooLarge => "literal over 2147483647",
+            Reason::TooManyTokens => "more than 4096 tokens",
+            Reason::NotTaken => "a form of the language that is not taken",
+            Reason::NotAllowed => "token not allowed by the grammar",
+            Reason::NameUnknown => "name unknown, or of the wrong sort for a constant or index",
+            Reason::NameUsed => "name already used, or not assignable",
+            Reason::BadNumber => {
+                "wrong number of dimensions, fields or values, wrong array size, or wrong range"
+            }
+            Reason::SignOutOfRange => "sign takes a constant out of range",
+            Reason::WrongAccess => {
+                "`.` on a plain number, unknown field, array constant without `[`, or wrong index count"
+            }
+            Reason::RelationOnRelation => "relation on a bare relation",
+            Reason::NestedTooDeep => "nested more than 16 deep",
+            Reason::TooManyNames => "more than 256 names",
+        })
+    }
+}
+
+/// A source is refused.
+#[derive(Clone, Copy, PartialEq, Eq, Hash, Debug)]
+pub struct Refusal {
+    /// Why.
+    pub reason: Reason,
+    /// Where: the first byte of the token that is named, or 0 where the
+    /// reason is [`Reason::RoomLength`].
+    pub place: Place,
+}
+
+impl Refusal {
+    /// The number of the reply.
+    pub fn number(&self) -> u32 {
+        self.reason as u32
+    }
+}
+
+impl fmt::Display for Refusal {
+    fn fmt(&self, f: &mut fmt::Formatter<'_>) -> fmt::Result {
+        let Refusal { reason, place } = self;
+        write!(f, "refused {} at {place}: {reason}", self.number())
+    }
+}
+
+impl Error for Refusal {}
+
+/// Why a run is not admitted although its source is accepted: replies 20 to
+/// 24.
+#[derive(Clone, Copy, PartialEq, Eq, Hash, Debug)]
+pub enum Objection {
+    /// 20: the number or size of dimensions, or the total of cells, is wrong.
+    BadShape,
+    /// 21: grid or scratch is not cells times fields long, or marks not one
+    /// byte a cell.
+    LentLength,
+    /// 22: start or steps is negative, or their sum over 2147483647.
+    BadTimes,
+    /// 23: an index, or an end of an index variable's range, is larger in size
+    /// than its dimension; the first one in the source.
+    IndexTooFar(Place),
+    /// 24: a field is out of range on entry; the lowest one in the grid.
+    EntryOutOfRange(Entry),
+}
+
+impl Objection {
+    /// The number of the reply.
+    pub fn number(&self) -> u32 {
+        match self {
+            Objection::BadShape => 20,
+            Objection::LentLength => 21,
+            Objection::BadTimes => 22,
+            Objection::IndexTooFar(_) => 23,
+            Objection::EntryOutOfRange(_) => 24,
+        }
+    }
+}
+
+impl fmt::Display for Objection {
+    fn fmt(&self, f: &mut fmt::Formatter<'_>) -> fmt::Result {
+        write!(f, "not admitted {}", self.number())?;
+        match self {
+            Objection::BadShape => {
+                f.write_str(": number or size of dimensions, or cell total, wrong")
+            }
+            Objection::LentLength => f.write_str(": grid, scratch or marks of wrong length"),
+            Objection::BadTimes => f.write_str(": start or steps negative, or sum over 2147483647"),
+            Objection::IndexTooFar(place) => {
+                write!(f, " at {place}: index larger than its dimension")
+            }
+            Objection::EntryOutOfRange(entry) => {
+                write!(f, " at grid entry {entry}: field out of range on entry")
+            }
+        }
+    }
+}
+
+impl Error for Objection {}
+
+/// What a cell can do wrong: replies 30 to 33.
+#[derive(Clone, Copy, PartialEq, Eq, Hash, Debug)]
+pub enum FaultKind {
+    /// An operation's result is out of range; the place is the operator's.
+    ResultOutOfRange = 30,
+    /// A divisor is zero; the place is the operator's.
+    ZeroDivisor = 31,
+    /// An array index is out of range; the place is that of the `[`.
+    ArrayIndex = 32,
+    /// An assigned value lies outside the field; the place is that of the
+    /// `:=` before it.
+    ValueOutsideField = 33,
+}
+
+impl FaultKind {
+    fn of(number: u32) -> Option<FaultKind> {
+        Some(match number {
+            30 => FaultKind::ResultOutOfRange,
+            31 => FaultKind::ZeroDivisor,
+            32 => FaultKind::ArrayIndex,
+            33 => FaultKind::ValueOutsideField,
+            _ => return None,
+        })
+    }
+}
+
+impl fmt::Display for FaultKind {
+    fn fmt(&self, f: &mut fmt::Formatter<'_>) -> fmt::Result {
+        f.write_str(match self {
+            FaultKind::ResultOutOfRange => "result out of range",
+            FaultKind::ZeroDivisor => "zero divisor",
+            FaultKind::ArrayIndex => "array index out of range",
+            FaultKind::ValueOutsideField => "assigned value outside the field",
+        })
+    }
+}
+
+/// A run began, and ended at a fault: that of the lowest faulting cell of the
+/// first faulting step.
+#[derive(Clone, Copy, PartialEq, Eq, Hash, Debug)]
+pub struct Fault {
+    /// What is wrong.
+    pub kind: FaultKind,
+    /// Where in the source.
+    pub place: Place,
+    /// In which cell.
+    pub cell: Cell,
+    /// The steps done before, whose result the grid holds.
+    pub steps: u32,
+    /// How many times a cell was evaluated, the faulting one included.
+    pub count: u64,
+}
+
+impl Fault {
+    /// The number of the reply.
+    pub fn number(&self) -> u32 {
+        self.kind as u32
+    }
+}
+
+impl fmt::Display for Fault {
+    fn fmt(&self, f: &mut fmt::Formatter<'_>) -> fmt::Result {
+        write!(f, "fault {} at {}", self.number(), self.place)?;
+        write!(
+            f,
+            " in cell {} after {} steps: {}",
+            self.cell, self.steps, self.kind
+        )
+    }
+}
+
+impl Error for Fault {}
+
+/// A run did not do all its steps.
+#[derive(Clone, Copy, PartialEq, Eq, Hash, Debug)]
+pub enum Stop {
+    /// The source is refused.
+    Refused(Refusal),
+    /// The source is accepted, but the run is not admitted.
+    NotAdmitted(Objection),
+    /// The run began, and a cell faulted.
+    Faulted(Fault),
+}
+
+impl Stop {
+    /// The number of the reply.
+    pub fn number(&self) -> u32 {
+        match self {
+            Stop::Refused(refusal) => refusal.number(),
+            Stop::NotAdmitted(objection) => objection.number(),
+            Stop::Faulted(fault) => fault.number(),
+        }
+    }
+
+    /// The place in the source, where the reply names one.
+    pub fn place(&self) -> Option<Place> {
+        match self {
+            Stop::Refused(refusal) => Some(refusal.place),
+            Stop::NotAdmitted(Objection::IndexTooFar(place)) => Some(*place),
+            Stop::NotAdmitted(_) => None,
+            Stop::Faulted(fault) => Some(fault.place),
+        }
+    }
+}
+
+impl fmt::Display for Stop {
+    fn fmt(&self, f: &mut fmt::Formatter<'_>) -> fmt::Result {
+        match self {
+            Stop::Refused(refusal) => refusal.fmt(f),
+            Stop::NotAdmitted(objection) => objection.fmt(f),
+            Stop::Faulted(fault) => fault.fmt(f),
+        }
+    }
+}
+
+impl Error for Stop {}
+
+/// All steps of a run are done.
+#[derive(Clone, Copy, PartialEq, Eq, Hash, Debug)]
+pub struct Done {
+    /// The steps, all those asked.
+    pub steps: u32,
+    /// How many times a cell was evaluated.
+    pub count: u64,
+}
+
+/// What a run gives.
+pub type Outcome = Result<Done, Stop>;
+
+/// The answer that the entries of a check tell.
+pub(crate) fn check_answer([number, place]: [u32; foreign::REPLY]) -> Result<(), Refusal> {
+    if number == 0 {
+        return Ok(());
+    }
+    match refusal_of(number, place) {
+        Some(refusal) => Err(refusal),
+        None => unreachable!("reply {number} to a check"),
+    }
+}
+
+fn refusal_of(number: u32, place: u32) -> Option<Refusal> {
+    let place = Place(place);
+    Reason::of(number).map(|reason| Refusal { reason, place })
+}
+
+/// The answer that the entries of a run tell.
+pub(crate) fn run_answer(report: [u64; foreign::REPORT]) -> Outcome {
+    // All but the count are numbers of 32 bits.
+    let [number, place, cell, steps] =
+        [report[0], report[1], report[2], report[3]].map(|n| n as u32);
+    let count = report[4];
+    let objection = |objection| Err(Stop::NotAdmitted(objection));
+    match number {
+        0 => Ok(Done { steps, count }),
+        20 => objection(Objection::BadShape),
+        21 => objection(Objection::LentLength),
+        22 => objection(Objection::BadTimes),
+        23 => objection(Objection::IndexTooFar(Place(place))),
+        24 => objection(Objection::EntryOutOfRange(Entry(place))),
+        _ => {
+            if let Some(refusal) = refusal_of(number, place) {
+                return Err(Stop::Refused(refusal));
+            }
+            let Some(kind) = FaultKind::of(number) else {
+                unreachable!("reply {number} to a run");
+            };
+            let (place, cell) = (Place(place), Cell(cell));
+            Err(Stop::Faulted(Fault {
+                kind,
+                place,
+                cell,
+                steps,
+                count,
+            }))
+        }
+    }
+}

@@ -1,0 +1,97 @@
+//! The C header names the same replies and kinds.
+
+use cellang::{Entry, FaultKind, Kind, Objection, Place, Reason, NAME_WORDS, WORDS};
+use std::fmt::Debug;
+
+const HEADER: &str = include_str!("../../../include/cellang.h");
+
+/// The number that the header gives a name.
+fn named(name: &str) -> Option<u32> {
+    let mut words = HEADER.split_whitespace();
+    words.find(|&word| word == name)?;
+    let mut next = words.next()?;
+    if next == "=" {
+        next = words.next()?;
+    }
+    next.trim_end_matches(',').parse().ok()
+}
+
+/// `CELLANG_NO_TOKEN` for `NoToken`; what stands in parentheses is left out.
+fn name_of(variant: impl Debug) -> String {
+    let mut name = "CELLANG".to_string();
+    for letter in format!("{variant:?}")
+        .chars()
+        .take_while(|&letter| letter != '(')
+    {
+        if letter.is_uppercase() {
+            name.push('_');
+        }
+        name.push(letter.to_ascii_uppercase());
+    }
+    name
+}
+
+#[test]
+fn replies() {
+    let reasons = [
+        Reason::RoomLength,
+        Reason::SourceTooLong,
+        Reason::NoToken,
+        Reason::LiteralTooLarge,
+        Reason::TooManyTokens,
+        Reason::NotTaken,
+        Reason::NotAllowed,
+        Reason::NameUnknown,
+        Reason::NameUsed,
+        Reason::BadNumber,
+        Reason::SignOutOfRange,
+        Reason::WrongAccess,
+        Reason::RelationOnRelation,
+        Reason::NestedTooDeep,
+        Reason::TooManyNames,
+    ];
+    for (reason, number) in reasons.into_iter().zip(1..) {
+        assert_eq!(reason as u32, number);
+        assert_eq!(named(&name_of(reason)), Some(number), "{reason:?}");
+    }
+    let objections = [
+        Objection::BadShape,
+        Objection::LentLength,
+        Objection::BadTimes,
+        Objection::IndexTooFar(Place(0)),
+        Objection::EntryOutOfRange(Entry(0)),
+    ];
+    for (objection, number) in objections.into_iter().zip(20..) {
+        assert_eq!(objection.number(), number);
+        assert_eq!(named(&name_of(objection)), Some(number), "{objection:?}");
+    }
+    let faults = [
+        FaultKind::ResultOutOfRange,
+        FaultKind::ZeroDivisor,
+        FaultKind::ArrayIndex,
+        FaultKind::ValueOutsideField,
+    ];
+    for (fault, number) in faults.into_iter().zip(30..) {
+        assert_eq!(fault as u32, number);
+        assert_eq!(named(&name_of(fault)), Some(number), "{fault:?}");
+    }
+    assert_eq!(named("CELLANG_DONE"), Some(0));
+}
+
+#[test]
+fn kinds_and_lengths() {
+    let kinds = [
+        Kind::Constant,
+        Kind::ArrayConstant,
+        Kind::Field,
+        Kind::Variable,
+        Kind::Index,
+        Kind::ConstField,
+    ];
+    for (kind, number) in kinds.into_iter().zip(1..) {
+        assert_eq!(kind as u32, number);
+        assert_eq!(named(&name_of(kind)), Some(number), "{kind:?}");
+    }
+    assert_eq!(named("CELLANG_WORDS"), Some(WORDS as u32));
+    assert_eq!(named("CELLANG_NAME_WORDS"), Some(NAME_WORDS as u32));
+}

@@ -1,0 +1,49 @@
+use borrow.Author.Needs.{needs}
+use Rattle.admission.proofs.AdmissionLaws.{read-times, few, asked-refused, far-refused, admitted}
+use Rattle.admission.proofs.admitting.admit.Statement.{statement}
+use Rattle.admission.proofs.admitting.admit.Tie as tie
+
+-- src/admitting.rt:52:9
+refused-request-requires : tie.Need-refused-request-requires
+refused-request-requires c κs = search needs
+
+-- src/admitting.rt:54:9
+turned-away-requires : tie.Need-turned-away-requires
+turned-away-requires c κs = search needs
+
+-- src/admitting.rt:54:9
+returns : tie.Need-returns
+returns c = asked-refused _ (read-times (c .before .before .before .before .before .fits .start) (c .before .before .before .before .before .fits .steps) (c .before .before .refused-request .ensures)) (c .before .if1 .taken) (c .turned-away .ensures)
+
+-- src/admitting.rt:56:9
+survey-requires : tie.Need-survey-requires
+survey-requires c κs = (c .before .before .before .before .pre .0, c .before .refused-request .ensures .shaped (c .if1 .left) .dims)
+
+-- src/admitting.rt:58:9
+turned-away-requires-2 : tie.Need-turned-away-requires-2
+turned-away-requires-2 c κs = search needs
+
+-- src/admitting.rt:58:9
+returns-2 : tie.Need-returns-2
+returns-2 c = far-refused _ (read-times (c .before .before .before .before .before .before .before .before .fits .start) (c .before .before .before .before .before .before .before .before .fits .steps) (c .before .before .before .before .before .refused-request .ensures)) (c .before .before .before .before .if1 .left) (c .before .before .before .survey .ensures) (c .before .if2 .taken) (c .turned-away2 .ensures)
+
+-- src/admitting.rt:61:9
+out-of-field-requires : tie.Need-out-of-field-requires
+out-of-field-requires c κs = (c .before .before .before .before .before .before .before .before .pre .0, c .before .before .before .before .before .before .before .before .pre .1, few (c .before .before .before .before .before .before .before .before .pre .0) (c .before .before .before .before .before .refused-request .ensures .shaped (c .before .before .before .before .if1 .left)))
+
+-- src/admitting.rt:39:1
+returns-3 : tie.Need-returns-3
+returns-3 c = admitted _ (read-times (c .before .before .before .before .before .before .before .before .before .fits .start) (c .before .before .before .before .before .before .before .before .before .fits .steps) (c .before .before .before .before .before .before .refused-request .ensures)) (c .before .before .before .before .before .if1 .left) (c .before .before .before .before .survey .ensures) (c .before .before .if2 .left) (c .out-of-field .ensures)
+
+pub admit-spec : {M : Type 1} → statement M
+admit-spec =
+    tie.close
+    (tie.spec
+    refused-request-requires
+    turned-away-requires
+    returns
+    survey-requires
+    turned-away-requires-2
+    returns-2
+    out-of-field-requires
+    returns-3)

@@ -1,0 +1,48 @@
+use borrow.Author.Needs.{needs}
+use lib.ListN.{getD}
+use lib.IntN.{pos}
+use Rattle.evaluator.specs.Stands.{rule-table}
+use Rattle.admission.proofs.EntryLaws.{fits-known}
+use Rattle.admission.proofs.fits.Statement.{statement}
+use Rattle.admission.proofs.fits.Tie as tie
+
+add-at : tie.Need-add-at
+add-at c = search needs
+
+word-at-requires : tie.Need-word-at-requires
+word-at-requires c κs = search needs
+
+decode-requires : tie.Need-decode-requires
+decode-requires c κs = search needs
+
+word-at-requires-2 : tie.Need-word-at-requires-2
+word-at-requires-2 c κs = search needs
+
+decode-requires-2 : tie.Need-decode-requires-2
+decode-requires-2 c κs = search needs
+
+value-at-requires : tie.Need-value-at-requires
+value-at-requires c κs = search needs
+
+within-requires : tie.Need-within-requires
+within-requires c κs = search needs
+
+returns : tie.Need-returns
+returns c =
+    let s = c .before .before .before .before .before .before .before .before in
+    fits-known (rule-table (s .args .words .now) (s .args .rule)) (s .args .rule .base) (s .args .rule .fields) (s .args .which) (getD (s .args .grid .now) (s .args .e) (pos 0))
+    (search needs) (c .before .before .before .before .before .word-at .ensures) (c .before .before .before .before .decode .ensures)
+    (c .before .before .before .word-at2 .ensures) (c .before .before .decode2 .ensures) (c .before .value-at .ensures) (c .within .ensures)
+
+pub fits-spec : {M : Type 1} → statement M
+fits-spec =
+    tie.close
+    (tie.spec
+    add-at
+    word-at-requires
+    decode-requires
+    word-at-requires-2
+    decode-requires-2
+    value-at-requires
+    within-requires
+    returns)

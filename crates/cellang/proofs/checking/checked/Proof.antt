@@ -1,0 +1,44 @@
+use borrow.Author.Needs.{needs}
+use Rattle.cellang.proofs.StoreLaws.{no-row-check, row-check}
+use Rattle.cellang.proofs.checking.checked.Statement.{statement}
+use Rattle.cellang.proofs.checking.checked.Tie as tie
+
+rows-of-requires : tie.Need-rows-of-requires
+rows-of-requires c κs = search needs
+
+returns : tie.Need-returns
+returns c = no-row-check _ _ _ _ (c .before .before .if1 .taken)
+
+stored-requires : tie.Need-stored-requires
+stored-requires c κs = search needs
+
+slice-aggregate-check : tie.Need-slice-aggregate-check
+slice-aggregate-check c = search needs
+
+check-requires : tie.Need-check-requires
+check-requires c κs = search needs
+
+rows-of-requires-2 : tie.Need-rows-of-requires-2
+rows-of-requires-2 c κs = search needs
+
+same-length : tie.Need-same-length
+same-length c = search needs
+
+returns-2 : tie.Need-returns-2
+returns-2 c =
+    row-check _ _ _ _ _ (c .before .before .before .before .before .check .result) _ _ (c .before .before .before .before .before .before .before .before .before .if1 .left)
+    (c .before .before .before .before .before .before .before .before .stored .ensures)
+    (c .before .before .before .before .before .check .ensures) (c .rows-of2 .ensures)
+
+pub checked-spec : {M : Type 1} → statement M
+checked-spec =
+    tie.close
+    (tie.spec
+    rows-of-requires
+    returns
+    stored-requires
+    slice-aggregate-check
+    check-requires
+    rows-of-requires-2
+    same-length
+    returns-2)

@@ -1,0 +1,62 @@
+use borrow.Author.Needs.{needs}
+use Rattle.runner.proofs.RunLaws.{read-run}
+use Rattle.cellang.proofs.StoreLaws.{no-row-run, row-run}
+use Rattle.cellang.proofs.running.ran_full.Statement.{statement}
+use Rattle.cellang.proofs.running.ran_full.Tie as tie
+
+turned-away-requires : tie.Need-turned-away-requires
+turned-away-requires c κs = search needs
+
+returns : tie.Need-returns
+returns c = let a = c .before .before .before .before .before .before .args in no-row-run _ _ _ _ _ _ _ _ (a .start) (a .steps) _ (c .before .if1 .taken) (c .turned-away .ensures)
+
+stored-requires : tie.Need-stored-requires
+stored-requires c κs = search needs
+
+slice-aggregate-run-full : tie.Need-slice-aggregate-run-full
+slice-aggregate-run-full c = search needs
+
+run-full-requires : tie.Need-run-full-requires
+run-full-requires c κs = search needs
+
+rows-of-requires : tie.Need-rows-of-requires
+rows-of-requires c κs = search needs
+
+same-length : tie.Need-same-length
+same-length c = search needs
+
+same-length-2 : tie.Need-same-length-2
+same-length-2 c = search needs
+
+same-length-3 : tie.Need-same-length-3
+same-length-3 c = search needs
+
+same-length-4 : tie.Need-same-length-4
+same-length-4 c = search needs
+
+returns-2 : tie.Need-returns-2
+returns-2 c =
+    let a = c .before .before .before .before .before .before .before .before .before .before .before .before .before .before .before .before .before .before .before .before
+    .before .args in
+    let fits = c .before .before .before .before .before .before .before .before .before .before .before .before .before .before .before .before .before .before .before .before
+    .before .fits in
+    row-run _ _ _ _ _ _ _ _ (a .start) (a .steps) _ _ _ _ _ _ _ _ (c .before .before .before .before .before .before .before .before .before .before .before .before .before
+    .before .before .before .if1 .left) (c .before .before .before .before .before .before .before .before .before .before .before .before .before .before .before .stored
+    .ensures)
+    (read-run (fits .start) (fits .steps) (c .before .before .before .before .before .before .before .before .before .run-full .ensures)) (c .rows-of .ensures)
+
+pub ran-full-spec : {M : Type 1} → statement M
+ran-full-spec =
+    tie.close
+    (tie.spec
+    turned-away-requires
+    returns
+    stored-requires
+    slice-aggregate-run-full
+    run-full-requires
+    rows-of-requires
+    same-length
+    same-length-2
+    same-length-3
+    same-length-4
+    returns-2)

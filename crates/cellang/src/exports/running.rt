@@ -1,0 +1,86 @@
+// Running a source.
+ghost use Rattle.stepper.specs.Report.{full, quiet};
+ghost use Rattle.runner.specs.Property3.{Agree};
+ghost use Rattle.cellang.specs.Told.{run-of, TellsRun};
+use crate::exports::entries::put_report;
+use runner::run_full;
+use runner::run_quiet;
+
+// Runs a source on a grid, each step of which evaluates every cell, and gives the reply's number.
+// `report` is told number, place, cell, steps and count.
+#[no_mangle]
+pub extern "C" fn cellang_run_full(
+    source: &[u8],
+    words: &mut [u32],
+    names: &mut [u32],
+    sizes: &[u32],
+    grid: &mut [i32],
+    scratch: &mut [i32],
+    marks: &mut [u8],
+    start: i64,
+    steps: i64,
+    report: &mut [u64],
+) -> u32
+    ensures { λ r. ⌜ TellsRun full (now (source .entry)) (now (words .entry)) (now (names .entry)) (now (sizes .entry)) (now (grid .entry)) (now (scratch .entry)) (now (marks .entry)) start steps (now (report .entry)) r (now (words .exit)) (now (names .exit)) (now (grid .exit)) (now (scratch .exit)) (now (marks .exit)) (now (report .exit)) ⌝ }
+{
+    let told = run_full(
+        source,
+        words,
+        names,
+        sizes,
+        grid,
+        scratch,
+        marks,
+        start,
+        steps,
+    );
+    put_report(
+        report,
+        told.number,
+        told.place,
+        told.cell,
+        told.steps,
+        told.count,
+    );
+    told.number
+}
+
+// Runs a source on a grid, each step of which evaluates the open cells alone, and gives the reply's number.
+// `report` is told number, place, cell, steps and count; but for the count they are the full run's, and so is the grid.
+#[no_mangle]
+pub extern "C" fn cellang_run_quiet(
+    source: &[u8],
+    words: &mut [u32],
+    names: &mut [u32],
+    sizes: &[u32],
+    grid: &mut [i32],
+    scratch: &mut [i32],
+    marks: &mut [u8],
+    start: i64,
+    steps: i64,
+    report: &mut [u64],
+) -> u32
+    ensures { λ r. ⌜ TellsRun quiet (now (source .entry)) (now (words .entry)) (now (names .entry)) (now (sizes .entry)) (now (grid .entry)) (now (scratch .entry)) (now (marks .entry)) start steps (now (report .entry)) r (now (words .exit)) (now (names .exit)) (now (grid .exit)) (now (scratch .exit)) (now (marks .exit)) (now (report .exit)) ⌝ }
+    ensures agrees { λ _. ⌜ Agree (run-of quiet (now (source .entry)) (now (words .entry)) (now (names .entry)) (now (sizes .entry)) (now (grid .entry)) (now (scratch .entry)) (now (marks .entry)) start steps) (run-of full (now (source .entry)) (now (words .entry)) (now (names .entry)) (now (sizes .entry)) (now (grid .entry)) (now (scratch .entry)) (now (marks .entry)) start steps) ⌝ }
+{
+    let told = run_quiet(
+        source,
+        words,
+        names,
+        sizes,
+        grid,
+        scratch,
+        marks,
+        start,
+        steps,
+    );
+    put_report(
+        report,
+        told.number,
+        told.place,
+        told.cell,
+        told.steps,
+        told.count,
+    );
+    told.number
+}

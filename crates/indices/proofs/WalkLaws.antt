@@ -1,0 +1,287 @@
+-- The laws of the walk over the tokens.
+use Prim.Native.Nat.{ℕ, zero, suc, _+_, _-_, _<_, _≤_}
+use native.Mathlib.Nat.{le-refl}
+use native.Mathlib.Omega.{arith}
+use mathlib.Core.Path.{_≡_, refl, sym, ap, ap₂, _∙_}
+use mathlib.Core.Bool.{Bool, true, false, _&&_, _||_}
+use mathlib.Core.List.{List, [], _∷_, _++_}
+use lib.Dec.{eqb, ltb}
+use lib.ListN.{length, getD, set, replicate, length-replicate, getD-replicate}
+use lib.Seq.{ext-getD}
+use borrow.Author.Tests.{lt-ltb, le-ltb, ltb-true, eq-eqb, ne-eqb, eqb-true}
+use Rattle.value.specs.Choice.{if_then_else_}
+use Rattle.value.specs.Laws.{never, and-both}
+use Rattle.automaton.specs.Listed.{list-of, length-list-of, getD-list-of}
+use Rattle.automaton.specs.Shape.{Bound}
+use Rattle.token.specs.Kind.{kind}
+use Rattle.program.specs.Syntax.{Range}
+use Rattle.evaluator.specs.declared.Rule.{Rule}
+use Rattle.evaluator.specs.Written.{Written, written-in-index}
+use Rattle.evaluator.specs.Stands.{word-in, Table, table-of, rule-table, range-in, indices-in, most-loops}
+use Rattle.evaluator.specs.Listing.{is-index, behind, written-at, written-from, Writes}
+use Rattle.evaluator.proofs.TableLaws.{link-bounds}
+use Rattle.stepper.specs.Admission.{refusal, too-far}
+use Rattle.stepper.specs.Reach.{own-only, widen, widened}
+use Rattle.stepper.specs.Fitting.{bound-at, bounds-of}
+use Rattle.indices.specs.declared.Survey.{Survey}
+use Rattle.indices.specs.Surveying.{Tally, goes-past, tallied, tally, tally-of, ends, loops-of, listed, Opened, CountsAt, Surveyed}
+use Rattle.indices.proofs.ElementLaws.{loops-more}
+
+-- ---- what stands at a position
+
+or-last : (a b : Bool) → (a || b || true) ≡ true
+or-last true b = refl
+or-last false true = refl
+or-last false false = refl
+
+module _ (t : Table) (at : ℕ) {k : ℕ} (ek : k ≡ t .kind at) where
+  pub index-here : {w : ℕ} → k ≡ 91 → w ≡ t .word3 at → ltb 0 w ≡ is-index t at
+  unfolding is-index
+  index-here e ew = sym (rw (← ek, ← ew, e))
+
+  pub index-not : (k ≡ 91 → ⊥) → false ≡ is-index t at
+  unfolding is-index
+  index-not d = sym (rw (ne-eqb (t .kind at) 91 (λ u. d (ek ∙ u))))
+
+  module _ {l : ℕ} (el : l ≡ t .past at) where
+    pub behind-loop : k ≡ 12 → l ≡ behind t at
+    unfolding behind
+    behind-loop e = el ∙ sym (rw (← ek, e))
+
+    pub behind-constant : k ≡ 5 → l ≡ behind t at
+    unfolding behind
+    behind-constant e = el ∙ sym (rw (← ek, e))
+
+    pub behind-index : {b : Bool} → b ≡ is-index t at → b ≡ true → l ≡ behind t at
+    unfolding behind
+    behind-index eb e = el ∙ sym (rw (← eb, e, or-last (eqb (t .kind at) 12) (eqb (t .kind at) 5)))
+
+  pub behind-one : {b : Bool} → (k ≡ 12 → ⊥) → (k ≡ 5 → ⊥) → b ≡ is-index t at → b ≡ false → at + 1 ≡ behind t at
+  unfolding behind
+  behind-one d d′ eb e = sym (rw (ne-eqb (t .kind at) 12 (λ u. d (ek ∙ u)), ne-eqb (t .kind at) 5 (λ u. d′ (ek ∙ u)), ← eb, e))
+
+module _ (depth : ℕ) {k j : ℕ} (ek : k ≡ j) where
+  pub opens-loop : k ≡ 12 → ltb depth 16 ≡ (eqb j (kind .forall-word) && ltb depth 16)
+  opens-loop e = sym (rw (eq-eqb j 12 (sym ek ∙ e)))
+
+  pub opens-not : (k ≡ 12 → ⊥) → false ≡ (eqb j (kind .forall-word) && ltb depth 16)
+  opens-not d = sym (rw (ne-eqb j 12 (λ u. d (ek ∙ u))))
+
+-- the number of open loops, by their ranges
+opens-as : (a b : Bool) (m depth : ℕ) → m ≡ depth → b ≡ (a && ltb depth 16) → (a && ltb m most-loops) ≡ b
+opens-as a b m depth e eb = ap (λ (d : ℕ). a && ltb d 16) e ∙ sym eb
+
+pub opens-deep : (a : Bool) (depth : ℕ) {b : Bool} → b ≡ (a && ltb depth 16) → b ≡ true → depth < 16
+opens-deep a depth eb q = ltb-true depth 16 (and-both a (ltb depth 16) (sym eb ∙ q) .1)
+
+module _ (t : Table) (loops : List Range) (at : ℕ) (part : List Written) where
+  written-index : is-index t at ≡ true → written-at t loops at part ≡ written-in-index loops 0 (indices-in t (t .dims) (at + 1))
+  unfolding written-at is-index
+  written-index q = let h = and-both (eqb (t .kind at) 91) (ltb 0 (t .word3 at)) q in rw (eqb-true (t .kind at) 91 (h .0), h .1)
+
+  written-none : is-index t at ≡ false → (eqb (t .kind at) (kind .forall-word) && ltb (length loops) most-loops) ≡ false → written-at t loops at part ≡ []
+  unfolding written-at
+  written-none q o = rw q (by (eqb (t .kind at) 12) (ltb (length loops) 16) o)
+    where
+      by : (a b : Bool) → (a && b) ≡ false → (if a then (if b then part else []) else []) ≡ []
+      by true true e = never (sym e)
+      by true false e = refl
+      by false b e = refl
+
+  pub written-loop : (eqb (t .kind at) (kind .forall-word) && ltb (length loops) most-loops) ≡ true → written-at t loops at part ≡ part
+  unfolding written-at
+  written-loop o = let h = and-both (eqb (t .kind at) 12) (ltb (length loops) 16) o in rw (h .0, h .1)
+
+module _ (words : List ℕ) (rule : Rule) (sizes : List ℕ) (loops : List Range) (at : ℕ) {s r : Survey} {b : Bool} (eb : b ≡ is-index (rule-table words rule) at) where
+  pub counts-index : b ≡ true
+      → tally-of r (rule .dims) ≡ tally sizes (tally-of s (rule .dims)) (written-in-index loops 0 (indices-in (rule-table words rule) (rule .dims) (at + 1)))
+      → CountsAt words rule sizes loops at s r
+  counts-index q e = record { says = λ part o. e ∙ ap (tally sizes (tally-of s (rule .dims))) (sym (written-index (rule-table words rule) loops at part (sym eb ∙ q))) }
+
+pub counts-none : (words : List ℕ) (rule : Rule) (sizes : List ℕ) (loops : List Range) (at : ℕ) {s : Survey} {b : Bool} → b ≡ is-index (rule-table words rule) at → b ≡ false
+    → CountsAt words rule sizes loops at s s
+unfolding tally
+counts-none words rule sizes loops at {s} eb q =
+    record { says = λ part o. ap (tally sizes (tally-of s (rule .dims))) (sym (written-none (rule-table words rule) loops at part (sym eb ∙ q) o)) }
+
+-- ---- enough fuel
+
+module _ (words : List ℕ) (n dims : ℕ) where
+  abbrev table : Table
+  table = table-of words n dims
+
+  -- the walk goes forward
+  pub behind-bounds : (at : ℕ) → at < n → (at < behind table at) × (behind table at ≤ n)
+  unfolding behind
+  behind-bounds at l = by (eqb (table .kind at) 12 || eqb (table .kind at) 5 || is-index table at)
+    where
+      by : (b : Bool) → (at < (if b then table .past at else at + 1)) × ((if b then table .past at else at + 1) ≤ n)
+      by true = link-bounds n at (word-in words n 3 at) refl l
+      by false = (omega arith, omega arith)
+
+  ended : (fuel : ℕ) (loops : List Range) (at to : ℕ) → to ≤ at → written-from fuel table loops at to ≡ []
+  unfolding written-from
+  ended zero loops at to l = refl
+  ended (suc fuel) loops at to l = rw (le-ltb at to l)
+
+  enough : (f g : ℕ) (loops : List Range) (at to : ℕ) → to ≤ n → n < at + f → n < at + g → written-from f table loops at to ≡ written-from g table loops at to
+  unfolding written-from
+  enough zero g loops at to m a b = sym (ended g loops at to (omega arith))
+  enough (suc f) zero loops at to m a b = ended (suc f) loops at to (omega arith)
+  enough (suc f) (suc g) loops at to m a b = by (ltb at to) refl (enough f g)
+    where
+      part : ℕ → List Written
+      part h = written-at table loops at (written-from h table (loops ++ (range-in table (at + 1) ∷ [])) (table .inner at) (table .past at))
+
+      by : (c : Bool) → ltb at to ≡ c
+          → ((loops : List Range) (at to : ℕ) → to ≤ n → n < at + f → n < at + g → written-from f table loops at to ≡ written-from g table loops at to)
+          → (if c then part f ++ written-from f table loops (behind table at) to else []) ≡ (if c then part g ++ written-from g table loops (behind table at) to else [])
+      by false q more = refl
+      by true q more =
+          let l = ltb-true at to q in
+          let i = link-bounds n at (word-in words n 2 at) refl (omega arith) in
+          let p = link-bounds n at (word-in words n 3 at) refl (omega arith) in
+          let h = behind-bounds at (omega arith) in
+          ap₂ (λ (x y : List Written). written-at table loops at x ++ y) (more _ (table .inner at) (table .past at) (p .1) (omega (arith, i .0)) (omega (arith, i .0)))
+          (more loops (behind table at) to m (omega (arith, h .0)) (omega (arith, h .0)))
+
+-- ---- the tokens one after another
+
+pub tally-append : (sizes : List ℕ) (s : Tally) (ws vs : List Written) → tally sizes s (ws ++ vs) ≡ tally sizes (tally sizes s ws) vs
+unfolding tally
+tally-append sizes s [] vs = refl
+tally-append sizes s (w ∷ ws) vs = tally-append sizes (tallied sizes s w) ws vs
+
+-- the ranges of the open loops, and with the loop at a position
+pub loops-length : (lows highs : List ℕ) (depth : ℕ) → length (loops-of lows highs depth) ≡ depth
+loops-length lows highs depth = length-list-of (λ k. ends (getD lows k 0) (getD highs k 0)) depth
+
+pub loops-opened : (words : List ℕ) (rule : Rule) (lows highs : List ℕ) (depth at : ℕ) {low high : ℕ} {lows′ highs′ : List ℕ} → low ≡ word-in words (rule .tokens) 2 (at + 1)
+    → high ≡ word-in words (rule .tokens) 3 (at + 1) → Opened lows depth low lows′ → Opened highs depth high highs′
+    → loops-of lows′ highs′ (depth + 1) ≡ loops-of lows highs depth ++ (range-in (rule-table words rule) (at + 1) ∷ [])
+loops-opened words rule lows highs depth at {low} {high} el eh a b =
+    loops-more lows highs depth low high a b ∙ ap₂ (λ (x y : ℕ). loops-of lows highs depth ++ (ends x y ∷ [])) el eh
+
+module _ (words : List ℕ) (rule : Rule) where
+  abbrev tb : Table
+  tb = rule-table words rule
+
+  -- what is written in the part of the loop at a position
+  abbrev part-at : List Range → ℕ → List Written
+  part-at loops at = listed words rule (loops ++ (range-in tb (at + 1) ∷ [])) (tb .inner at) (tb .past at)
+
+  -- a survey, with more written indices
+  abbrev count : List ℕ → Survey → List Written → Tally
+  count sizes s ws = tally sizes (tally-of s (rule .dims)) ws
+
+  -- what is written at a position, and behind it
+  pub listed-step : (loops : List Range) (at to : ℕ) → to ≤ rule .tokens → at < to → listed words rule loops at to
+      ≡ written-at tb loops at (part-at loops at) ++ listed words rule loops (behind tb at) to
+  unfolding written-from
+  listed-step loops at to m l =
+      let n = rule .tokens in
+      let i = link-bounds n at (word-in words n 2 at) refl (omega arith) in
+      let p = link-bounds n at (word-in words n 3 at) refl (omega arith) in
+      let h = behind-bounds words n (rule .dims) at (omega arith) in
+      rw (lt-ltb at to l)
+      (ap₂ (λ (x y : List Written). written-at tb loops at x ++ y)
+      (enough words n (rule .dims) n (suc n) _ (tb .inner at) (tb .past at) (p .1) (omega (arith, i .0)) (omega (arith, i .0)))
+      (enough words n (rule .dims) n (suc n) loops (behind tb at) to m (omega (arith, h .0)) (omega (arith, h .0))))
+
+  pub less-left : (at to : ℕ) → to ≤ rule .tokens → at < to → {next : ℕ} → next ≡ behind tb at → to - next < to - at
+  less-left at to m l e = let h = behind-bounds words (rule .tokens) (rule .dims) at (omega arith) in omega (arith, h .0, e)
+
+  module _ (sizes : List ℕ) (loops : List Range) (from to : ℕ) (s : Survey) where
+    -- what is written before a position is counted
+    pub record Going (at : ℕ) (now : Survey) : Type 0 where
+      pub onward : from ≤ at
+      pub says : count sizes s (listed words rule loops from to) ≡ count sizes now (listed words rule loops at to)
+
+    pub going-start : Going from s
+    going-start = record { onward = le-refl from; says = refl }
+
+    module _ {at : ℕ} {now : Survey} (g : Going at now) where
+      -- one token more
+      module _ (m : to ≤ rule .tokens) (l : at < to) {next : ℕ} (en : next ≡ behind tb at) {r r′ : Survey} (er : r′ ≡ r) where
+        going-on : tally-of r (rule .dims) ≡ count sizes now (written-at tb loops at (part-at loops at)) → Going next r′
+        going-on e =
+            let h = behind-bounds words (rule .tokens) (rule .dims) at (omega arith) in
+            record {
+              onward = omega (arith, g .onward, h .0);
+              says =
+                  g .says ∙ ap (count sizes now) (listed-step loops at to m l) ∙ tally-append sizes (tally-of now (rule .dims)) _ _
+                  ∙ ap₂ (tally sizes) (sym (ap (λ (x : Survey). tally-of x (rule .dims)) er ∙ e)) (ap (λ (i : ℕ). listed words rule loops i to) (sym en));
+            }
+
+        module _ {depth : ℕ} (deep : length loops ≡ depth) {b : Bool} (eb : b ≡ (eqb (tb .kind at) (kind .forall-word) && ltb depth 16)) where
+          pub going-plain : b ≡ false → CountsAt words rule sizes loops at now r → Going next r′
+          going-plain q c = going-on (c .says _ (opens-as (eqb (tb .kind at) (kind .forall-word)) b (length loops) depth deep eb ∙ q))
+
+          pub going-loop : b ≡ true → {more : List Range} → more ≡ loops ++ (range-in tb (at + 1) ∷ []) → {inner past : ℕ} → inner ≡ tb .inner at → past ≡ tb .past at
+              → tally-of r (rule .dims) ≡ count sizes now (listed words rule more inner past) → Going next r′
+          going-loop q em ei ep e =
+              let o = opens-as (eqb (tb .kind at) (kind .forall-word)) b (length loops) depth deep eb ∙ q in
+              let there = ap₂ (listed words rule _) ei ep ∙ ap (λ (x : List Range). listed words rule x (tb .inner at) (tb .past at)) em in
+              going-on (e ∙ ap (count sizes now) (there ∙ sym (written-loop tb loops at _ o)))
+
+      pub going-done : to ≤ at → tally-of now (rule .dims) ≡ count sizes s (listed words rule loops from to)
+      unfolding tally
+      going-done l = sym (g .says ∙ ap (count sizes now) (ended words (rule .tokens) (rule .dims) (suc (rule .tokens)) loops at to l))
+
+-- ---- the whole
+
+-- once an index is too far, it stays the first
+tally-far : (sizes : List ℕ) (place : ℕ) (bs : List Bound) (ws : List Written)
+    → tally sizes (record { far = refusal 23 place; bounds = bs }) ws ≡ record { far = refusal 23 place; bounds = widened bs ws }
+unfolding tally tallied widened
+tally-far sizes place bs [] = refl
+tally-far sizes place bs (w ∷ ws) = tally-far sizes place _ ws
+
+pub tally-all : (sizes : List ℕ) (bs : List Bound) (ws : List Written)
+    → tally sizes (record { far = refusal 0 0; bounds = bs }) ws ≡ record { far = too-far sizes ws; bounds = widened bs ws }
+unfolding tally tallied widened too-far goes-past
+tally-all sizes bs [] = refl
+tally-all sizes bs (w ∷ ws) = by (goes-past (getD sizes (w .dim) 0) (w .values)) (tally-all sizes more ws)
+  where
+    more : List Bound
+    more = set bs (w .dim) (widen (getD bs (w .dim) own-only) (w .values))
+
+    by : (b : Bool) → tally sizes (record { far = refusal 0 0; bounds = more }) ws ≡ record { far = too-far sizes ws; bounds = widened more ws }
+        → tally sizes (record { far = if b then refusal 23 (w .place) else refusal 0 0; bounds = more }) ws
+        ≡ record { far = if b then refusal 23 (w .place) else too-far sizes ws; bounds = widened more ws }
+    by true h = tally-far sizes (w .place) _ ws
+    by false h = h
+
+-- a survey of nothing
+abbrev nothing-yet : Survey
+nothing-yet = record { number = 0; place = 0; reach = record { back0 = 0; ahead0 = 0; back1 = 0; ahead1 = 0; back2 = 0; ahead2 = 0 } }
+
+own-bounds : (dims : ℕ) → bounds-of (nothing-yet .reach) dims ≡ replicate dims own-only
+own-bounds dims =
+    ext-getD own-only _ _ (length-list-of (bound-at (nothing-yet .reach)) dims ∙ sym (length-replicate dims own-only))
+    (λ k l.
+    let m : k < dims = omega (arith, l, length-list-of (bound-at (nothing-yet .reach)) dims) in
+    getD-list-of (bound-at (nothing-yet .reach)) dims k own-only m ∙ own k ∙ sym (getD-replicate dims k own-only own-only m))
+  where
+    own : (k : ℕ) → bound-at (nothing-yet .reach) k ≡ own-only
+    own zero = refl
+    own (suc zero) = refl
+    own (suc (suc k)) = refl
+
+pub survey-done : (words : List ℕ) (rule : Rule) (sizes lows highs : List ℕ) {r : Survey}
+    → tally-of r (rule .dims) ≡ tally sizes (tally-of nothing-yet (rule .dims)) (listed words rule (loops-of lows highs 0) (rule .body) (rule .tokens))
+    → Surveyed words rule sizes r
+unfolding list-of
+survey-done words rule sizes lows highs {r} e =
+    record { far = λ ws w. ap (λ (x : Tally). x .far) (whole ws w); bounds = λ ws w. ap (λ (x : Tally). x .bounds) (whole ws w) }
+  where
+    whole : (ws : List Written) → Writes (rule-table words rule) [] (rule .body) (rule .tokens) ws
+        → tally-of r (rule .dims) ≡ record { far = too-far sizes ws; bounds = widened (replicate (rule .dims) own-only) ws }
+    whole ws w =
+        let n = rule .tokens in
+        let f = suc n + w .enough in
+        let q : listed words rule [] (rule .body) n ≡ ws =
+        enough words n (rule .dims) (suc n) f [] (rule .body) n (le-refl n) (omega arith) (omega arith) ∙ w .says f (omega arith)
+        in
+        e ∙ ap₂ (λ (bs : List Bound) (vs : List Written). tally sizes (record { far = refusal 0 0; bounds = bs }) vs) (own-bounds (rule .dims)) q
+        ∙ tally-all sizes (replicate (rule .dims) own-only) ws

@@ -1,0 +1,16 @@
+use lib.ListN.{replicate}
+use Rattle.indices.proofs.WalkLaws.{survey-done}
+use borrow.Author.Needs.{needs}
+use Rattle.indices.proofs.surveying.survey.Statement.{statement}
+use Rattle.indices.proofs.surveying.survey.Tie as tie
+
+part-requires : tie.Need-part-requires
+part-requires c κs = search needs
+
+returns : tie.Need-returns
+returns c =
+    let a = c .before .before .before .before .before .args in
+    survey-done (a .words .now) (a .rule) (a .sizes .now) (replicate 16 0) (replicate 16 0) (c .part .ensures)
+
+pub survey-spec : {M : Type 1} → statement M
+survey-spec = tie.close (tie.spec part-requires returns)

@@ -1,0 +1,76 @@
+use Prim.Native.Nat.{_-_}
+use native.Mathlib.Omega.{arith}
+use borrow.Author.Needs.{needs}
+use Rattle.evaluator.specs.Stands.{table-of}
+use Rattle.indices.specs.Surveying.{loops-of}
+use Rattle.indices.proofs.ElementLaws.{Steps, steps-start, steps-more, steps-done}
+use Rattle.indices.proofs.walk.elements.Statement.{statement}
+use Rattle.indices.proofs.walk.elements.Tie as tie
+
+abbrev Inv-loop : tie.InvT-loop
+Inv-loop words sizes lows highs depth at n dims now₀ here₀ k₀ now here k = Steps (table-of words n dims) (loops-of lows highs depth) sizes dims now₀ at now here k
+
+abbrev μ-loop : tie.MeasureT-loop
+μ-loop words sizes lows highs depth at n dims now₀ here₀ k₀ now here k = dims - k
+
+cast-dims : tie.Need-cast-dims Inv-loop μ-loop
+cast-dims c = search needs
+
+loop-holds : tie.Need-loop-holds Inv-loop μ-loop
+loop-holds c = steps-start _ _ _ _ _ _
+
+ends-at-requires : tie.Need-ends-at-requires Inv-loop μ-loop
+ends-at-requires c κs = let p = c .before .before .before .before .before .pre in (p .0 .sized .table, p .0 .sized .tokens, p .0 .deep)
+
+mul-counted : tie.Need-mul-counted Inv-loop μ-loop
+mul-counted c = search needs
+
+shared-slice-read-counted : tie.Need-shared-slice-read-counted Inv-loop μ-loop
+shared-slice-read-counted c = omega (arith, c .before .before .before .before .before .before .before .pre .0 .dims)
+
+place-at-requires : tie.Need-place-at-requires Inv-loop μ-loop
+place-at-requires c κs = let p = c .before .before .before .before .before .before .before .pre in (p .0 .sized .table, p .0 .sized .tokens)
+
+counted-requires : tie.Need-counted-requires Inv-loop μ-loop
+counted-requires c κs = omega (arith, c .before .before .before .before .before .before .before .before .pre .0 .sized .dims)
+
+element-after-requires : tie.Need-element-after-requires Inv-loop μ-loop
+element-after-requires c κs =
+    let l = c .before .before .before .before .before .loop in
+    let p = c .before .before .before .before .before .before .before .before .before .pre in
+    (p .0 .sized .table, p .0 .sized .tokens, omega (arith, p .0 .sized .dims, l .inv .near, p .1))
+
+add-k : tie.Need-add-k Inv-loop μ-loop
+add-k c = omega (arith, c .before .before .before .before .before .before .before .before .before .before .pre .0 .sized .dims)
+
+loop-less : tie.Need-loop-less Inv-loop μ-loop
+loop-less c = omega arith
+
+loop-again : tie.Need-loop-again Inv-loop μ-loop
+loop-again c =
+    let l = c .before .before .before .before .before .before .loop in
+    let p = c .before .before .before .before .before .before .before .before .before .before .pre in
+    steps-more _ _ _ _ (l .inv) (p .0 .sized .dims) (c .before .before .before .before .before .loop-test .taken) (c .before .before .before .before .ends-at .ensures)
+    (c .before .before .place-at .ensures) (c .before .counted .ensures) (c .element-after .ensures)
+
+returns : tie.Need-returns Inv-loop μ-loop
+returns c = steps-done _ _ _ _ (c .before .loop .inv) (c .loop-test .left)
+
+pub elements-spec : {M : Type 1} → statement M
+elements-spec =
+    tie.close
+    (tie.spec
+    Inv-loop
+    μ-loop
+    cast-dims
+    loop-holds
+    ends-at-requires
+    mul-counted
+    shared-slice-read-counted
+    place-at-requires
+    counted-requires
+    element-after-requires
+    add-k
+    loop-less
+    loop-again
+    returns)

@@ -1,0 +1,2 @@
+-- What the functions that go over the written indices promise.
+pub mod Surveying

@@ -1,0 +1,41 @@
+// The survey of a program.
+ghost use mathlib.Core.Path.{_≡_};
+ghost use lib.ListN.{length};
+ghost use Rattle.stepper.specs.Fitting.{Sized};
+ghost use Rattle.indices.specs.Surveying.{Surveyed};
+use crate::Survey;
+use crate::walk::part;
+use evaluator::Rule;
+use stepper::Reach;
+
+// The survey of a program, in one walk over its statements.
+pub fn survey(words: &[u32], rule: Rule, sizes: &[u32]) -> Survey
+    requires { ⌜ Sized (length (now words)) rule × (length (now sizes) ≡ rule .dims) ⌝ }
+    ensures { λ r. ⌜ Surveyed (now (words .entry)) rule (now (sizes .entry)) r ⌝ }
+{
+    let none: [u32; 16] = [0; 16];
+    let reach = Reach {
+        back0: 0,
+        ahead0: 0,
+        back1: 0,
+        ahead1: 0,
+        back2: 0,
+        ahead2: 0,
+    };
+    let start = Survey {
+        number: 0,
+        place: 0,
+        reach: reach,
+    };
+    part(
+        words,
+        rule,
+        sizes,
+        &none,
+        &none,
+        0,
+        rule.body,
+        rule.tokens,
+        start,
+    )
+}

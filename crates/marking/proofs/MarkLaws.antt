@@ -1,0 +1,114 @@
+-- The laws of marks, and of cells that changed.
+use Prim.Native.Nat.{ℕ, suc, _+_, _*_, _/_, _%_, _≤_, _<_}
+use native.Mathlib.Nat.{not-suc-le-zero}
+use native.Mathlib.Decide.{ℕ-discrete}
+use native.Mathlib.Omega.{arith}
+use mathlib.Core.Path.{_≡_, refl, sym, ap, _∙_}
+use mathlib.Core.Bool.{Bool, true, false, not}
+use mathlib.Core.Logic.{_⊎_, inl, inr}
+use mathlib.Core.List.{List, [], _∷_}
+use lib.ListN.{length, getD, set, length-set}
+use lib.Seq.{getD-set-same, getD-set-other}
+use lib.IntN.{ℤ, pos, negsuc}
+use borrow.Author.Tests.{eq-eqb, not-false}
+use Rattle.value.specs.Number.{eqZ}
+use Rattle.value.specs.Laws.{eqZ-true}
+use Rattle.automaton.specs.Listed.{getD-list-of, list-of-ext, last-or-below}
+use Rattle.automaton.specs.Grid.{cell-of, differ}
+use Rattle.automaton.specs.GridLaws.{differ-false}
+use Rattle.marking.specs.Noting.{NextOdd, Halved}
+
+-- ---- cells that changed
+
+eqZ-refl : (z : ℤ) → eqZ z z ≡ true
+eqZ-refl (pos a) = eq-eqb a a refl
+eqZ-refl (negsuc a) = eq-eqb a a refl
+
+pub differ-self : (a : List ℤ) → differ a a ≡ false
+differ-self [] = refl
+differ-self (x ∷ xs) = rw (eqZ-refl x) (differ-self xs)
+
+-- the first k entries from a place on are the same in two grids
+pub record Same (old grid : List ℤ) (from k : ℕ) : Type 0 where
+  pub each : (m : ℕ) → m < k → getD old (from + m) (pos 0) ≡ getD grid (from + m) (pos 0)
+
+module _ (old grid : List ℤ) (from : ℕ) where
+  pub same-start : Same old grid from 0
+  same-start = record { each = λ m l. absurd (not-suc-le-zero l) }
+
+  pub same-more : (k : ℕ) → Same old grid from k → {b : Bool} → b ≡ not (eqZ (getD old (from + k) (pos 0)) (getD grid (from + k) (pos 0))) → b ≡ false → Same old grid from (k + 1)
+  same-more k s {b} q e = record { each = λ m l. at m (last-or-below (let w : m < suc k = omega arith in w)) }
+    where
+      at : (m : ℕ) → (m ≡ k) ⊎ (m < k) → getD old (from + m) (pos 0) ≡ getD grid (from + m) (pos 0)
+      at m (inl r) = rw r (eqZ-true _ _ (not-false _ (sym q ∙ e)))
+      at m (inr r) = s .each m r
+
+module _ (old grid : List ℤ) (fields c : ℕ) where
+  pub same-all : (from k : ℕ) → from ≡ c * fields → fields ≤ k → Same old grid from k → false ≡ differ (cell-of fields old c) (cell-of fields grid c)
+  unfolding cell-of
+  same-all from k q l s =
+      sym (ap (λ (a : List ℤ). differ a (cell-of fields grid c)) (list-of-ext _ _ fields (λ m r. rw q at (s .each m (omega arith)))) ∙ differ-self (cell-of fields grid c))
+
+  pub differs-here : (from k : ℕ) → from ≡ c * fields → k < fields → {b : Bool} → b ≡ not (eqZ (getD old (from + k) (pos 0)) (getD grid (from + k) (pos 0))) → b ≡ true
+      → true ≡ differ (cell-of fields old c) (cell-of fields grid c)
+  unfolding cell-of
+  differs-here from k q l {b} e t = go (differ (cell-of fields old c) (cell-of fields grid c)) refl
+    where
+      go : (d : Bool) → differ (cell-of fields old c) (cell-of fields grid c) ≡ d → true ≡ d
+      go true r = refl
+      go false r =
+          let x : ℤ = getD old (c * fields + k) (pos 0) in
+          let y : ℤ = getD grid (c * fields + k) (pos 0) in
+          let a : x ≡ y =
+          sym (getD-list-of (λ m. getD old (c * fields + m) (pos 0)) fields k (pos 0) l)
+          ∙ ap (λ (z : List ℤ). getD z k (pos 0)) (differ-false (cell-of fields old c) (cell-of fields grid c) r)
+          ∙ getD-list-of (λ m. getD grid (c * fields + m) (pos 0)) fields k (pos 0) l
+          in
+          let e′ : b ≡ not (eqZ x y) = e ∙ ap (λ (i : ℕ). not (eqZ (getD old (i + k) (pos 0)) (getD grid (i + k) (pos 0)))) q in
+          sym t ∙ e′ ∙ ap (λ (z : ℤ). not (eqZ z y)) a ∙ ap not (eqZ-refl y)
+
+-- ---- the next marked cell
+
+pub next-start : (marks : List ℕ) (from : ℕ) → from ≤ length marks → NextOdd marks from from
+next-start marks from l = record { low = omega arith; end = l; passed = λ k p q. absurd (omega arith) }
+
+pub next-more : (marks : List ℕ) (from c : ℕ) → NextOdd marks from c → c < length marks → (getD marks c 0 % 2 ≡ 1 → ⊥) → NextOdd marks from (c + 1)
+next-more marks from c s l out = record { low = omega (arith, s .low); end = omega arith; passed = λ k p q. at k p (last-or-below (let w : k < suc c = omega arith in w)) }
+  where
+    even : (x : ℕ) → (x % 2 ≡ 1 → ⊥) → x % 2 ≡ 0
+    even x h = go (ℕ-discrete (x % 2) 1)
+      where
+        go : Dec (x % 2 ≡ 1) → x % 2 ≡ 0
+        go (yes e) = absurd (h e)
+        go (no e) = omega arith
+
+    at : (k : ℕ) → from ≤ k → (k ≡ c) ⊎ (k < c) → getD marks k 0 % 2 ≡ 0
+    at k p (inl r) = rw r (even (getD marks c 0) out)
+    at k p (inr r) = s .passed k p r
+
+-- ---- halving
+
+-- the first c marks are halved
+pub record Halving (marks₀ marks : List ℕ) (c : ℕ) : Type 0 where
+  pub len : length marks ≡ length marks₀
+  pub below : (k : ℕ) → k < c → getD marks k 0 ≡ getD marks₀ k 0 / 2
+  pub above : (k : ℕ) → c ≤ k → getD marks k 0 ≡ getD marks₀ k 0
+
+pub halving-start : (marks : List ℕ) → Halving marks marks 0
+halving-start marks = record { len = refl; below = λ k l. absurd (not-suc-le-zero l); above = λ k l. refl }
+
+pub halving-more : (marks₀ marks : List ℕ) (c : ℕ) → Halving marks₀ marks c → c < length marks₀ → Halving marks₀ (set marks c (getD marks c 0 / 2)) (c + 1)
+halving-more marks₀ marks c h l = record {
+  len = length-set marks c _ ∙ h .len;
+  below = λ k q. at k (last-or-below (let w : k < suc c = omega arith in w));
+  above = λ k q. getD-set-other marks c k _ 0 (λ r. absurd (let w = r in omega arith)) ∙ h .above k (omega arith);
+}
+  where
+    at : (k : ℕ) → (k ≡ c) ⊎ (k < c) → getD (set marks c (getD marks c 0 / 2)) k 0 ≡ getD marks₀ k 0 / 2
+    at k (inl r) =
+        ap (λ (x : ℕ). getD (set marks c (getD marks c 0 / 2)) x 0) r ∙ getD-set-same marks c _ 0 (omega (arith, h .len))
+        ∙ ap (λ (x : ℕ). x / 2) (h .above c (omega arith) ∙ ap (λ (x : ℕ). getD marks₀ x 0) (sym r))
+    at k (inr r) = getD-set-other marks c k _ 0 (λ s. absurd (let w = s in omega arith)) ∙ h .below k r
+
+pub halving-done : (marks₀ marks : List ℕ) (c : ℕ) → Halving marks₀ marks c → length marks₀ ≤ c → Halved marks₀ marks
+halving-done marks₀ marks c h l = record { len = h .len; each = λ k q. h .below k (omega arith) }

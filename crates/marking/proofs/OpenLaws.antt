@@ -1,0 +1,178 @@
+-- The laws of the cells that changed cells open. Together with the marks before they give the marks of the open cells.
+use Prim.Native.Nat.{ℕ, suc, _+_, _*_, _/_, _%_, _≤_, _<_}
+use native.Mathlib.Nat.{mod-lt, mul-le-mul}
+use native.Mathlib.Omega.{arith}
+use mathlib.Core.Path.{_≡_, refl, sym, ap, _∙_, subst}
+use mathlib.Core.Bool.{Bool, true, false, cond, _||_, true≢false}
+use mathlib.Core.Logic.{_⊎_, inl, inr}
+use mathlib.Core.List.{List, [], _∷_, List·Memᴰ, List·Memᴰ·head, List·Memᴰ·tail, List·Memᴰ·not-nil, Memᴰ·of-map}
+use lib.ListN.{length, getD}
+use lib.Seq.{ext-getD}
+use lib.IntN.{ℤ}
+use Rattle.automaton.specs.Listed.{length-list-of, getD-list-of}
+use Rattle.automaton.specs.Step.{any-of, marks-of}
+use Rattle.automaton.specs.Quiet.{any-of-false}
+use Rattle.automaton.specs.Shape.{product, neighbour, Bound, box-indices, reach-of}
+use Rattle.automaton.specs.ShapeLaws.{Alike, alike-length, neighbour-lt, box-alike}
+use Rattle.automaton.specs.Marking.{any-some}
+use Rattle.automaton.specs.Grid.{cell-of, differ}
+use Rattle.evaluator.proofs.PrimaryLaws.{room}
+use Rattle.stepper.specs.Reach.{own-only}
+use Rattle.stepper.specs.Fitting.{bound-at, bounds-of}
+use Rattle.stepper.specs.declared.Reach.{Reach}
+use Rattle.marking.specs.Opened.{opened, Ready}
+use Rattle.marking.specs.Noting.{note-all, rows, box-cells, cells-opened, opened-by, Boxed, Shaped, Firsts, Counts, NextOdd, Halved}
+use Rattle.marking.proofs.NotingLaws.{length-note-all, note-all-append, note-out, note-in, note-parity, mem-rows, rows-skip}
+use Rattle.marking.proofs.BoxLaws.{entry, box-same, opens-reach}
+use Rattle.marking.proofs.MarkLaws.{differ-self}
+use Rattle.marking.proofs.PlaceLaws.{size-positive}
+
+-- ---- one cell
+
+module _ (ns : List ℕ) (reach : Reach) (s : Shaped ns reach) (x : ℕ) (firsts counts : List ℕ) (f : Firsts ns reach x firsts) (c : Counts ns reach counts) where
+  pub boxed-whole : (cells : ℕ) → cells ≡ product ns → Boxed ns firsts counts 0 cells
+  boxed-whole cells e = record {
+    some-dims = s .some-dims;
+    dims = s .dims;
+    positive = s .positive;
+    firsts-fit = omega (arith, s .dims, f .len);
+    counts-fit = omega (arith, s .dims, c .len);
+    inside = λ k l. rw (f .each k l) (mod-lt _ (size-positive ns (s .positive) k l));
+    room = omega arith;
+    few = omega (arith, s .cells);
+  }
+
+  pub box-done : (marks marks′ : List ℕ) → marks′ ≡ note-all (box-cells ns (entry firsts) (entry counts) 0) marks
+      → marks′ ≡ note-all (cells-opened ns (bound-at reach) x) marks
+  unfolding cells-opened
+  box-done marks marks′ q = q ∙ ap (λ (cs : List ℕ). note-all cs marks) (box-same ns _ _ _ _ (f .each) (c .each) 0)
+
+-- the fields of a cell lie within the grids
+pub fields-fit : (c p f o g : ℕ) → c < p → p ≤ 1048576 → f ≤ 8 → o ≡ p * f → g ≡ p * f → (c * f + f ≤ o) × (o ≤ 8388608) × (g ≡ o)
+fields-fit c p f o g l h k eo eg = (room c p f o l (sym eo), omega (arith, mul-le-mul h k), eg ∙ sym eo)
+
+module _ (ns : List ℕ) (bound : ℕ → Bound) (fields : ℕ) (old grid : List ℤ) (c : ℕ) (marks : List ℕ) {b : Bool}
+    (e : b ≡ differ (cell-of fields old c) (cell-of fields grid c)) where
+  pub opens-some : (marks′ : List ℕ) → b ≡ true → marks′ ≡ note-all (cells-opened ns bound c) marks → marks′ ≡ note-all (opened-by ns bound fields old grid c) marks
+  unfolding opened-by
+  opens-some marks′ t q = q ∙ ap (λ (d : Bool). note-all (cond d (cells-opened ns bound c) []) marks) (sym t ∙ e)
+
+  pub opens-none : b ≡ false → marks ≡ note-all (opened-by ns bound fields old grid c) marks
+  unfolding opened-by note-all
+  opens-none t = ap (λ (d : Bool). note-all (cond d (cells-opened ns bound c) []) marks) (sym t ∙ e)
+
+-- ---- all cells
+
+-- the cells below c are done: the cells that they open are noted
+pub record Opening (ns : List ℕ) (reach : Reach) (fields : ℕ) (old grid : List ℤ) (marks₀ marks : List ℕ) (c : ℕ) : Type 0 where
+  pub len : length marks ≡ length marks₀
+  pub turn : c ≤ length marks₀
+  pub says : marks ≡ note-all (rows (opened-by ns (bound-at reach) fields old grid) c) marks₀
+
+module _ (ns : List ℕ) (reach : Reach) (fields : ℕ) (old grid : List ℤ) (marks₀ : List ℕ) (s : Ready ns reach fields old grid marks₀) where
+  abbrev By : ℕ → List ℕ
+  By = opened-by ns (bound-at reach) fields old grid
+
+  abbrev Moved : ℕ → Bool
+  Moved x = differ (cell-of fields old x) (cell-of fields grid x)
+
+  pub shaped : Shaped ns reach
+  shaped = record { some-dims = s .some-dims; dims = s .dims; positive = s .positive; cells = s .cells; near = s .near }
+
+  pub opening-start : Opening ns reach fields old grid marks₀ marks₀ 0
+  unfolding rows note-all
+  opening-start = record { len = refl; turn = omega arith; says = refl }
+
+  pub opening-more : (marks marks′ : List ℕ) (c : ℕ) → Opening ns reach fields old grid marks₀ marks c → c < length marks₀ → marks′ ≡ note-all (By c) marks
+      → Opening ns reach fields old grid marks₀ marks′ (c + 1)
+  unfolding rows
+  opening-more marks marks′ c o l q =
+      let e : suc c ≡ c + 1 = omega arith in
+      record {
+        len = ap length q ∙ length-note-all (By c) marks ∙ o .len;
+        turn = omega arith;
+        says = q ∙ ap (note-all (By c)) (o .says) ∙ sym (note-all-append (rows By c) (By c) marks₀) ∙ ap (λ (k : ℕ). note-all (rows By k) marks₀) e;
+      }
+
+  -- a cell with an even mark opens none
+  still-none : (k : ℕ) → k < length marks₀ → getD marks₀ k 0 % 2 ≡ 0 → By k ≡ []
+  unfolding opened-by
+  still-none k l e =
+      let lk : k < product ns = omega (arith, s .marks-fit) in
+      let z : getD marks₀ k 0 ≡ 0 = omega (arith, s .plain k lk) in
+      let d : Moved k ≡ false = ap (λ (a : List ℤ). differ a (cell-of fields grid k)) (s .still k lk z) ∙ differ-self (cell-of fields grid k) in
+      ap (λ (t : Bool). cond t (cells-opened ns (bound-at reach) k) []) d
+
+  pub opening-skip : (marks : List ℕ) (a r : ℕ) → Opening ns reach fields old grid marks₀ marks a → NextOdd marks a r → Opening ns reach fields old grid marks₀ marks r
+  opening-skip marks a r o n = record {
+    len = o .len;
+    turn = omega (arith, n .end, o .len);
+    says = o .says ∙ ap (λ (cs : List ℕ). note-all cs marks₀) (sym (rows-skip By a r (n .low) none));
+  }
+    where
+      none : (k : ℕ) → a ≤ k → k < r → By k ≡ []
+      none k p q =
+          let l : k < length marks₀ = omega (arith, n .end, o .len) in
+          let e : getD marks k 0 % 2 ≡ getD marks₀ k 0 % 2 = ap (λ (m : List ℕ). getD m k 0 % 2) (o .says) ∙ note-parity (rows By a) k marks₀ l in
+          still-none k l (sym e ∙ n .passed k p q)
+
+  -- the bounds as a list
+  abbrev bounds : List Bound
+  bounds = bounds-of reach (length ns)
+
+  alike : Alike ns bounds
+  alike = alike-length ns bounds (length-list-of (bound-at reach) (length ns))
+
+  opened-mem : (c x : ℕ) → c < product ns → x < product ns → List·Memᴰ x (reach-of ns (box-indices bounds) c) → Moved x ≡ true → List·Memᴰ c (By x)
+  unfolding opened-by
+  opened-mem c x lc lx m t =
+      rw t (opens-reach ns bounds (bound-at reach) (s .positive) alike (λ k l. getD-list-of (bound-at reach) (length ns) k own-only l) (λ k l. s .near k l .1) c x lc lx .1 m)
+
+  mem-opened : (c x : ℕ) → c < product ns → x < product ns → List·Memᴰ c (By x) → List·Memᴰ x (reach-of ns (box-indices bounds) c) × (Moved x ≡ true)
+  unfolding opened-by
+  mem-opened c x lc lx m = go (Moved x) refl m
+    where
+      go : (t : Bool) → Moved x ≡ t → List·Memᴰ c (cond t (cells-opened ns (bound-at reach) x) []) → List·Memᴰ x (reach-of ns (box-indices bounds) c) × (Moved x ≡ true)
+      go true e q =
+          (opens-reach ns bounds (bound-at reach) (s .positive) alike (λ k l. getD-list-of (bound-at reach) (length ns) k own-only l) (λ k l. s .near k l .1) c x lc lx .0 q, e)
+      go false e q = absurd (List·Memᴰ·not-nil q)
+
+  in-reach : (c x : ℕ) → c < product ns → List·Memᴰ x (reach-of ns (box-indices bounds) c) → x < product ns
+  unfolding reach-of
+  in-reach c x lc m =
+      let r = Memᴰ·of-map (neighbour ns c) (box-indices bounds) m in
+      subst (λ (y : ℕ). y < product ns) (r .2) (neighbour-lt ns (s .positive) c (r .0) lc (box-alike ns bounds alike (r .0) (r .1)))
+
+  pub opening-done : (marks marks′ : List ℕ) (c : ℕ) → Opening ns reach fields old grid marks₀ marks c → length marks₀ ≤ c → Halved marks marks′
+      → marks′ ≡ marks-of (opened ns (bounds-of reach (length ns)) fields old grid) (product ns)
+  unfolding marks-of
+  opening-done marks marks′ c o l h =
+      ext-getD 0 marks′ _ (size ∙ sym (length-list-of _ (product ns)))
+      (λ k q. let lk : k < product ns = omega (arith, size) in
+      h .each k (omega (arith, h .len)) ∙ at k lk (opened ns bounds fields old grid k) refl
+      ∙ sym (getD-list-of (λ y. cond (opened ns bounds fields old grid y) 1 0) (product ns) k 0 lk))
+    where
+      size : length marks′ ≡ product ns
+      size = h .len ∙ o .len ∙ s .marks-fit
+
+      end : c ≡ product ns
+      end = omega (arith, o .turn, s .marks-fit)
+
+      says : marks ≡ note-all (rows By (product ns)) marks₀
+      says = o .says ∙ ap (λ (y : ℕ). note-all (rows By y) marks₀) end
+
+      at : (k : ℕ) → k < product ns → (t : Bool) → opened ns bounds fields old grid k ≡ t → getD marks k 0 / 2 ≡ cond t 1 0
+      at k lk true e =
+          let r = any-some Moved (reach-of ns (box-indices bounds) k) e in
+          let lx = in-reach k (r .0) lk (r .1) in
+          let m = mem-rows By k (product ns) .1 (r .0, lx, opened-mem k (r .0) lk lx (r .1) (r .2)) in
+          let v : getD marks k 0 ≡ getD marks₀ k 0 % 2 + 2 = ap (λ (z : List ℕ). getD z k 0) says ∙ note-in (rows By (product ns)) k marks₀ (omega (arith, s .marks-fit)) m in
+          omega (arith, v)
+      at k lk false e =
+          let out : List·Memᴰ k (rows By (product ns)) → ⊥ =
+          λ m. let r = mem-rows By k (product ns) .0 m in
+          let p = mem-opened k (r .0) lk (r .1) (r .2) in
+          absurd (true≢false (sym (p .1) ∙ any-of-false Moved (reach-of ns (box-indices bounds) k) e (r .0) (p .0)))
+          in
+          let v : getD marks k 0 ≡ getD marks₀ k 0 = ap (λ (z : List ℕ). getD z k 0) says ∙ note-out (rows By (product ns)) k marks₀ out in
+          omega (arith, v, s .plain k lk)

@@ -1,0 +1,32 @@
+use lib.ListN.{getD}
+use lib.IntN.{pos}
+use mathlib.Core.Path.{ap}
+use mathlib.Core.Bool.{not}
+use mir.Syntax.{w32}
+use Rattle.value.proofs.Tests.{eq-bits}
+use borrow.Author.Needs.{needs}
+use Rattle.marking.proofs.marks.entry_differs.Statement.{statement}
+use Rattle.marking.proofs.marks.entry_differs.Tie as tie
+
+mul-x : tie.Need-mul-x
+mul-x c = search needs
+
+shared-slice-copy-out-x : tie.Need-shared-slice-copy-out-x
+shared-slice-copy-out-x c = search needs
+
+mul-y : tie.Need-mul-y
+mul-y c = search needs
+
+shared-slice-copy-out-y : tie.Need-shared-slice-copy-out-y
+shared-slice-copy-out-y c = search needs
+
+returns : tie.Need-returns
+returns c =
+    let s = c .before .before in
+    let x = getD (s .args .old .now) (s .args .i) (pos 0) in
+    let y = getD (s .args .grid .now) (s .args .i) (pos 0) in
+    ap not (eq-bits w32 x y (record { sfits = c .before .x .given }) (record { sfits = c .y .given }))
+
+pub entry-differs-spec : {M : Type 1} → statement M
+entry-differs-spec =
+    tie.close (tie.spec mul-x shared-slice-copy-out-x mul-y shared-slice-copy-out-y returns)

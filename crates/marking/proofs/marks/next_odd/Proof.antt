@@ -1,0 +1,50 @@
+use Prim.Native.Nat.{_≤_, _-_}
+use mathlib.Core.Path.{_≡_, refl}
+use native.Mathlib.Omega.{arith}
+use lib.ListN.{length}
+use Rattle.marking.specs.Noting.{NextOdd}
+use Rattle.marking.proofs.MarkLaws.{next-start, next-more}
+use borrow.Author.Needs.{needs}
+use Rattle.marking.proofs.marks.next_odd.Statement.{statement}
+use Rattle.marking.proofs.marks.next_odd.Tie as tie
+
+abbrev Inv-loop : tie.InvT-loop
+Inv-loop marks from n c₀ c = (c ≤ n) × (n ≡ length marks) × NextOdd marks from c
+
+abbrev μ-loop : tie.MeasureT-loop
+μ-loop marks from n c₀ c = n - c
+
+loop-holds : tie.Need-loop-holds Inv-loop μ-loop
+loop-holds c = (search needs, refl, next-start _ _ (search needs))
+
+shared-slice-read-if1 : tie.Need-shared-slice-read-if1 Inv-loop μ-loop
+shared-slice-read-if1 c = search needs
+
+returns : tie.Need-returns Inv-loop μ-loop
+returns c = search needs
+
+add-c : tie.Need-add-c Inv-loop μ-loop
+add-c c = search needs
+
+loop-less : tie.Need-loop-less Inv-loop μ-loop
+loop-less c = search needs
+
+loop-again : tie.Need-loop-again Inv-loop μ-loop
+loop-again c = let l = c .before .before .before .loop in (omega arith, refl, next-more _ _ (l .c) (l .inv .2) (omega arith) (c .if1 .left))
+
+returns-2 : tie.Need-returns-2 Inv-loop μ-loop
+returns-2 c = search needs
+
+pub next-odd-spec : {M : Type 1} → statement M
+next-odd-spec =
+    tie.close
+    (tie.spec
+    Inv-loop
+    μ-loop
+    loop-holds
+    shared-slice-read-if1
+    returns
+    add-c
+    loop-less
+    loop-again
+    returns-2)

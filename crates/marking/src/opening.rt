@@ -1,0 +1,151 @@
+// The cells that a changed cell opens.
+ghost use mathlib.Core.Path.{_≡_};
+ghost use Prim.Native.Nat.{suc, _+_, _-_, _*_, _%_, _<_, _≤_, min};
+ghost use lib.ListN.{length, getD};
+ghost use Rattle.automaton.specs.Shape.{product};
+ghost use Rattle.stepper.specs.Fitting.{bound-at};
+ghost use Rattle.marking.specs.Noting.{note-all, rows, line, box-cells, first-of, count-of, cells-opened, Boxed, Shaped, Firsts, Counts};
+use stepper::Reach;
+
+fn wide(x: u32) -> usize
+    ensures { λ r. ⌜ r ≡ x ⌝ }
+{
+    x as usize
+}
+
+// How far the highest index of a dimension lies above 0.
+fn ahead_at(reach: Reach, k: usize) -> usize
+    ensures { λ r. ⌜ r ≡ bound-at reach k .ahead ⌝ }
+{
+    if k == 0 {
+        return wide(reach.ahead0);
+    }
+    if k == 1 {
+        return wide(reach.ahead1);
+    }
+    wide(reach.ahead2)
+}
+
+// How far the lowest index of a dimension lies below 0.
+fn back_at(reach: Reach, k: usize) -> usize
+    ensures { λ r. ⌜ r ≡ bound-at reach k .back ⌝ }
+{
+    if k == 0 {
+        return wide(reach.back0);
+    }
+    if k == 1 {
+        return wide(reach.back1);
+    }
+    wide(reach.back2)
+}
+
+// i - ahead, wrapped in a dimension of n coordinates.
+fn first_coordinate(i: usize, ahead: usize, n: usize) -> usize
+    requires { ⌜ (i < n) × (ahead ≤ n) × (n ≤ 1048576) ⌝ }
+    ensures { λ r. ⌜ r ≡ (i + (n - ahead)) % n ⌝ }
+{
+    if ahead <= i {
+        return i - ahead;
+    }
+    i + n - ahead
+}
+
+// j + 1, wrapped in a dimension of n coordinates.
+fn next_coordinate(j: usize, n: usize) -> usize
+    requires { ⌜ (j < n) × (n ≤ 1048576) ⌝ }
+    ensures { λ r. ⌜ r ≡ (j + 1) % n ⌝ }
+{
+    if j + 1 == n {
+        return 0;
+    }
+    j + 1
+}
+
+// The number of coordinates that a change opens in a dimension of n coordinates: no more than these.
+fn clipped(n: usize, back: usize, ahead: usize) -> usize
+    requires { ⌜ (back ≤ n) × (ahead ≤ n) × (n ≤ 1048576) ⌝ }
+    ensures { λ r. ⌜ r ≡ min n (suc (back + ahead)) ⌝ }
+{
+    let all = back + ahead + 1;
+    if all < n {
+        return all;
+    }
+    n
+}
+
+// For each dimension, the number of coordinates that a change opens.
+pub fn counts_of(sizes: &[u32], reach: Reach) -> [usize; 3]
+    requires { ⌜ Shaped (now sizes) reach ⌝ }
+    ensures { λ r. ⌜ Counts (now (sizes .entry)) reach r ⌝ }
+{
+    let dims = sizes.len();
+    let mut counts = [0; 3];
+    let mut k = 0;
+    while k < dims {
+        counts[k] = clipped(wide(sizes[k]), back_at(reach, k), ahead_at(reach, k));
+        k += 1;
+    }
+    counts
+}
+
+// For each dimension, the first coordinate that a change of the cell x opens.
+fn firsts_of(sizes: &[u32], reach: Reach, x: usize) -> [usize; 3]
+    requires { ⌜ Shaped (now sizes) reach × (x < product (now sizes)) ⌝ }
+    ensures { λ r. ⌜ Firsts (now (sizes .entry)) reach x r ⌝ }
+{
+    let mut firsts = [0; 3];
+    let mut rest = x;
+    let mut k = sizes.len();
+    while 0 < k {
+        k -= 1;
+        let n = wide(sizes[k]);
+        firsts[k] = first_coordinate(rest % n, ahead_at(reach, k), n);
+        rest = rest / n;
+    }
+    firsts
+}
+
+// Notes the cells base + j for the coordinates j from a first one on, as many as `count`, wrapped in a dimension of n coordinates.
+fn note_line(base: usize, n: usize, first: usize, count: usize, marks: &mut [u8])
+    requires { ⌜ (first < n) × (base + n ≤ length (now marks)) × (length (now marks) ≤ 1048576) ⌝ }
+    ensures { λ _. ⌜ now (marks .exit) ≡ note-all (rows (line base n first) count) (now (marks .entry)) ⌝ }
+{
+    let mut j = first;
+    let mut e = 0;
+    while e < count {
+        let c = base + j;
+        marks[c] = marks[c] % 2 + 2;
+        j = next_coordinate(j, n);
+        e += 1;
+    }
+}
+
+// Notes the cells of a box: in each dimension the coordinates from a first one on, as many as a count, wrapped.
+// `base` is the number that the coordinates of the dimensions before give.
+fn note_box(sizes: &[u32], firsts: &[usize], counts: &[usize], base: usize, marks: &mut [u8])
+    requires { ⌜ Boxed (now sizes) (now firsts) (now counts) base (length (now marks)) ⌝ }
+    ensures { λ _. ⌜ now (marks .exit) ≡ note-all (box-cells (now (sizes .entry)) (λ k. getD (now (firsts .entry)) k 0) (λ k. getD (now (counts .entry)) k 0) base) (now (marks .entry)) ⌝ }
+{
+    let n = wide(sizes[0]);
+    let count = counts[0];
+    let mut j = firsts[0];
+    if sizes.len() == 1 {
+        note_line(base * n, n, j, count, marks);
+        return;
+    }
+    let mut e = 0;
+    while e < count {
+        note_box(&sizes[1..], &firsts[1..], &counts[1..], base * n + j, marks);
+        j = next_coordinate(j, n);
+        e += 1;
+    }
+}
+
+// Notes the cells that a change of the cell x opens.
+pub fn open_from(sizes: &[u32], reach: Reach, counts: &[usize; 3], x: usize, marks: &mut [u8])
+    requires { ⌜ Shaped (now sizes) reach × Counts (now sizes) reach (now counts) × (length (now marks) ≡ product (now sizes)) × (x < product (now sizes)) ⌝ }
+    ensures { λ _. ⌜ now (marks .exit) ≡ note-all (cells-opened (now (sizes .entry)) (bound-at reach) x) (now (marks .entry)) ⌝ }
+{
+    let firsts = firsts_of(sizes, reach, x);
+    note_box(sizes, &firsts, counts, 0, marks);
+}

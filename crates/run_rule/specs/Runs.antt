@@ -1,0 +1,15 @@
+-- What a run promises, whose word table and name list are of the right length.
+use mathlib.Core.Path.{_≡_}
+use mathlib.Core.Bool.{Bool, true}
+use mathlib.Core.List.{List}
+use Prim.Native.Nat.{ℕ}
+use lib.IntN.{ℤ}
+use Rattle.services.specs.Services.{run-source}
+use Rattle.admission.specs.Admitting.{request-of}
+use Rattle.runner.specs.declared.Report.{Report}
+use Rattle.runner.specs.Sourcewise.{counting-of}
+use Rattle.runner.specs.Stepwise.{told}
+
+-- the report with the grid that is left is that of the definition
+pub record Runs (quiet : Bool) (source sizes : List ℕ) (grid : List ℤ) (scratch marks : ℕ) (start steps : ℤ) (r : Report) (grid′ : List ℤ) : Type 0 where
+  pub report : told r grid′ ≡ run-source (counting-of quiet) true source (request-of sizes grid scratch marks start steps)

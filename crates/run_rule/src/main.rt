@@ -1,0 +1,140 @@
+// Runs a rule on a grid, called as
+//     run_rule RULE SHAPE START STEPS full|quiet GRID OUT
+// It writes the report of the run in words to standard output, and the grid that is left to OUT. Where an argument or a file cannot be
+// taken it says so on standard error, and writes nothing else.
+ghost use lib.ListN.{length};
+ghost use Rattle.run_rule.specs.Runs.{Runs};
+
+mod arguments;
+mod grids;
+mod numbers;
+mod places;
+mod replies;
+mod reports;
+mod rooms;
+mod rows;
+mod shapes;
+mod texts;
+
+use arguments::Order;
+use arguments::Orders;
+use rows::write_grid;
+use runner::Report;
+use runner::run_full;
+use runner::run_quiet;
+use texts::Text;
+
+// A run of a source on a grid, as it was asked for. The report and the grid that is left are those of the definition.
+fn run(
+    source: &[u8],
+    sizes: &[u32],
+    grid: &mut [i32],
+    scratch: &mut [i32],
+    marks: &mut [u8],
+    order: Order,
+) -> Report
+    ensures { λ r. ⌜ Runs (order .quiet) (now (source .entry)) (now (sizes .entry)) (now (grid .entry)) (length (now (scratch .entry))) (length (now (marks .entry))) (order .start) (order .steps) r (now (grid .exit)) ⌝ }
+{
+    let mut words = rooms::table_room();
+    let mut names = rooms::names_room();
+    if order.quiet {
+        return run_quiet(
+            source,
+            &mut words,
+            &mut names,
+            sizes,
+            grid,
+            scratch,
+            marks,
+            order.start,
+            order.steps,
+        );
+    }
+    run_full(
+        source,
+        &mut words,
+        &mut names,
+        sizes,
+        grid,
+        scratch,
+        marks,
+        order.start,
+        order.steps,
+    )
+}
+
+// Runs a source on a grid, with as much of the rooms as it asks for, reports, and writes the grid that is left.
+fn run_and_tell(
+    source: &[u8],
+    sizes: &[u32],
+    cells: usize,
+    grid: &mut [i32],
+    scratch: &mut [i32],
+    marks: &mut [u8],
+    order: Order,
+) {
+    let entries = grid.len();
+    let kept = rooms::of_numbers(entries, scratch);
+    let marked = rooms::of_bytes(cells, marks);
+    let report = run(
+        source,
+        sizes,
+        grid,
+        &mut scratch[..kept],
+        &mut marks[..marked],
+        order,
+    );
+    reports::tell(report, source, sizes, entries, cells);
+    write_grid(grid, shapes::row(sizes, entries, cells));
+}
+
+// Reads the grid, and runs a source on it.
+fn run_on_grid(source: &[u8], sizes: &[u32], cells: usize, order: Order) {
+    let mut grid = rooms::numbers_room();
+    let filling = grids::read_grid(&mut grid);
+    if grids::refused(filling) {
+        return;
+    }
+    let entries = rooms::of_numbers(filling.count, &grid);
+    let mut scratch = rooms::numbers_room();
+    let mut marks = rooms::bytes_room();
+    run_and_tell(
+        source,
+        sizes,
+        cells,
+        &mut grid[..entries],
+        &mut scratch,
+        &mut marks,
+        order,
+    );
+}
+
+// Takes the other arguments, and reads the rule.
+fn run_in_shape(sizes: &[u32]) {
+    let cells = shapes::cells_of(sizes);
+    if cells > rooms::ROOM {
+        texts::complain(b"run_rule: SHAPE has more than 786432 cells\n");
+        return;
+    }
+    let Orders::Taken(order) = arguments::order_arguments() else {
+        return;
+    };
+    let mut source = io::large_buffer();
+    let Text::Read(n) = texts::read_rule(&mut source) else {
+        return;
+    };
+    let length = rooms::of_bytes(n, &source);
+    run_on_grid(&source[..length], sizes, cells, order);
+}
+
+// Takes the shape.
+fn main() {
+    if !arguments::all_there() {
+        return;
+    }
+    let mut sizes = [0u32; 3];
+    let dims = shapes::shape_argument(&mut sizes);
+    if dims > 0 {
+        run_in_shape(&sizes[..dims]);
+    }
+}

@@ -1,0 +1,4 @@
+-- The laws by which the functions are proved, by topic.
+pub mod StepwiseLaws
+pub mod OpeningLaws
+pub mod RunLaws

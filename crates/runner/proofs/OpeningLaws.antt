@@ -1,0 +1,200 @@
+-- The beginning of a run: what is known of a source that is read, and of a run that is admitted.
+use Prim.Native.Nat.{ℕ, _+_, _*_, _<_, _≤_}
+use native.Mathlib.Omega.{arith}
+use mathlib.Core.Path.{_≡_, refl, sym, ap, ap₂, _∙_, subst, subst₂}
+use mathlib.Core.Bool.{Bool, true, false, not}
+use mathlib.Core.List.{List, []}
+use lib.ListN.{length}
+use lib.Dec.{eqb}
+use lib.IntN.{ℤ, pos, natAbs}
+use mir.Syntax.{w64}
+use mir.Val.{SFits, toZ, ofZ}
+use mir.Facts.{toZ-ofZ}
+use borrow.Author.Tests.{not-true, not-false, eq-eqb, ne-eqb}
+use Rattle.value.specs.Laws.{never}
+use Rattle.token.specs.Scanning.{scan, scan-of}
+use Rattle.program.specs.Syntax.{Program}
+use Rattle.grammar.specs.Complaint.{Complaint, complaint}
+use Rattle.grammar.specs.Source.{Accepted}
+use Rattle.grammar.specs.Checking as checking
+use Rattle.grammar.specs.Checking.{Outcome, turned-away, accepted, rooms-fit, read-source, check, room-left, words-after, names-after}
+use Rattle.evaluator.specs.declared.Rule.{Rule}
+use Rattle.evaluator.specs.Stands.{Holds}
+use Rattle.evaluator.specs.Written.{written-in}
+use Rattle.linking.specs.Linking.{Linked, linking}
+use Rattle.linking.specs.Accepted.{Parsed, rule-of, holds, written, flagged}
+use Rattle.stepper.specs.Admission.{Request, Refusal, refusal, admission}
+use Rattle.stepper.specs.Report.{Counting, Report, refused, run}
+use Rattle.stepper.specs.Locality.{Flagged}
+use Rattle.stepper.specs.Fitting.{Sized}
+use Rattle.services.specs.Services.{begins, run-read, run-source}
+use Rattle.checker.specs.declared.checking.Outline.{Outline}
+use Rattle.checker.specs.Promises.{Trace, Outlines, accepted-by, Loads, Checks, is-accepted}
+use Rattle.admission.specs.declared.admitting.Admitted.{Admitted}
+use Rattle.admission.specs.Admitting.{request-of, Lists, Admits}
+use Rattle.runner.specs.declared.opening.Opening.{Opening}
+use Rattle.runner.specs.Stepwise.{Runs}
+use Rattle.runner.specs.Sourcewise.{Begun, Opens}
+use Rattle.runner.specs.Timing.{timing}
+
+-- ---- an accepted source
+
+abbrev parsed-by : {source : List ℕ} → length source ≤ 65535 → (t : Trace source) → Parsed source (accepted-by t)
+parsed-by {source} short t =
+    record {
+      s₁ = t .s₁;
+      s₂ = t .s₂;
+      s₃ = t .s₃;
+      declaration = t .declaration;
+      body = t .body;
+      constants = t .constants;
+      cell = t .cell;
+      block = t .block;
+      is = refl;
+      linked = linking source short (t .s₁) (t .s₂) (t .s₃) (t .declaration) (t .body) (t .constants) (t .cell) (t .block) (t .stop) (t .clear);
+    }
+
+-- the rule of an outline
+abbrev pub rule-in : Outline → Rule
+rule-in o = record { tokens = o .tokens; base = o .base; body = o .body; dims = o .dims; fields = o .fields; slots = o .slots }
+
+-- what a run needs of a source that is accepted
+pub record Accepts (fit : Bool) (source words : List ℕ) (o : Outline) : Type 0 where
+  pub read : Accepted
+  pub is : read-source fit source ≡ accepted read
+  pub holds : Holds words (rule-in o) (read .program)
+  pub lists : Lists words (rule-in o) (written-in (read .program))
+  pub timed : read .program .timed ≡ o .timed
+  pub flagged : Flagged (read .program)
+  pub sized : Sized (length words) (rule-in o)
+  pub some-dims : 0 < o .dims
+  pub some-fields : 0 < o .fields
+
+module _ {source ws ns : List ℕ} {known : Bool} {o : Outline} {ws′ : List ℕ} (x : Loads source ws ns known o) (left : ws′ ≡ words-after (rooms-fit (length ws) (length ns)) source ws) (sure : known ≡ true) where
+  accepts-by : (t : Trace source) → Outlines source t o → Accepts (rooms-fit (length ws) (length ns)) source ws′ o
+  unfolding words-after
+  accepts-by t y =
+      rw (table)
+      (record {
+        read = accepted-by t;
+        is = x .reads sure t;
+        holds = subst (λ (r : Rule). Holds (accepted-by t .words) r (accepted-by t .program)) (sym rule) (holds source (accepted-by t) p);
+        lists = subst (λ (r : Rule). Lists (accepted-by t .words) r (written-in (accepted-by t .program))) (sym rule) (written source (accepted-by t) p);
+        timed = sym (y .timed);
+        flagged = flagged timing source (accepted-by t) p;
+        sized = record {
+          table = omega (arith, y .tokens, linked .few-tokens, linked .size);
+          tokens = omega (arith, y .tokens, linked .few-tokens);
+          base = omega (arith, y .base, linked .fields-inside, linked .inside, linked .few-tokens);
+          body = omega (arith, y .body, y .tokens, linked .inside);
+          slots = omega (arith, y .slots, linked .few-names);
+          fields = omega (arith, y .fields, linked .few-fields);
+          dims = omega (arith, y .dims, linked .few-dims);
+        };
+        some-dims = omega (arith, y .dims, linked .some-dims);
+        some-fields = omega (arith, y .fields, linked .some-fields);
+      })
+    where
+      p : Parsed source (accepted-by t)
+      p = parsed-by (x .short sure) t
+
+      linked : Linked source (t .s₁) (t .s₂) (t .s₃) (t .declaration) (t .body)
+      linked = linking source (x .short sure) (t .s₁) (t .s₂) (t .s₃) (t .declaration) (t .body) (t .constants) (t .cell) (t .block) (t .stop) (t .clear)
+
+      table : ws′ ≡ accepted-by t .words
+      table = left ∙ ap (room-left ws (λ (a : Accepted). a .words)) (x .reads sure t)
+
+      rule : rule-in o ≡ record { tokens = scan-of (scan source) .count; base = t .s₁ .at + 2; body = t .s₂ .at; dims = t .declaration .cell .dims; fields = length (t .declaration .fields); slots = t .s₃ .count }
+      rule = rw (y .tokens, y .base, y .body, y .dims, y .fields, y .slots)
+
+  pub accepts : Accepts (rooms-fit (length ws) (length ns)) source ws′ o
+  accepts = let g = x .given sure in accepts-by (g .0) (g .1)
+
+-- ---- a source that is not accepted
+
+module _ (fit : Bool) (source : List ℕ) (q : Request) {n place : ℕ} (reply : complaint n place ≡ check fit source) where
+  not-read : is-accepted (read-source fit source) ≡ false → (begins q (read-source fit source) ≡ false) × ((counting : Counting) → run-source counting fit source q ≡ refused n place (q .grid))
+  unfolding run-source check
+  not-read e = by (read-source fit source) reply e
+    where
+      by : (r : Outcome) → complaint n place ≡ checking.reply-of r → is-accepted r ≡ false → (begins q r ≡ false) × ((counting : Counting) → run-read counting q r ≡ refused n place (q .grid))
+      by (turned-away k p) c d = (refl, λ counting. ap (λ (x : Complaint). refused (x .number) (x .place) (q .grid)) (sym c))
+      by (checking.refused k p) c d = (refl, λ counting. ap (λ (x : Complaint). refused (x .number) (x .place) (q .grid)) (sym c))
+      by (accepted a) c d = never (sym d)
+
+-- ---- a run that is not admitted
+
+run-refused : (counting : Counting) (p : Program) (q : Request) → (admission p q .number ≡ 0 → ⊥) → run counting p q ≡ refused (admission p q .number) (admission p q .place) (q .grid)
+unfolding run
+run-refused counting p q z = rw (ne-eqb (admission p q .number) 0 z, run)
+
+-- ---- the ways through
+
+module _ {source ws ns sizes : List ℕ} {grid : List ℤ} {scratch marks : ℕ} {start steps : ℤ} {known : Bool} {o : Outline} {n place : ℕ} {ws′ ns′ : List ℕ}
+    (checked : Checks source ws ns n place ws′ ns′) (loaded : Loads source ws ns known o) where
+  pub unread : not known ≡ true → {r : Opening} → (r .begun ≡ false) × (r .number ≡ n) × (r .place ≡ place) → Opens source ws ns sizes grid scratch marks start steps r ws′ ns′
+  unread unknown {r} e =
+      let both = not-read (rooms-fit (length ws) (length ns)) source (request-of sizes grid scratch marks start steps) (checked .reply) (sym (loaded .is) ∙ not-true known unknown) in
+      record {
+        words = checked .words;
+        names = checked .names;
+        closed = λ _. both .0;
+        refuses = λ _ counting. both .1 counting ∙ ap₂ (λ (k p : ℕ). refused k p grid) (sym (e .1)) (sym (e .2));
+        opened = λ y. never (sym (e .0) ∙ y);
+      }
+
+  module _ (sure : not known ≡ false) {a : Admitted} (admits : Admits ws′ (rule-in o) sizes grid scratch marks start steps a) where
+    is : Accepts (rooms-fit (length ws) (length ns)) source ws′ o
+    is = accepts loaded (checked .words) (not-false known sure)
+
+    says : refusal (a .number) (a .place) ≡ admission (is .read .program) (request-of sizes grid scratch marks start steps)
+    says = admits .says (is .read .program) (is .holds) (is .lists)
+
+    pub not-admitted : (a .number ≡ 0 → ⊥) → {r : Opening} → (r .begun ≡ false) × (r .number ≡ a .number) × (r .place ≡ a .place) → Opens source ws ns sizes grid scratch marks start steps r ws′ ns′
+    unfolding run-source
+    not-admitted z {r} e =
+        record {
+          words = checked .words;
+          names = checked .names;
+          closed = λ _. ap (begins (request-of sizes grid scratch marks start steps)) (is .is) ∙ ne-eqb _ 0 refused-by;
+          refuses = λ _ counting.
+              ap (run-read counting (request-of sizes grid scratch marks start steps)) (is .is)
+              ∙ run-refused counting (is .read .program) (request-of sizes grid scratch marks start steps) refused-by
+              ∙ ap (λ (x : Refusal). refused (x .number) (x .place) grid) (sym says)
+              ∙ ap₂ (λ (k p : ℕ). refused k p grid) (sym (e .1)) (sym (e .2));
+          opened = λ y. never (sym (e .0) ∙ y);
+        }
+      where
+        refused-by : admission (is .read .program) (request-of sizes grid scratch marks start steps) .number ≡ 0 → ⊥
+        refused-by k = z (ap (λ (x : Refusal). x .number) says ∙ k)
+
+    pub begun : a .number ≡ 0 → {t : Bool} → t ≡ o .timed → Opens source ws ns sizes grid scratch marks start steps (record { begun = true; number = 0; place = 0; rule = rule-in o; reach = a .reach; timed = t }) ws′ ns′
+    begun z {t} e =
+        record {
+          words = checked .words;
+          names = checked .names;
+          closed = λ f. never (sym f);
+          refuses = λ f. never (sym f);
+          opened = λ _.
+              record {
+                read = is .read;
+                is = is .is;
+                admitted = ap (λ (x : Refusal). x .number) (sym says) ∙ z;
+                runs = record { holds = is .holds; reaches = admits .reaches z (is .read .program) (is .holds) (is .lists); timed = is .timed ∙ sym e; flagged = is .flagged };
+                rule-fits = is .sized;
+                some-dims = is .some-dims;
+                shaped = admits .shaped z;
+                scratch-fits = admits .scratch-fits z;
+                marks-fit = admits .marks-fit z;
+                near = admits .near z (written-in (is .read .program)) (is .lists);
+                start-is = admits .start-is z;
+                steps-is = admits .steps-is z;
+                times = admits .times z;
+              };
+        }
+
+-- the times as the machine reads them
+pub read-opens : {source ws ns sizes : List ℕ} {grid : List ℤ} {scratch marks : ℕ} {start steps : ℤ} {r : Opening} {ws′ ns′ : List ℕ} → SFits w64 start → SFits w64 steps
+    → Opens source ws ns sizes grid scratch marks (toZ w64 (ofZ w64 start)) (toZ w64 (ofZ w64 steps)) r ws′ ns′ → Opens source ws ns sizes grid scratch marks start steps r ws′ ns′
+read-opens {source} {ws} {ns} {sizes} {grid} {scratch} {marks} {start} {steps} {r} {ws′} {ns′} h k =
+    subst₂ (λ (a b : ℤ). Opens source ws ns sizes grid scratch marks a b r ws′ ns′) (toZ-ofZ h) (toZ-ofZ k)

@@ -1,0 +1,127 @@
+-- Property 3, as one claim over all steps of a run of a source: the quiet run skips cells, and still gives the full run's answer and grid.
+-- That `run_quiet` gives the report `run-source quiet` is its contract (Sourcewise).
+use mathlib.Core.Path.{_≡_, refl, sym, ap, _∙_, subst}
+use mathlib.Core.Bool.{Bool, true, false, not}
+use mathlib.Core.List.{List}
+use Prim.Native.Nat.{ℕ, _≤_}
+use native.Mathlib.Nat.{le-refl}
+use native.Mathlib.Omega.{arith}
+use lib.ListN.{length}
+use lib.Dec.{eqb, ltb}
+use lib.IntN.{ℤ, natAbs}
+use borrow.Author.Tests.{ltb-false}
+use Rattle.value.specs.Choice.{if_then_else_}
+use Rattle.automaton.specs.Step.{Fault, no-fault, fault-at, every-cell, run-of}
+use Rattle.automaton.specs.Quiet.{QuietAgrees, open-le-full}
+use Rattle.automaton.specs.Going.{open-is-full}
+use Rattle.automaton.specs.Grid.{automaton}
+use Rattle.program.specs.Syntax.{Program}
+use Rattle.grammar.specs.Reader.{Result, ok, fail}
+use Rattle.grammar.specs.Source.{Accepted, parse}
+use Rattle.grammar.specs.Checking as checking
+use Rattle.grammar.specs.Checking.{Outcome, turned-away, accepted, outcome-of, read-source}
+use Rattle.linking.specs.Accepted.{parsed, flagged}
+use Rattle.stepper.specs.Admission.{Request, admission}
+use Rattle.stepper.specs.Reach.{running}
+use Rattle.stepper.specs.Report.{Counting, full, quiet, Report, ended, count-of, report-of, run}
+use Rattle.stepper.specs.Locality as locality
+use Rattle.services.specs.Services.{run-read, run-source}
+use Rattle.runner.specs.Timing.{timing}
+
+-- a quiet run's report beside a full run's: the same answer and grid, at a fault too, and no more cells counted
+pub record Agree (q f : Report) : Type 0 where
+  pub number : q .number ≡ f .number
+  pub place : q .place ≡ f .place
+  pub cell : q .cell ≡ f .cell
+  pub steps : q .steps ≡ f .steps
+  pub grid : q .grid ≡ f .grid
+  pub count : q .count ≤ f .count
+
+-- what property 3 says of a source and what is asked of a run
+pub record Property3 (fit : Bool) (source : List ℕ) (q : Request) : Type 0 where
+  -- the reports of the definition
+  pub agree : Agree (run-source quiet fit source q) (run-source full fit source q)
+  -- where `time` stands in the source, the counts are equal
+  pub timed : (a : Accepted) → read-source fit source ≡ accepted a → a .program .timed ≡ true → run-source quiet fit source q .count ≡ run-source full fit source q .count
+  -- the run that evaluates the open cells alone gives the run of the definition, and counts the definition's open cells
+  pub skips : (a : Accepted) → read-source fit source ≡ accepted a → (n t : ℕ) → QuietAgrees (running (a .program) (q .sizes)) n t (q .grid)
+
+same : (r : Report) → Agree r r
+same r = record { number = refl; place = refl; cell = refl; steps = refl; grid = refl; count = le-refl (r .count) }
+
+ended-agree : (f : Fault) (steps : ℕ) {c d : ℕ} (g : List ℤ) → c ≤ d → Agree (ended f steps c g) (ended f steps d g)
+ended-agree no-fault steps g l = record { number = refl; place = refl; cell = refl; steps = refl; grid = refl; count = l }
+ended-agree (fault-at cell number place) steps g l = record { number = refl; place = refl; cell = refl; steps = refl; grid = refl; count = l }
+
+reports-agree : (p : Program) (q : Request) → Agree (report-of quiet p q) (report-of full p q)
+unfolding report-of
+reports-agree p q =
+    let r = run-of (running p (q .sizes)) (natAbs (q .steps)) (natAbs (q .start)) (q .grid) in
+    ended-agree (r .fault) (r .steps) (r .grid) (open-le-full (running p (q .sizes)) (natAbs (q .steps)) every-cell (natAbs (q .start)) (q .grid))
+
+runs-agree : (p : Program) (q : Request) → Agree (run quiet p q) (run full p q)
+unfolding run
+runs-agree p q = by (eqb (admission p q .number) 0) refl
+  where
+    by : (b : Bool) → eqb (admission p q .number) 0 ≡ b → Agree (run quiet p q) (run full p q)
+    by true e = rw (e, run) (reports-agree p q)
+    by false e = rw (e, run) (same _)
+
+outcomes-agree : (q : Request) (o : Outcome) → Agree (run-read quiet q o) (run-read full q o)
+outcomes-agree q (turned-away number place) = same _
+outcomes-agree q (checking.refused number place) = same _
+outcomes-agree q (accepted a) = runs-agree (a .program) q
+
+-- ---- where `time` stands in the source
+
+ended-count : (f : Fault) (steps c : ℕ) (g : List ℤ) → ended f steps c g .count ≡ c
+ended-count no-fault steps c g = refl
+ended-count (fault-at cell number place) steps c g = refl
+
+reports-count : (p : Program) (q : Request) → p .timed ≡ true → report-of quiet p q .count ≡ report-of full p q .count
+unfolding report-of running automaton
+reports-count p q e =
+    let r = run-of (running p (q .sizes)) (natAbs (q .steps)) (natAbs (q .start)) (q .grid) in
+    ended-count (r .fault) (r .steps) _ (r .grid) ∙ open-is-full (running p (q .sizes)) e (natAbs (q .steps)) (natAbs (q .start)) (q .grid)
+    ∙ sym (ended-count (r .fault) (r .steps) _ (r .grid))
+
+runs-count : (p : Program) (q : Request) → p .timed ≡ true → run quiet p q .count ≡ run full p q .count
+unfolding run
+runs-count p q e = by (eqb (admission p q .number) 0) refl
+  where
+    by : (b : Bool) → eqb (admission p q .number) 0 ≡ b → run quiet p q .count ≡ run full p q .count
+    by true h = rw (h, run) (reports-count p q e)
+    by false h = rw (h, run)
+
+-- ---- an accepted source is short, and parsed
+
+read-of : (fit : Bool) (source : List ℕ) (a : Accepted) → read-source fit source ≡ accepted a → (length source ≤ 65535) × (parse source ≡ ok a)
+unfolding read-source
+read-of false source a e = absurd (clash e)
+  where
+    clash : turned-away 1 0 ≡ accepted a → ⊥
+    clash q = let z : _≡_ {A = ℕ} 0 1 = cc in omega arith
+read-of true source a e = by (ltb 65535 (length source)) refl e
+  where
+    clash : turned-away 2 65535 ≡ accepted a → ⊥
+    clash q = let z : _≡_ {A = ℕ} 0 1 = cc in omega arith
+
+    read : (r : Result Accepted) → outcome-of r ≡ accepted a → r ≡ ok a
+    read (ok b) q = let z : b ≡ a = cc in ap ok z
+    read (fail n p) q = absurd (let z : _≡_ {A = ℕ} 0 1 = cc in omega arith)
+
+    by : (b : Bool) → ltb 65535 (length source) ≡ b → (if b then turned-away 2 65535 else outcome-of (parse source)) ≡ accepted a → (length source ≤ 65535) × (parse source ≡ ok a)
+    by true l q = absurd (clash q)
+    by false l q = (ltb-false 65535 (length source) l, read (parse source) q)
+
+-- Property 3 holds of every source and every run that is asked of it.
+pub property-3 : (fit : Bool) (source : List ℕ) (q : Request) → Property3 fit source q
+unfolding run-source
+property-3 fit source q =
+    record {
+      agree = outcomes-agree q (read-source fit source);
+      timed = λ a e t. rw e (runs-count (a .program) q t);
+      skips = λ a e n t.
+          let r = read-of fit source a e in
+          locality.property-3 (a .program) (q .sizes) (flagged timing source a (parsed source (r .0) a (r .1))) n t (q .grid);
+    }

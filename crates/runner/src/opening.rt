@@ -1,0 +1,88 @@
+// The beginning of a run: the source is read, and the run admitted.
+ghost use mathlib.Core.Path.{_≡_};
+ghost use mathlib.Core.Bool.{false};
+ghost use Rattle.runner.specs.Sourcewise.{Opens};
+use admission::admit;
+use checker::load;
+use evaluator::Rule;
+use stepper::Reach;
+
+// Whether a run begins: then the rule, its reach and whether `time` stands in the source; else the refusal's number and place.
+pub struct Opening {
+    pub begun: bool,
+    pub number: u32,
+    pub place: u32,
+    pub rule: Rule,
+    pub reach: Reach,
+    pub timed: bool,
+}
+
+// A run that does not begin.
+fn closed(number: u32, place: u32) -> Opening
+    ensures { λ r. ⌜ (r .begun ≡ false) × (r .number ≡ number) × (r .place ≡ place) ⌝ }
+{
+    Opening {
+        begun: false,
+        number: number,
+        place: place,
+        rule: Rule {
+            tokens: 0,
+            base: 0,
+            body: 0,
+            dims: 0,
+            fields: 0,
+            slots: 0,
+        },
+        reach: Reach {
+            back0: 0,
+            ahead0: 0,
+            back1: 0,
+            ahead1: 0,
+            back2: 0,
+            ahead2: 0,
+        },
+        timed: false,
+    }
+}
+
+// Reads a source and admits a run of it. `scratch` and `marks` are the lengths of these.
+pub fn open_run(
+    source: &[u8],
+    words: &mut [u32],
+    names: &mut [u32],
+    sizes: &[u32],
+    grid: &[i32],
+    scratch: usize,
+    marks: usize,
+    start: i64,
+    steps: i64,
+) -> Opening
+    ensures { λ r. ⌜ Opens (now (source .entry)) (now (words .entry)) (now (names .entry)) (now (sizes .entry)) (now (grid .entry)) scratch marks start steps r (now (words .exit)) (now (names .exit)) ⌝ }
+{
+    let loaded = load(source, words, names);
+    if !loaded.accepted {
+        return closed(loaded.number, loaded.place);
+    }
+    let outline = loaded.outline;
+    let rule = Rule {
+        tokens: outline.tokens,
+        base: outline.base,
+        body: outline.body,
+        dims: outline.dims,
+        fields: outline.fields,
+        slots: outline.slots,
+    };
+    let admitted = admit(words, rule, sizes, grid, scratch, marks, start, steps);
+    if admitted.number != 0 {
+        return closed(admitted.number, admitted.place);
+    }
+    let reach = admitted.reach;
+    Opening {
+        begun: true,
+        number: 0,
+        place: 0,
+        rule: rule,
+        reach: reach,
+        timed: outline.timed,
+    }
+}

@@ -1,0 +1,52 @@
+-- The marked examples M1 to M13 of document 01, as one list with one claim.
+use mathlib.Core.Path.{_≡_, refl}
+use mathlib.Core.List.{List, [], _∷_, _++_}
+use Prim.Native.Nat.{ℕ}
+use Prim.Native.String.{String}
+use lib.IntN.{ℤ, pos, negsuc}
+use Rattle.token.specs.Bytes.{as-bytes}
+use Rattle.services.specs.Cases.{Lent, Case, checks, runs, text, ask, report, failing, holds}
+
+-- a source of one dimension with an unnamed field of a range
+abbrev pub line : String → String → Lent
+line range rest = text (as-bytes "1 dimensions of " ++ as-bytes range ++ as-bytes " " ++ as-bytes rest)
+
+-- one cell whose value after a step is that of an expression
+abbrev pub gives : String → ℤ → Case
+gives e z =
+    runs (text (as-bytes "1 dimensions of -99..99 cell := " ++ as-bytes e)) (ask (1 ∷ []) (pos 0 ∷ []) (pos 0) (pos 1))
+    (report 0 0 0 1 1 (z ∷ [])) 1
+
+unfoldable pub marked-examples : List Case
+marked-examples =
+    -- M1, M2, M3, M4
+    checks (text (as-bytes "")) 7 0
+    ∷ checks (line "0..1" "") 0 0
+    ∷ checks (line "0..1" "x := y") 8 26
+    ∷ checks (line "0..1" "cell := 1 < 2 < 3") 13 35
+    -- M5
+    ∷ runs (line "0..1" "cell := [-1]") (ask (5 ∷ []) (pos 1 ∷ pos 0 ∷ pos 0 ∷ pos 0 ∷ pos 0 ∷ []) (pos 0) (pos 2))
+    (report 0 0 0 2 10 (pos 0 ∷ pos 0 ∷ pos 1 ∷ pos 0 ∷ pos 0 ∷ [])) 8
+    -- M6
+    ∷ runs (line "0..9" "cell := time") (ask (2 ∷ []) (pos 0 ∷ pos 0 ∷ []) (pos 0) (pos 3)) (report 0 0 0 3 6 (pos 2 ∷ pos 2 ∷ [])) 6
+    -- M7. The full run's count is 5 too: 3 cells, and then the 2 up to the faulting one
+    ∷ runs (line "0..3" "cell := cell + 1") (ask (3 ∷ []) (pos 0 ∷ pos 2 ∷ pos 1 ∷ []) (pos 0) (pos 5))
+    (report 33 26 1 1 5 (pos 1 ∷ pos 3 ∷ pos 2 ∷ [])) 5
+    -- M8, M9, M10, M11
+    ∷ gives "1 | 0 & 0" (pos 0)
+    ∷ gives "7 / -2" (negsuc 2)
+    ∷ gives "-7 % 2" (negsuc 0)
+    ∷ gives "7 % -2" (pos 13)
+    -- M12: the own cell, and 23
+    ∷ runs (line "0..1" "cell := [5]") (ask (5 ∷ []) (pos 0 ∷ pos 1 ∷ pos 1 ∷ pos 0 ∷ pos 1 ∷ []) (pos 0) (pos 1))
+    (report 0 0 0 1 5 (pos 0 ∷ pos 1 ∷ pos 1 ∷ pos 0 ∷ pos 1 ∷ [])) 5
+    ∷ runs (line "0..1" "cell := [6]") (ask (5 ∷ []) (pos 0 ∷ pos 1 ∷ pos 1 ∷ pos 0 ∷ pos 1 ∷ []) (pos 0) (pos 1))
+    (report 23 30 0 0 0 (pos 0 ∷ pos 1 ∷ pos 1 ∷ pos 0 ∷ pos 1 ∷ [])) 0
+    -- M13
+    ∷ checks (text (as-bytes "4 dimensions of 0..1")) 10 0
+    ∷ []
+
+-- none fails
+pub all-hold : failing 1 marked-examples ≡ []
+unfolding marked-examples failing holds
+all-hold = refl

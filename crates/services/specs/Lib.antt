@@ -1,0 +1,4 @@
+-- Runs of a source, and the marked examples. Read in this order.
+pub mod Services
+pub mod Cases
+pub mod Examples

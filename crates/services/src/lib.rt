@@ -1,0 +1,1 @@
+// The public calls: check a source; run a source on a grid.

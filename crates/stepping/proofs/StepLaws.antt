@@ -1,0 +1,101 @@
+-- What a step comes to: the evaluation of the marked cells, and the exchange.
+use Prim.Native.Nat.{ℕ, _+_, _*_, _≤_, _<_}
+use native.Mathlib.Omega.{arith}
+use mathlib.Core.Path.{_≡_, refl, sym, ap, _∙_, subst}
+use mathlib.Core.Bool.{Bool, true, false, cond}
+use mathlib.Core.List.{List}
+use lib.ListN.{length, take}
+use lib.Seq.{length-take-le}
+use lib.IntN.{ℤ}
+use Rattle.automaton.specs.Step.{Fault, no-fault, fault-at, state-or, marked, grid-after, quiet-step}
+use Rattle.automaton.specs.Shape.{product}
+use Rattle.automaton.specs.Grid.{cell-of, grid-of, automaton}
+use Rattle.program.specs.Syntax.{Program}
+use Rattle.evaluator.specs.declared.Rule.{Rule}
+use Rattle.evaluator.specs.Stands.{Holds}
+use Rattle.stepper.specs.Reach.{running}
+use Rattle.stepper.specs.Fitting.{held-fields}
+use Rattle.stepping.specs.declared.Step.{Step}
+use Rattle.stepping.specs.declared.Step.the-variants as Gives
+use Rattle.stepping.specs.Stepping.{fault-in, count-in, Ready, Stepped}
+use Rattle.stepping.specs.Turns.{Filled, Exchanging, Exchanged}
+use Rattle.stepping.proofs.PartLaws.{flat-ext}
+use Rattle.stepping.proofs.FillLaws.{outcome, of-marked, of-unmarked}
+
+module _ {words : List ℕ} {rule : Rule} {sizes : List ℕ} {grid scratch : List ℤ} {marks : List ℕ} {time count : ℕ} (ready : Ready words rule sizes grid scratch marks time count) where
+  -- room for coordinates
+  pub place-fits : (zs : List ℕ) → length zs ≡ 3 → length sizes ≤ length zs
+  place-fits zs e = let d = ready .shaped .dims in let f = ready .rule-fits .dims in omega arith
+
+  pub place-room : (zs : List ℕ) → length zs ≡ 3 → length (take (length sizes) zs) ≡ length sizes
+  place-room zs e = length-take-le (length sizes) zs (place-fits zs e)
+
+  -- what the exchange asks
+  pub exchanging : {lent : ℕ} → lent ≡ length scratch → Exchanging (length grid) lent (length marks) (rule .fields)
+  exchanging e = record {
+    alike = e ∙ ready .scratch-fits;
+    entries = ap (λ (n : ℕ). n * rule .fields) (ready .marks-fit) ∙ ready .shaped .entries;
+    few = let m = ready .marks-fit in let n = ready .shaped .cells in omega arith;
+    most = ready .rule-fits .fields;
+  }
+
+module _ {words : List ℕ} {rule : Rule} {sizes : List ℕ} {grid scratch : List ℤ} {marks : List ℕ} {time count : ℕ} (ready : Ready words rule sizes grid scratch marks time count)
+    {r : Step} {filled : List ℤ} (f : Filled words rule sizes grid scratch marks time count r filled) where
+  -- the grid after a step without a fault, by its cells
+  after-none : (p : Program) → Holds words rule p → fault-in r ≡ no-fault
+      → quiet-step (running p sizes) marks grid time .grid
+      ≡ grid-of (rule .fields) (product sizes) (λ c. state-or (cell-of (rule .fields) grid c) (outcome words rule sizes grid marks time p c))
+  unfolding quiet-step running automaton
+  after-none p h e =
+      ap (λ (a : Fault). grid-after (running p sizes) a grid (outcome words rule sizes grid marks time p)) (sym (f .fault p h) ∙ e)
+      ∙ ap (λ (n : ℕ). grid-of n (product sizes) (λ c. state-or (cell-of n grid c) (outcome words rule sizes grid marks time p c))) (held-fields p h)
+
+  after-fault : (p : Program) → Holds words rule p → {c k q : ℕ} → fault-in r ≡ fault-at c k q → quiet-step (running p sizes) marks grid time .grid ≡ grid
+  unfolding quiet-step
+  after-fault p h e = ap (λ (a : Fault). grid-after (running p sizes) a grid (outcome words rule sizes grid marks time p)) (sym (f .fault p h) ∙ e)
+
+  pub stepped-done : {n : ℕ} {grid′ scratch′ : List ℤ} → r ≡ Gives.Done n → Exchanged (rule .fields) marks grid filled grid′ → Exchanged (rule .fields) marks filled grid scratch′
+      → length filled ≡ length scratch → Stepped words rule sizes grid scratch marks time count (Gives.Done n) grid′ scratch′
+  stepped-done {n} {grid′} {scratch′} e x y size = record {
+    fault = λ p h. ap fault-in (sym e) ∙ f .fault p h;
+    grid-is = λ p h. flat-ext (rule .fields) (product sizes) grid′ _ (x .size ∙ sym (ready .shaped .entries)) (λ c l. at p h c l (marked marks c) refl) ∙ sym (after-none p h none);
+    count-is = λ p h. ap count-in (sym e) ∙ f .count-is p h;
+    counted = subst (λ (s : Step). count-in s ≤ count + product sizes) e (f .counted);
+    grid-size = x .size;
+    scratch-size = y .size ∙ size;
+    kept = λ c l m. x .cells c (in-marks c l) ∙ ap (λ (b : Bool). cond b (cell-of (rule .fields) filled c) (cell-of (rule .fields) grid c)) m;
+    old = λ no c l. before c l (marked marks c) refl;
+  }
+    where
+      none : fault-in r ≡ no-fault
+      none = ap fault-in e
+
+      in-marks : (c : ℕ) → c < product sizes → c < length marks
+      in-marks c l = let m = ready .marks-fit in omega arith
+
+      at : (p : Program) → Holds words rule p → (c : ℕ) → c < product sizes → (b : Bool) → marked marks c ≡ b
+          → cell-of (rule .fields) grid′ c ≡ state-or (cell-of (rule .fields) grid c) (outcome words rule sizes grid marks time p c)
+      at p h c l true m =
+          x .cells c (in-marks c l) ∙ ap (λ (b : Bool). cond b (cell-of (rule .fields) filled c) (cell-of (rule .fields) grid c)) m
+          ∙ ap (state-or (cell-of (rule .fields) grid c)) (sym (of-marked words rule sizes grid marks time p h c m ∙ f .next none p h c l m))
+      at p h c l false m =
+          x .cells c (in-marks c l) ∙ ap (λ (b : Bool). cond b (cell-of (rule .fields) filled c) (cell-of (rule .fields) grid c)) m
+          ∙ ap (state-or (cell-of (rule .fields) grid c)) (sym (of-unmarked words rule sizes grid marks time p h c m))
+
+      before : (c : ℕ) → c < product sizes → (b : Bool) → marked marks c ≡ b
+          → cell-of (rule .fields) scratch′ c ≡ cond (marked marks c) (cell-of (rule .fields) grid c) (cell-of (rule .fields) scratch c)
+      before c l true m = y .cells c (in-marks c l) ∙ rw m refl
+      before c l false m = y .cells c (in-marks c l) ∙ rw m (f .kept c l m)
+
+  pub stepped-fault : {c k q n : ℕ} → r ≡ Gives.Fault c k q n → length filled ≡ length scratch
+      → Stepped words rule sizes grid scratch marks time count (Gives.Fault c k q n) grid filled
+  stepped-fault {c} {k} {q} {n} e size = record {
+    fault = λ p h. ap fault-in (sym e) ∙ f .fault p h;
+    grid-is = λ p h. sym (after-fault p h (ap fault-in e));
+    count-is = λ p h. ap count-in (sym e) ∙ f .count-is p h;
+    counted = subst (λ (s : Step). count-in s ≤ count + product sizes) e (f .counted);
+    grid-size = refl;
+    scratch-size = size;
+    kept = λ c l m. refl;
+    old = λ no. absurd (let z : _≡_ {A = ℕ} 0 1 = cc in omega arith);
+  }

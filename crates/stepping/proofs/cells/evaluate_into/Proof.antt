@@ -1,0 +1,80 @@
+use Prim.Native.Nat.{_*_}
+use mathlib.Core.Path.{refl}
+use borrow.Author.Needs.{needs}
+use Rattle.stepping.proofs.TurnLaws.{part-length, part-whole, turn-room, turn-small, turn-fit, turned}
+use Rattle.stepping.proofs.cells.evaluate_into.Statement.{statement}
+use Rattle.stepping.proofs.cells.evaluate_into.Tie as tie
+
+cast-set-place : tie.Need-cast-set-place
+cast-set-place c = search needs
+
+set-place-requires : tie.Need-set-place-requires
+set-place-requires c κs = search needs
+
+cast-fields : tie.Need-cast-fields
+cast-fields c = search needs
+
+mul-from : tie.Need-mul-from
+mul-from c =
+    let p = c .before .before .before .before .before .before .before .before .pre in
+    let a = turn-room p in
+    let b = turn-small p in
+    search needs
+
+add-end : tie.Need-add-end
+add-end c =
+    let p = c .before .before .before .before .before .before .before .before .pre in
+    let a = turn-room p in
+    let b = turn-small p in
+    search needs
+
+mul-evaluate-counted : tie.Need-mul-evaluate-counted
+mul-evaluate-counted c =
+    let p = c .before .before .before .before .before .before .before .before .before .pre in
+    let a = turn-room p in
+    let b = turn-small p in
+    search needs
+
+sub-evaluate-counted : tie.Need-sub-evaluate-counted
+sub-evaluate-counted c = search needs
+
+part-evaluate-counted-start : tie.Need-part-evaluate-counted-start
+part-evaluate-counted-start c = search needs
+
+part-evaluate-counted-end : tie.Need-part-evaluate-counted-end
+part-evaluate-counted-end c = turn-room (c .before .before .before .before .before .before .before .before .before .pre)
+
+evaluate-counted-requires : tie.Need-evaluate-counted-requires
+evaluate-counted-requires c κs =
+    let s = c .before .before .before .before .before .before .before .before .before .before .before .before in
+    (turn-fit (s .pre) (c .before .before .before .before .before .before .before .set-place .ensures) (part-length _ _ _ (turn-room (s .pre))), s .pre .countable)
+
+same-length : tie.Need-same-length
+same-length c = search needs
+
+same-length-2 : tie.Need-same-length-2
+same-length-2 c = search needs
+
+returns : tie.Need-returns
+returns c =
+    let s = c .before .before .before .before .before .before .before .before .before .before .before .before .before .before in
+    let long = part-length (s .args .cell * s .args .rule .fields) (s .args .rule .fields) (s .args .scratch .now) (turn-room (s .pre)) in
+    turned (s .pre) (c .before .evaluate-counted .ensures) refl (search needs) (part-whole _ _)
+
+pub evaluate-into-spec : {M : Type 1} → statement M
+evaluate-into-spec =
+    tie.close
+    (tie.spec
+    cast-set-place
+    set-place-requires
+    cast-fields
+    mul-from
+    add-end
+    mul-evaluate-counted
+    sub-evaluate-counted
+    part-evaluate-counted-start
+    part-evaluate-counted-end
+    evaluate-counted-requires
+    same-length
+    same-length-2
+    returns)

@@ -1,0 +1,85 @@
+use Prim.Native.Nat.{_-_, _≤_, _<_}
+use mathlib.Core.Path.{_≡_}
+use mathlib.Core.Bool.{true}
+use lib.ListN.{length}
+use native.Mathlib.Omega.{arith}
+use borrow.Author.Needs.{needs}
+use Rattle.automaton.specs.Step.{marked}
+use Rattle.stepping.proofs.ExchangeLaws.{Half, exchange-room, swapping, half-start, half-skip, half-turn, half-end}
+use Rattle.stepping.proofs.exchange.exchange_marked.Statement.{statement}
+use Rattle.stepping.proofs.exchange.exchange_marked.Tie as tie
+
+abbrev Inv-loop : tie.InvT-loop
+Inv-loop a₀ b₀ marks fields cell₀ a b cell =
+    Half fields marks a₀ b₀ a cell × Half fields marks b₀ a₀ b cell × (cell ≤ length marks) × (cell < length marks → marked marks cell ≡ true)
+
+abbrev μ-loop : tie.MeasureT-loop
+μ-loop a₀ b₀ marks fields cell₀ a b cell = length marks - cell
+
+next-marked-requires : tie.Need-next-marked-requires Inv-loop μ-loop
+next-marked-requires c κs = omega arith
+
+loop-holds : tie.Need-loop-holds Inv-loop μ-loop
+loop-holds c =
+    let n = c .next-marked .ensures in
+    (half-skip _ _ _ _ _ 0 _ (half-start _ _ _ _) n, half-skip _ _ _ _ _ 0 _ (half-start _ _ _ _) n, n .within, n .found)
+
+mul-from : tie.Need-mul-from Inv-loop μ-loop
+mul-from c = let r = exchange-room (c .before .loop .cell) (c .before .before .before .before .pre) (c .loop-test .taken) in search needs
+
+add-end : tie.Need-add-end Inv-loop μ-loop
+add-end c = let r = exchange-room (c .before .loop .cell) (c .before .before .before .before .pre) (c .loop-test .taken) in search needs
+
+exchange-part-requires : tie.Need-exchange-part-requires Inv-loop μ-loop
+exchange-part-requires c κs =
+    let l = c .before .before .before .loop in
+    swapping (l .cell) (c .before .before .before .before .before .before .pre) (c .before .before .loop-test .taken) (l .inv .0 .size) (l .inv .1 .size)
+
+add-next-marked : tie.Need-add-next-marked Inv-loop μ-loop
+add-next-marked c = search needs
+
+next-marked-requires-2 : tie.Need-next-marked-requires-2 Inv-loop μ-loop
+next-marked-requires-2 c κs = omega arith
+
+loop-less : tie.Need-loop-less Inv-loop μ-loop
+loop-less c = omega (arith, c .next-marked2 .ensures .onward)
+
+loop-again : tie.Need-loop-again Inv-loop μ-loop
+loop-again c =
+    let l = c .before .before .before .before .before .before .before .loop in
+    let n = c .next-marked2 .ensures in
+    let e = c .before .before .before .exchange-part .ensures in
+    let m = l .inv .3 (c .before .before .before .before .before .before .loop-test .taken) in (
+      half-skip _ _ _ _ _ _ _ (half-turn _ _ _ _ (l .a) (l .b) _ (l .cell) (l .inv .0) (l .inv .1 .rest (l .cell) (omega arith)) m (e .0)) n,
+      half-skip _ _ _ _ _ _ _ (half-turn _ _ _ _ (l .b) (l .a) _ (l .cell) (l .inv .1) (l .inv .0 .rest (l .cell) (omega arith)) m (e .1)) n,
+      n .within,
+      n .found,
+    )
+
+same-length : tie.Need-same-length Inv-loop μ-loop
+same-length c = c .before .loop .inv .0 .size
+
+same-length-2 : tie.Need-same-length-2 Inv-loop μ-loop
+same-length-2 c = c .before .loop .inv .1 .size
+
+returns : tie.Need-returns Inv-loop μ-loop
+returns c = (half-end _ _ _ _ _ _ (c .before .loop .inv .0) (c .loop-test .left), half-end _ _ _ _ _ _ (c .before .loop .inv .1) (c .loop-test .left))
+
+pub exchange-marked-spec : {M : Type 1} → statement M
+exchange-marked-spec =
+    tie.close
+    (tie.spec
+    Inv-loop
+    μ-loop
+    next-marked-requires
+    loop-holds
+    mul-from
+    add-end
+    exchange-part-requires
+    add-next-marked
+    next-marked-requires-2
+    loop-less
+    loop-again
+    same-length
+    same-length-2
+    returns)

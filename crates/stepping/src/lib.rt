@@ -1,0 +1,19 @@
+// One step of a rule under marks.
+
+pub mod cells;
+pub mod exchange;
+pub mod rooms;
+pub mod scan;
+pub mod steps;
+
+// What evaluating one cell gives: the count, one higher; and at a fault its number and place.
+pub enum Evaluation {
+    Done(u64),
+    Fault(u32, u32, u64),
+}
+
+// What a step gives: the count; and at a fault the cell, and the fault's number and place.
+pub enum Step {
+    Done(u64),
+    Fault(u32, u32, u32, u64),
+}

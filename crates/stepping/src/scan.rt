@@ -1,0 +1,20 @@
+// The marked cells in rising order.
+ghost use Prim.Native.Nat.{_≤_};
+ghost use lib.ListN.{length};
+ghost use Rattle.stepping.specs.Turns.{NextMarked};
+
+// The first marked cell from a cell on, or the number of cells where there is none.
+pub fn next_marked(marks: &[u8], from: usize) -> usize
+    requires { ⌜ from ≤ length (now marks) ⌝ }
+    ensures { λ r. ⌜ NextMarked (now (marks .entry)) from r ⌝ }
+{
+    let cells = marks.len();
+    let mut at = from;
+    while at < cells {
+        if marks[at] != 0 {
+            return at;
+        }
+        at += 1;
+    }
+    cells
+}

@@ -1,0 +1,98 @@
+// One step under marks.
+ghost use mathlib.Core.Path.{_≡_};
+ghost use lib.ListN.{length};
+ghost use Rattle.stepping.specs.Turns.{Filled};
+ghost use Rattle.stepping.specs.Stepping.{Ready, Stepped};
+use crate::Evaluation;
+use crate::Step;
+use crate::cells::evaluate_into;
+use crate::exchange::exchange_marked;
+use crate::scan::next_marked;
+use evaluator::Rule;
+
+// Evaluates the marked cells in rising order from the grid `old` into `new`, up to the first fault. `place` is room for a cell's coordinates.
+fn evaluate_marked(
+    words: &[u32],
+    rule: Rule,
+    sizes: &[u32],
+    place: &mut [u32],
+    old: &[i32],
+    new: &mut [i32],
+    marks: &[u8],
+    vars: &mut [i32; 256],
+    index: &mut [i32; 16],
+    time: u32,
+    count: u64,
+) -> Step
+    requires { ⌜ Ready (now words) rule (now sizes) (now old) (now new) (now marks) time count × (length (now place) ≡ length (now sizes)) ⌝ }
+    ensures { λ r. ⌜ Filled (now (words .entry)) rule (now (sizes .entry)) (now (old .entry)) (now (new .entry)) (now (marks .entry)) time count r (now (new .exit)) ⌝ }
+{
+    let mut total = count;
+    let mut cell = next_marked(marks, 0);
+    while cell < marks.len() {
+        let turn = evaluate_into(
+            words,
+            rule,
+            sizes,
+            place,
+            cell,
+            old,
+            new,
+            vars,
+            index,
+            time,
+            total,
+        );
+        match turn {
+            Evaluation::Done(n) => {
+                total = n;
+            }
+            Evaluation::Fault(number, at, n) => {
+                return Step::Fault(cell as u32, number, at, n);
+            }
+        }
+        cell = next_marked(marks, cell + 1);
+    }
+    Step::Done(total)
+}
+
+// One step, at a given time: the marked cells (their mark is not 0) get what evaluating them on the old grid gives, all at once, and `scratch` is left
+// with their old fields. At the first fault the grid stays as it is. The count goes up by one for each cell evaluated.
+pub fn step(
+    words: &[u32],
+    rule: Rule,
+    sizes: &[u32],
+    grid: &mut [i32],
+    scratch: &mut [i32],
+    marks: &[u8],
+    time: u32,
+    count: u64,
+) -> Step
+    requires { ⌜ Ready (now words) rule (now sizes) (now grid) (now scratch) (now marks) time count ⌝ }
+    ensures { λ r. ⌜ Stepped (now (words .entry)) rule (now (sizes .entry)) (now (grid .entry)) (now (scratch .entry)) (now (marks .entry)) time count r (now (grid .exit)) (now (scratch .exit)) ⌝ }
+{
+    let mut vars = [0i32; 256];
+    let mut index = [0i32; 16];
+    let mut place = [0u32; 3];
+    let dims = sizes.len();
+    let done = evaluate_marked(
+        words,
+        rule,
+        sizes,
+        &mut place[..dims],
+        grid,
+        scratch,
+        marks,
+        &mut vars,
+        &mut index,
+        time,
+        count,
+    );
+    match done {
+        Step::Done(n) => {
+            exchange_marked(grid, scratch, marks, rule.fields as usize);
+            Step::Done(n)
+        }
+        Step::Fault(cell, number, at, n) => Step::Fault(cell, number, at, n),
+    }
+}

@@ -1,0 +1,20 @@
+#!/usr/bin/env bash
+# Builds run_rule, runs the command of each example in a copy of its folder, and compares what it writes with the stored output. Then the
+# second program runs the same rules, and its grids are compared too. With --built the program is taken as it is.
+set -eu
+cd "$(dirname "$0")/.."
+root=$PWD
+[ "${1:-}" = --built ] || rt check run_rule
+room=$(mktemp -d)
+trap 'rm -rf "$room"' EXIT
+mkdir "$room/bin"
+cp target/bin/run_rule "$room/bin/run_rule"
+cp tools/picture.py "$room/bin/picture.py"
+chmod +x "$room/bin/picture.py"
+for example in life shift edge; do
+    cp -R "examples/$example" "$room/$example"
+    (cd "$room/$example" && PATH="$room/bin:$PATH" sh ./command >wrote)
+    cmp "$room/$example/wrote" "examples/$example/output"
+    python3 examples/second.py "$root" "$room/$example"
+    echo "$example: the output is the stored one"
+done

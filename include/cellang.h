@@ -1,0 +1,181 @@
+/*
+ * Checking and running correction rules written in Cellang.
+ *
+ * Link libcellang.a (x86-64 Linux). It needs memset and nothing else, allocates nothing and keeps
+ * nothing between calls; calls on different memory may run at the same time.
+ *
+ * Lent memory passes as a pointer and then a number of elements. Pieces that a call writes must not
+ * overlap each other or anything else that is lent to it. A pointer of length 0 is never followed.
+ * No call asks anything else of its arguments: every wrong length or number has a reply.
+ */
+#ifndef CELLANG_H
+#define CELLANG_H
+
+#include <stddef.h>
+#include <stdint.h>
+
+#ifdef __cplusplus
+extern "C" {
+#endif
+
+/* ---- what bounds a source and a run */
+
+#define CELLANG_MOST_SOURCE 65535       /* bytes of a source */
+#define CELLANG_MOST_TOKENS 4096        /* tokens of a source */
+#define CELLANG_MOST_NAMES 256          /* names declared in a source */
+#define CELLANG_MOST_FIELDS 8           /* fields of a cell */
+#define CELLANG_MOST_DIMENSIONS 3       /* dimensions */
+#define CELLANG_MOST_SIZE 4096          /* cells along a dimension */
+#define CELLANG_MOST_CELLS 1048576      /* cells of a grid */
+#define CELLANG_GREATEST_TIME 2147483647 /* start and steps together */
+
+/* ---- the word table and the name list */
+
+#define CELLANG_WORDS 16384     /* exact length of the word table: four words a token */
+#define CELLANG_NAME_WORDS 1024 /* exact length of the name list: four words a name */
+
+/* The words of a name record; record k has words 4k to 4k+3. Names stand in order of declaration. */
+enum cellang_name_word {
+    CELLANG_NAME_START = 0,  /* the place of its first byte */
+    CELLANG_NAME_LENGTH = 1, /* its length in bytes */
+    CELLANG_NAME_KIND = 2,   /* one of the kinds below; 0 behind the last name */
+    CELLANG_NAME_VALUE = 3,  /* its value, in two's complement */
+    CELLANG_NAME_RECORD = 4  /* words a record */
+};
+
+/* The kinds of names, and what their value is. */
+enum cellang_kind {
+    CELLANG_CONSTANT = 1,       /* the constant's value */
+    CELLANG_ARRAY_CONSTANT = 2, /* how many values it has */
+    CELLANG_FIELD = 3,          /* the field's number, from 0 */
+    CELLANG_VARIABLE = 4,       /* 0 */
+    CELLANG_INDEX = 5,          /* 0 */
+    CELLANG_CONST_FIELD = 6     /* the field's number, from 0 */
+};
+
+/* ---- replies */
+
+/*
+ * What a call gives back. 1, then 2, are tried before any token; then the smallest place wins, then
+ * the lowest number. 20 to 24 are tried in this order once the source is accepted. "At" says which
+ * byte of the source the place names, where the end of the source stands at its length; where
+ * nothing is said the place is 0.
+ */
+enum cellang_reply {
+    CELLANG_DONE = 0, /* the source is accepted, or all steps are done */
+
+    /* the source is refused */
+    CELLANG_ROOM_LENGTH = 1,            /* the word table or the name list is of the wrong length */
+    CELLANG_SOURCE_TOO_LONG = 2,        /* more than 65,535 bytes; the place is 65535 */
+    CELLANG_NO_TOKEN = 3,               /* no token can be read; at its first byte */
+    CELLANG_LITERAL_TOO_LARGE = 4,      /* a literal over 2147483647; at it */
+    CELLANG_TOO_MANY_TOKENS = 5,        /* the 4,097th token; at it */
+    CELLANG_NOT_TAKEN = 6,              /* a form of the language that is not taken: -> +% -% " agent random; [ after a field name
+                                           being declared, a left side or a name that is no array constant; a comma after an
+                                           assigned expression; no : after a forall name; missing .name; at it or in its stead */
+    CELLANG_NOT_ALLOWED = 7,            /* a token that the grammar does not allow; at it */
+    CELLANG_NAME_UNKNOWN = 8,           /* a name unknown, or of the wrong sort for a constant or index; at it */
+    CELLANG_NAME_USED = 9,              /* a name already used, or not assignable; at it */
+    CELLANG_BAD_NUMBER = 10,            /* dimensions not 1 to 3, a range reversed or too long, a ninth field, a bad array size, or
+                                           a wrong count of values; at the constant, the upper bound, the field, the size, the extra
+                                           comma or the token after the last value */
+    CELLANG_SIGN_OUT_OF_RANGE = 11,     /* a sign takes a constant out of range; at the constant */
+    CELLANG_WRONG_ACCESS = 12,          /* . on a plain number, an unknown field, an array constant without [, or a wrong count of
+                                           indices; at that token or in its stead */
+    CELLANG_RELATION_ON_RELATION = 13,  /* a relation on a bare relation; at the second operator */
+    CELLANG_NESTED_TOO_DEEP = 14,       /* the 17th nesting; at the opening token */
+    CELLANG_TOO_MANY_NAMES = 15,        /* the 257th name; at it */
+
+    /* the source is accepted, but the run is not admitted */
+    CELLANG_BAD_SHAPE = 20,        /* number or size of dimensions, or the total of cells, wrong */
+    CELLANG_LENT_LENGTH = 21,      /* grid or scratch not cells times fields, or marks not one byte a cell */
+    CELLANG_BAD_TIMES = 22,        /* start or steps negative, or their sum over 2147483647 */
+    CELLANG_INDEX_TOO_FAR = 23,    /* an index, or an end of an index variable's range, larger in size than its dimension; at its
+                                      first token, first in source order */
+    CELLANG_ENTRY_OUT_OF_RANGE = 24, /* a field out of range on entry; the place is the number of the lowest such grid entry */
+
+    /* the run began, and a cell faulted: the lowest faulting cell of the first faulting step */
+    CELLANG_RESULT_OUT_OF_RANGE = 30,  /* an operation's result out of range; at the operator */
+    CELLANG_ZERO_DIVISOR = 31,         /* a zero divisor; at the operator */
+    CELLANG_ARRAY_INDEX = 32,          /* an array index out of range; at the [ */
+    CELLANG_VALUE_OUTSIDE_FIELD = 33   /* an assigned value outside the field; at the := before it */
+};
+
+/*
+ * What the lent memory holds afterwards, by the reply:
+ *
+ *             words and names         grid                      scratch and marks
+ *   1, 2      as they were            as it was                 as they were
+ *   3 to 15   zero                    as it was                 as they were
+ *   20 to 24  the program, then zero  as it was                 as they were
+ *   30 to 33  the program, then zero  after the steps done      zero
+ *   0         the program, then zero  after all steps           zero, even after 0 steps
+ */
+
+/* ---- checking */
+
+/* The entries that tell a reply. Where fewer are lent, the first ones are told; any others stay. */
+enum cellang_reply_entry {
+    CELLANG_REPLY_NUMBER = 0,
+    CELLANG_REPLY_PLACE = 1,
+    CELLANG_REPLY_LENGTH = 2 /* entries in all */
+};
+
+/* Checks a source. Gives 0 or 1 to 15. */
+uint32_t cellang_check(
+    const uint8_t *source, size_t source_length,
+    uint32_t *words, size_t words_length,
+    uint32_t *names, size_t names_length,
+    uint32_t *reply, size_t reply_length);
+
+/* ---- running */
+
+/* The entries that tell a run. Where fewer are lent, the first ones are told; any others stay. */
+enum cellang_report_entry {
+    CELLANG_REPORT_NUMBER = 0, /* the reply's number */
+    CELLANG_REPORT_PLACE = 1,  /* its place */
+    CELLANG_REPORT_CELL = 2,   /* the number of the faulting cell, at 30 to 33; else 0 */
+    CELLANG_REPORT_STEPS = 3,  /* the steps done, at 0 and 30 to 33; else 0 */
+    CELLANG_REPORT_COUNT = 4,  /* how many times a cell was evaluated, at 0 and 30 to 33; else 0 */
+    CELLANG_REPORT_LENGTH = 5  /* entries in all */
+};
+
+/*
+ * Runs a source on a grid: so many steps, the first at time start. Gives any of the replies.
+ *
+ * shape has the size of each dimension, in order. Cell [i,j,k] of sizes p,q,r has number (i*q+j)*r+k, and
+ * likewise for fewer dimensions; its fields lie together in declared order. grid and scratch have cells times
+ * fields entries, marks one byte a cell; what scratch and marks hold on entry does not matter.
+ *
+ * Each step of cellang_run_full evaluates every cell. Each step of cellang_run_quiet evaluates the open cells
+ * alone: in the first step all, later those within whose reach a cell changed in the step before, and where
+ * `time` stands in the source always all. Reply, place, cell, steps and grid are the same; the count is at
+ * most the full one.
+ */
+uint32_t cellang_run_full(
+    const uint8_t *source, size_t source_length,
+    uint32_t *words, size_t words_length,
+    uint32_t *names, size_t names_length,
+    const uint32_t *shape, size_t shape_length,
+    int32_t *grid, size_t grid_length,
+    int32_t *scratch, size_t scratch_length,
+    uint8_t *marks, size_t marks_length,
+    int64_t start, int64_t steps,
+    uint64_t *report, size_t report_length);
+
+uint32_t cellang_run_quiet(
+    const uint8_t *source, size_t source_length,
+    uint32_t *words, size_t words_length,
+    uint32_t *names, size_t names_length,
+    const uint32_t *shape, size_t shape_length,
+    int32_t *grid, size_t grid_length,
+    int32_t *scratch, size_t scratch_length,
+    uint8_t *marks, size_t marks_length,
+    int64_t start, int64_t steps,
+    uint64_t *report, size_t report_length);
+
+#ifdef __cplusplus
+}
+#endif
+
+#endif
