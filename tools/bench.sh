@@ -1,0 +1,7 @@
+#!/usr/bin/env bash
+# Makes all benchmarks of docs/BENCHMARKS.md again: reading, full runs, quiet runs, and growth.
+set -eu
+cd "$(dirname "$0")/.."
+rt check check_vectors >&2
+python3 tools/bench_checks.py
+tools/bench_runs.sh
