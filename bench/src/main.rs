@@ -3,6 +3,7 @@
 mod hand;
 mod proved;
 
+use cellang::Mode;
 use proved::Rooms;
 use std::env;
 use std::fs;
@@ -122,19 +123,10 @@ fn best(times: usize, mut work: impl FnMut()) -> f64 {
     least
 }
 
-fn run_proved(quiet: bool, source: &str, grid: &[i32], fields: usize, steps: i64) -> Vec<i32> {
+fn run_proved(mode: Mode, source: &str, grid: &[i32], fields: usize, steps: i64) -> Vec<i32> {
     let mut rooms = Rooms::new(CELLS, fields);
     let mut left = grid.to_vec();
-    let report = proved::run(
-        quiet,
-        source.as_bytes(),
-        &SIZES,
-        &mut left,
-        &mut rooms,
-        steps,
-    );
-    assert_eq!(report[0], 0, "refused or faulted: {report:?}");
-    assert_eq!(report[3], steps as u64);
+    proved::run(mode, source, &SIZES, &mut left, &mut rooms, steps);
     left
 }
 
@@ -174,7 +166,7 @@ fn full(times: usize, steps: i64) {
     println!("|---|---|---|---|---|---|");
     for rule in rules() {
         let result = run_hand(&rule, 3);
-        let proved = run_proved(false, &rule.source, &rule.grid, rule.fields, 3);
+        let proved = run_proved(Mode::Full, &rule.source, &rule.grid, rule.fields, 3);
         assert!(proved == result, "{}: the proved run differs", rule.name);
         assert!(
             run_second(&rule, 3) == result,
@@ -183,7 +175,7 @@ fn full(times: usize, steps: i64) {
         );
         let rate = |seconds: f64| CELLS as f64 * steps as f64 / seconds / 1e6;
         let a = rate(best(times, || {
-            run_proved(false, &rule.source, &rule.grid, rule.fields, steps);
+            run_proved(Mode::Full, &rule.source, &rule.grid, rule.fields, steps);
         }));
         let b = rate(best(times, || {
             run_second(&rule, steps);
@@ -201,12 +193,12 @@ fn full(times: usize, steps: i64) {
 }
 
 /// A step's seconds: the difference of two runs by the difference of their steps.
-fn step_time(times: usize, quiet: bool, source: &str, grid: &[i32], few: i64, many: i64) -> f64 {
+fn step_time(times: usize, mode: Mode, source: &str, grid: &[i32], few: i64, many: i64) -> f64 {
     let short = best(times, || {
-        run_proved(quiet, source, grid, 1, few);
+        run_proved(mode, source, grid, 1, few);
     });
     let long = best(times, || {
-        run_proved(quiet, source, grid, 1, many);
+        run_proved(mode, source, grid, 1, many);
     });
     (long - short) / (many - few) as f64
 }
@@ -228,11 +220,12 @@ fn quiet(times: usize) {
     for (name, source, grid, many) in table {
         let few = if many == 1_001 { 11 } else { many };
         assert!(
-            run_proved(true, source, grid, 1, few) == run_proved(false, source, grid, 1, few),
+            run_proved(Mode::Quiet, source, grid, 1, few)
+                == run_proved(Mode::Full, source, grid, 1, few),
             "{name}: the quiet run differs"
         );
-        let q = step_time(times, true, source, grid, 1, many);
-        let f = step_time(times, false, source, grid, 1, many.min(21));
+        let q = step_time(times, Mode::Quiet, source, grid, 1, many);
+        let f = step_time(times, Mode::Full, source, grid, 1, many.min(21));
         println!(
             "| {name} | {:.3} | {:.1} | {:.3} = 1/{:.0} |",
             q * 1e3,
@@ -254,8 +247,7 @@ fn on_side(side: usize, times: usize, steps: i64) -> [f64; 3] {
     let proved = best(times, || {
         for _ in 0..runs {
             let mut left = grid.clone();
-            let report = proved::run(false, LIFE.as_bytes(), &sizes, &mut left, &mut rooms, steps);
-            assert_eq!(report[0], 0);
+            proved::run(Mode::Full, LIFE, &sizes, &mut left, &mut rooms, steps);
         }
     });
     let second = best(times, || {
@@ -306,8 +298,7 @@ fn on_tokens(tokens: usize, times: usize) -> [f64; 2] {
     let again = 200;
     let proved = best(times, || {
         for _ in 0..again {
-            let report = proved::run(false, source.as_bytes(), &[1], &mut [0], &mut rooms, 0);
-            assert_eq!(report[0], 0);
+            proved::run(Mode::Full, &source, &[1], &mut [0], &mut rooms, 0);
         }
     });
     let second = best(times, || {

@@ -32,8 +32,8 @@ use Rattle.admission.specs.Admitting.{Asked, InFields, request-of, Lists
 
 -- ---- one refusal after the other
 
-abbrev first-of : Bool → Bool → Bool → ℕ
-first-of a b c = if not a then 20 else if not b then 21 else if not c then 22 else 0
+abbrev first-refusal : Bool → Bool → Bool → ℕ
+first-refusal a b c = if not a then 20 else if not b then 21 else if not c then 22 else 0
 
 abbrev tried : Bool → Bool → Bool → Refusal → Refusal → Refusal
 tried a b c far out =
@@ -47,13 +47,13 @@ admission-is : (p : Program) (q : Request) → admission p q ≡ tried (good-siz
 unfolding admission
 admission-is p q = refl
 
-tried-first : (a b c : Bool) (far out : Refusal) (n : ℕ) → n ≡ first-of a b c → (n ≡ 0 → ⊥) → refusal n 0 ≡ tried a b c far out
+tried-first : (a b c : Bool) (far out : Refusal) (n : ℕ) → n ≡ first-refusal a b c → (n ≡ 0 → ⊥) → refusal n 0 ≡ tried a b c far out
 tried-first false b c far out n e z = λ i. refusal (e i) 0
 tried-first true false c far out n e z = λ i. refusal (e i) 0
 tried-first true true false far out n e z = λ i. refusal (e i) 0
 tried-first true true true far out n e z = absurd (z e)
 
-tried-rest : (a b c : Bool) (far out : Refusal) (n : ℕ) → n ≡ first-of a b c → n ≡ 0 → tried a b c far out ≡ (if not (eqb (far .number) 0) then far else out)
+tried-rest : (a b c : Bool) (far out : Refusal) (n : ℕ) → n ≡ first-refusal a b c → n ≡ 0 → tried a b c far out ≡ (if not (eqb (far .number) 0) then far else out)
 tried-rest false b c far out n e z = absurd (omega arith)
 tried-rest true false c far out n e z = absurd (omega arith)
 tried-rest true true false far out n e z = absurd (omega arith)
@@ -130,7 +130,7 @@ pub few : {n : ℕ} {rule : Rule} {sizes : List ℕ} {entries : ℕ} → Sized n
 few x s = omega (arith, s .entries, mul-le-mul (s .cells) (x .fields))
 
 module _ {words : List ℕ} {rule : Rule} {sizes : List ℕ} (grid : List ℤ) {scratch marks : ℕ} {start steps : ℤ} {n : ℕ} (asked : Asked rule sizes (length grid) scratch marks start steps n) where
-  number-is : (p : Program) → Holds words rule p → n ≡ first-of (good-sizes p sizes) (good-rooms p (request-of sizes grid scratch marks start steps)) (good-times start steps)
+  number-is : (p : Program) → Holds words rule p → n ≡ first-refusal (good-sizes p sizes) (good-rooms p (request-of sizes grid scratch marks start steps)) (good-times start steps)
   number-is p h = asked .says p (h .dims) (held-fields p h) (request-of sizes grid scratch marks start steps) refl refl refl refl refl refl
 
   pub asked-refused : (n ≡ 0 → ⊥) → {r : Admitted} → (r .number ≡ n) × (r .place ≡ 0) → Admits words rule sizes grid scratch marks start steps r

@@ -217,14 +217,14 @@ good-total (negsuc a) b e = never e
 -- ---- the request
 
 -- the first of 20 to 22, by the three tests
-abbrev pub first-of : Bool → Bool → Bool → ℕ
-first-of sizes rooms times = if not sizes then 20 else if not rooms then 21 else if not times then 22 else 0
+abbrev pub first-refusal : Bool → Bool → Bool → ℕ
+first-refusal sizes rooms times = if not sizes then 20 else if not rooms then 21 else if not times then 22 else 0
 
 -- the sizes are right, for so many dimensions
 unfoldable pub sizes-of : ℕ → List ℕ → Bool
 sizes-of dims sizes = eqb (length sizes) dims && all-between 1 4096 sizes && leb (product sizes) 1048576
 
-all-good : (s r t : Bool) → first-of s r t ≡ 0 → (s ≡ true) × (r ≡ true) × (t ≡ true)
+all-good : (s r t : Bool) → first-refusal s r t ≡ 0 → (s ≡ true) × (r ≡ true) × (t ≡ true)
 all-good true true true e = (refl, refl, refl)
 all-good true true false e = absurd (omega arith)
 all-good true false t e = absurd (omega arith)
@@ -261,14 +261,14 @@ module _ (rule : Rule) (sizes : List ℕ) (entries scratch marks : ℕ) (start s
       let three = all-three (eqb entries (product sizes * rule .fields)) (eqb scratch entries) (eqb marks (product sizes)) e in
       (eqb-true entries (product sizes * rule .fields) (three .0), eqb-true scratch entries (three .1), eqb-true marks (product sizes) (three .2))
 
-  module _ {number : ℕ} (e : number ≡ first-of (sizes-of (rule .dims) sizes) (rooms-of (product sizes) (rule .fields) entries scratch marks) (good-times start steps)) where
+  module _ {number : ℕ} (e : number ≡ first-refusal (sizes-of (rule .dims) sizes) (rooms-of (product sizes) (rule .fields) entries scratch marks) (good-times start steps)) where
     tests : number ≡ 0
         → (sizes-of (rule .dims) sizes ≡ true) × (rooms-of (product sizes) (rule .fields) entries scratch marks ≡ true) × (good-times start steps ≡ true)
     tests z = all-good (sizes-of (rule .dims) sizes) (rooms-of (product sizes) (rule .fields) entries scratch marks) (good-times start steps) (sym e ∙ z)
 
     said : (p : Program) → p .dims ≡ rule .dims → length (p .fields) ≡ rule .fields
         → (q : Request) → q .sizes ≡ sizes → length (q .grid) ≡ entries → q .scratch ≡ scratch → q .marks ≡ marks → q .start ≡ start → q .steps ≡ steps
-        → number ≡ first-of (good-sizes p (q .sizes)) (good-rooms p q) (good-times (q .start) (q .steps))
+        → number ≡ first-refusal (good-sizes p (q .sizes)) (good-rooms p q) (good-times (q .start) (q .steps))
     unfolding good-sizes good-rooms sizes-of rooms-of
     said p ed ef q es eg ec em et en = rw (es, ed, ef, eg, ec, em, et, en) e
 

@@ -7,5 +7,4 @@ pub mod Shape
 pub mod ShapeLaws
 pub mod Grid
 pub mod GridLaws
-pub mod Marking
 pub mod Going

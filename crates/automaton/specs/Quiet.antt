@@ -5,7 +5,7 @@ use native.Mathlib.Omega.{arith}
 use mathlib.Core.Path.{_≡_, refl, sym, ap, ap₂, _∙_, subst}
 use mathlib.Core.Logic.{_⊎_, inl, inr}
 use mathlib.Core.Bool.{Bool, true, false, _||_, cond, true≢false}
-use mathlib.Core.List.{List, [], _∷_, List·Memᴰ, List·Memᴰ·cases-cons, List·Memᴰ·not-nil}
+use mathlib.Core.List.{List, [], _∷_, List·Memᴰ, List·Memᴰ·head, List·Memᴰ·tail, List·Memᴰ·cases-cons, List·Memᴰ·not-nil}
 use Rattle.automaton.specs.Listed.{last-or-below, getD-list-of}
 use Rattle.automaton.specs.Step.{Outcome, state, fault, Fault, no-fault, fault-at, Automaton, fault-of, state-or, or-else, first-fault, how-many, any-of, marks-of, non-zero, marked, Step, Quiet, one-more, one-more-quiet, every-cell, grid-after, up-to, step-of, quiet-outcome, quiet-step, changed, open-after, run-of, open-count, full-count, quiet-run}
 
@@ -119,6 +119,19 @@ any-of-false p (y ∷ ys) e x m = go (any-of-false p ys (or-false (p y) (any-of 
     go : (List·Memᴰ x ys → p x ≡ false) → (x ≡ y) ⊎ List·Memᴰ x ys → p x ≡ false
     go rest (inl q) = ap p q ∙ or-false (p y) (any-of p ys) e .0
     go rest (inr q) = rest q
+
+or-true : (a b : Bool) → (a || b) ≡ true → (a ≡ true) ⊎ (b ≡ true)
+or-true true b e = inl refl
+or-true false b e = inr e
+
+pub any-of-true : (p : ℕ → Bool) (xs : List ℕ) → any-of p xs ≡ true → (x : ℕ) × List·Memᴰ x xs × (p x ≡ true)
+unfolding any-of
+any-of-true p [] e = absurd (true≢false (sym e))
+any-of-true p (y ∷ ys) e = go (any-of-true p ys) (or-true (p y) (any-of p ys) e)
+  where
+    go : (any-of p ys ≡ true → (x : ℕ) × List·Memᴰ x ys × (p x ≡ true)) → (p y ≡ true) ⊎ (any-of p ys ≡ true) → (x : ℕ) × List·Memᴰ x (y ∷ ys) × (p x ≡ true)
+    go rest (inl q) = (y, List·Memᴰ·head refl, q)
+    go rest (inr q) = let r = rest q in (r .0, List·Memᴰ·tail (r .1), r .2)
 
 -- ---- the laws of the definitions' clauses
 

@@ -11,7 +11,7 @@ use borrow.Author.Tests.{eq-eqb, ne-eqb, eqb-true, eqb-false, ltb-true, ltb-fals
 use Rattle.value.specs.Choice.{if_then_else_}
 use Rattle.names.specs.Names.{most-names}
 use Rattle.cellang.specs.declared.Name.{Name}
-use Rattle.cellang.specs.Rows.{no-name, counted-on, count-below, count-of, is-at, found-on, FindsPlace}
+use Rattle.cellang.specs.Rows.{no-name, counted-on, count-below, record-count, is-at, found-on, FindsPlace}
 
 -- ---- one record
 
@@ -43,8 +43,8 @@ pub count-few : (names : List Name) (k : ℕ) → count-below names k ≤ k
 count-few names zero = omega arith
 count-few names (suc k) = step-count (eqb (getD names k no-name .kind) 0) (count-below names k) k (count-few names k)
 
-pub count-is : (names : List Name) → count-below names 256 ≡ count-of names
-unfolding count-of
+pub count-is : (names : List Name) → count-below names 256 ≡ record-count names
+unfolding record-count
 count-is names = refl
 
 -- ---- the search for a place

@@ -15,7 +15,7 @@ use Rattle.stepper.specs.Report.{Counting}
 use Rattle.runner.specs.declared.Report.{Report}
 use Rattle.runner.specs.Stepwise.{told}
 use Rattle.runner.specs.Sourcewise.{RunsSource}
-use Rattle.cellang.specs.Told.{over, reply-entries, TellsCheck, report-entries, numbers-of, run-of, TellsRun}
+use Rattle.cellang.specs.Told.{over, reply-entries, TellsCheck, report-entries, numbers-of, told-run, TellsRun}
 
 -- ---- entries
 

@@ -68,8 +68,8 @@ count-below names zero = 0
 count-below names (suc k) = counted-on (count-below names k) (getD names k no-name)
 
 -- how many records are declared
-unfoldable pub count-of : List Name → ℕ
-count-of names = count-below names most-names
+unfoldable pub record-count : List Name → ℕ
+record-count names = count-below names most-names
 
 -- a name is declared at a place
 abbrev pub is-at : ℕ → Name → Bool

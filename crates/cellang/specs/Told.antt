@@ -42,11 +42,11 @@ abbrev pub numbers-of : report.Report → Report
 numbers-of said = record { number = said .number; place = said .place; cell = said .cell; steps = said .steps; count = said .count }
 
 -- the report of a run by the definitions, with the lengths of the memory that is lent
-abbrev pub run-of : Counting → (source ws ns sizes : List ℕ) (grid scratch : List ℤ) (marks : List ℕ) (start steps : ℤ) → report.Report
-run-of counting source ws ns sizes grid scratch marks start steps =
+abbrev pub told-run : Counting → (source ws ns sizes : List ℕ) (grid scratch : List ℤ) (marks : List ℕ) (start steps : ℤ) → report.Report
+told-run counting source ws ns sizes grid scratch marks start steps =
     run-source counting (rooms-fit (length ws) (length ns)) source (request-of sizes grid (length scratch) (length marks) start steps)
 
 pub record TellsRun (counting : Counting) (source ws ns sizes : List ℕ) (grid scratch : List ℤ) (marks : List ℕ) (start steps : ℤ) (entries : List ℕ) (r : ℕ) (ws′ ns′ : List ℕ) (grid′ scratch′ : List ℤ) (marks′ entries′ : List ℕ) : Type 0 where
-  pub number : r ≡ run-of counting source ws ns sizes grid scratch marks start steps .number
-  pub told : entries′ ≡ over (report-entries (run-of counting source ws ns sizes grid scratch marks start steps)) entries
-  pub runs : RunsSource counting source ws ns sizes grid scratch marks start steps (numbers-of (run-of counting source ws ns sizes grid scratch marks start steps)) ws′ ns′ grid′ scratch′ marks′
+  pub number : r ≡ told-run counting source ws ns sizes grid scratch marks start steps .number
+  pub told : entries′ ≡ over (report-entries (told-run counting source ws ns sizes grid scratch marks start steps)) entries
+  pub runs : RunsSource counting source ws ns sizes grid scratch marks start steps (numbers-of (told-run counting source ws ns sizes grid scratch marks start steps)) ws′ ns′ grid′ scratch′ marks′

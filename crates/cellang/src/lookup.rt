@@ -3,7 +3,7 @@ ghost use mathlib.Core.Path.{_≡_};
 ghost use Prim.Native.Nat.{_<_};
 ghost use lib.ListN.{getD};
 ghost use Rattle.names.specs.Names.{most-names};
-ghost use Rattle.cellang.specs.Rows.{no-name, counted-on, found-on, count-of, FindsPlace};
+ghost use Rattle.cellang.specs.Rows.{no-name, counted-on, found-on, record-count, FindsPlace};
 use crate::Name;
 
 // The record k, zero past the end.
@@ -59,7 +59,7 @@ fn found(n: u32, r: Name, place: u32, k: u32) -> u32
 
 // How many names are declared.
 pub fn count(names: &[Name]) -> u32
-    ensures { λ r. ⌜ r ≡ count-of (now (names .entry)) ⌝ }
+    ensures { λ r. ⌜ r ≡ record-count (now (names .entry)) ⌝ }
 {
     let mut n: u32 = 0;
     let mut k: u32 = 0;

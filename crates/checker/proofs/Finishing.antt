@@ -13,7 +13,7 @@ use Rattle.program.specs.Standing.{Stands}
 use Rattle.grammar.specs.Reader.{ok}
 use Rattle.grammar.specs.Expressions.{Cell}
 use Rattle.grammar.specs.Statements.{read-block}
-use Rattle.grammar.specs.Source.{Declared, most-open, finish}
+use Rattle.grammar.specs.Source.{Declared, most-open, finish, accepted-as}
 use Rattle.reader.specs.Reading.{input, state, anything, Gives, refusal}
 use Rattle.reader.specs.declared.Reading.{Reading}
 use Rattle.reader.specs.declared.Read.{Read}
@@ -23,7 +23,7 @@ use Rattle.names.specs.Names.{most-names}
 use Rattle.expressions.specs.Promises.{cell-of}
 use Rattle.declaration.specs.Fields.{Declares}
 use Rattle.declaration.specs.declared.CellRead.{CellRead}
-use Rattle.checker.specs.Promises.{Finished, Ends, Few, Reaches, accepted-as}
+use Rattle.checker.specs.Promises.{Finished, Ends, Few, Reaches}
 
 -- what is left where the source ends
 pub end-of : (source ns : List ℕ) {ws : List ℕ} {scan : Scan} {s : Reading} (d : Declared) (b : Block) → Finished ws scan s

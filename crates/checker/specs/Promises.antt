@@ -13,7 +13,7 @@ use Rattle.grammar.specs.Complaint.{complaint}
 use Rattle.grammar.specs.Reader.{Input, State, ok, unit, token-of}
 use Rattle.grammar.specs.Constants.{read-constants}
 use Rattle.grammar.specs.Statements.{read-block}
-use Rattle.grammar.specs.Source.{Accepted, Declared, read-cell, most-open, has-kind, sized, finish, read-program, start-state}
+use Rattle.grammar.specs.Source.{Accepted, Declared, read-cell, most-open, has-kind, sized, accepted-as, finish, read-program, input-of, start-state}
 use Rattle.grammar.specs.Checking.{most-bytes, rooms-fit, Outcome, turned-away, refused, accepted, read-source, check, words-after, names-after}
 use Rattle.reader.specs.Reading.{input, state, Gives}
 use Rattle.reader.specs.declared.Reading.{Reading}
@@ -53,15 +53,6 @@ pub record Reaches (r : Read) : Type 0 where
   pub few : Few r
 
 -- ---- what reading passes
-
--- what is left of a source that is read
-abbrev pub accepted-as : Input → Declared → Block → State → Accepted
-accepted-as input d b s =
-    record {
-      program = record { dims = d .cell .dims; fields = d .fields; slots = s .count; body = b; timed = has-kind (kind .time) (s .words) (input .scan .count) };
-      words = s .words;
-      names = sized (s .words) (s .names) (s .count);
-    }
 
 -- the states that reading passes from a start to the end of an accepted source: behind the constants, behind the cell declaration, and at
 -- the end; and what was read between
@@ -103,9 +94,6 @@ pub record Checks (source ws ns : List ℕ) (number place : ℕ) (ws′ ns′ : 
   pub reply : complaint number place ≡ check (rooms-fit (length ws) (length ns)) source
   pub words : ws′ ≡ words-after (rooms-fit (length ws) (length ns)) source ws
   pub names : ns′ ≡ names-after (rooms-fit (length ws) (length ns)) source ns
-
-abbrev pub input-of : List ℕ → Input
-input-of source = record { source = source; scan = scan-of (scan source) }
 
 -- the states that reading an accepted source passes
 abbrev pub Trace : List ℕ → Type 0

@@ -6,20 +6,20 @@ ghost use Rattle.token.specs.Scanning.{most-tokens, table-words};
 ghost use Rattle.names.specs.Names.{name-words};
 ghost use Rattle.grammar.specs.Checking.{most-bytes};
 ghost use Rattle.checker.specs.Promises.{Ends, Programs, Checks, Unloaded, Loads};
-use crate::clear;
 use crate::has_kind;
 use crate::size_arrays;
 use constants::read_constants;
 use declaration::read_cell;
 use expressions::Cell;
-use program::kind;
 use program::token_at;
 use reader::Read;
 use reader::Reading;
 use reader::refuse;
 use statements::read_block;
 use token::Scan;
+use token::kind;
 use token::scan_source;
+use token::scanning::clear;
 
 // A reply: its number, 0 if the source is accepted, and its place.
 pub struct Reply {

@@ -48,14 +48,3 @@ pub fn size_arrays(words: &[u32], names: &mut [u32], count: usize)
         i += 1;
     }
 }
-
-// Zeros throughout.
-pub fn clear(words: &mut [u32])
-    ensures { λ _. ⌜ now (words .exit) ≡ replicate (length (now (words .entry))) 0 ⌝ }
-{
-    let mut i: usize = 0;
-    while i < words.len() {
-        words[i] = 0;
-        i += 1;
-    }
-}

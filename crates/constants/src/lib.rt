@@ -11,7 +11,6 @@ ghost use Rattle.constants.specs.Fitting.{fits-of};
 use names::Found;
 use names::entry_in;
 use names::find_name;
-use program::kind;
 use program::put_word;
 use program::token_at;
 use reader::Read;
@@ -27,6 +26,7 @@ use reader::opening;
 use reader::refuse;
 use reader::use_name;
 use token::Scan;
+use token::kind;
 use value::Value;
 use value::Worked;
 

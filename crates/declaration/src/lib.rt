@@ -13,7 +13,6 @@ ghost use Rattle.reader.specs.Reading.{Ready, Reads};
 ghost use Rattle.declaration.specs.Fields.{full-of, Counted, Ranges, Fields, Ends, Starts, Dims, Fielded, Declares, Ranged};
 use constants::read_constant;
 use constants::read_range;
-use program::kind;
 use program::put_word;
 use program::token_at;
 use reader::Read;
@@ -28,6 +27,7 @@ use reader::moved;
 use reader::refuse;
 use token::Scan;
 use token::Token;
+use token::kind;
 
 // ---- a group of fields
 

@@ -13,13 +13,14 @@ use Rattle.value.specs.Choice.{if_then_else_}
 use Rattle.value.specs.Worked.{value}
 use Rattle.value.specs.declared.Value.{Value}
 use Rattle.program.specs.Syntax.{Expr, element, unary, binary}
-use Rattle.evaluator.specs.Operators.{Worth, worth, failed, placed, apply-unary, apply-binary}
+use Rattle.evaluator.specs.Operators.{Worth, worth, failed, placed, apply-unary, compare, apply-binary}
 use Rattle.evaluator.specs.Evaluation.{Env, element-at, eval}
 use Rattle.evaluator.specs.Stands.{Table, array-in, is-sign, is-unary, Decoded, parsed, nothing, and-then, decode-expression, decode-chain, decode-operand, decode-primary, decode-name, decode-bracket}
 use Rattle.evaluator.specs.Working.{told-of, Onward, primary-from, EvalsExpression, EvalsOperand, EvalsPrimary, EvalsName, EvalsPlain, EvalsBracket, Leaf, Quick, Joins}
 use Rattle.evaluator.specs.declared.Told.{Told}
 use Rattle.evaluator.specs.declared.Told.the-variants.{Found, Failed}
-use Rattle.evaluator.proofs.OperatorLaws.{level-small, level-some}
+use Rattle.evaluator.proofs.OperatorLaws.{level-some, told-compare}
+use Rattle.token.proofs.Levels.{level-few}
 use Rattle.evaluator.proofs.PrimaryLaws.{never, as-value}
 
 -- ---- what an answer says of the worth
@@ -57,7 +58,7 @@ module _ (t : Table) (at next : ℕ) (e : Expr) where
           → (f : ℕ) × (e₀ : Expr) × (decode-primary f t (at + 1) ≡ parsed e₀ next) × (e ≡ unary (t .kind at) (t .place at) e₀)
       go (e₀, m, p, h) = let u : m ≡ next = cc in (f, e₀, p ∙ ap (parsed e₀) u, cc)
 
-  was-bare : is-unary (t .kind at) ≡ false → (fuel : ℕ) → decode-operand fuel t at ≡ parsed e next → (f : ℕ) × (decode-primary f t at ≡ parsed e next)
+  pub was-bare : is-unary (t .kind at) ≡ false → (fuel : ℕ) → decode-operand fuel t at ≡ parsed e next → (f : ℕ) × (decode-primary f t at ≡ parsed e next)
   unfolding decode-operand
   was-bare k zero q = never q
   was-bare k (suc f) q = (f, simp k at q)
@@ -91,7 +92,7 @@ module _ (t : Table) (at next : ℕ) (e : Expr) where
   was-paren k zero q = never q
   was-paren k (suc f) q = (f, simp k at q)
 
-  was-name : t .kind at ≡ 1 → (fuel : ℕ) → decode-primary fuel t at ≡ parsed e next → (f : ℕ) × (decode-name f t at ≡ parsed e next)
+  pub was-name : t .kind at ≡ 1 → (fuel : ℕ) → decode-primary fuel t at ≡ parsed e next → (f : ℕ) × (decode-name f t at ≡ parsed e next)
   unfolding decode-primary
   was-name k zero q = never q
   was-name k (suc f) q = (f, simp k at q)
@@ -509,15 +510,15 @@ module _ (t : Table) (env : Env) (vars vs : List ℤ) where
           go : Pending left op own last here → level ≡ 5 → (t .kind at ≡ 40 → ⊥) → (t .kind at ≡ 1 → t .word2 at ≡ 2 → ⊥) → EvalsPrimary t env vars vs n at r
           go (first o w e) five np na =
               subst (λ (i : ℕ). EvalsPrimary t env vars vs n i r) e (x .only (λ z. np (ap (t .kind) (sym e) ∙ z)) (λ y z. na (ap (t .kind) (sym e) ∙ y) (ap (t .word2) (sym e) ∙ z)))
-          go (behind-operator ch s ek eo l) five np na = absurd (let m = level-small op in omega (arith, m, eo, l, five))
+          go (behind-operator ch s ek eo l) five np na = absurd (let m = level-few op in omega (arith, m, eo, l, five))
 
       module _ {b : Value} {next k tight : ℕ} (h : r ≡ Found b next) (ek : k ≡ t .kind next) (et : tight ≡ level-of k) where
         pub quick-tighter : {a c : ℕ} → own < tight → Quick t env vars vs n at level (Failed a c)
         quick-tighter {a} {c} u = record { found = λ v next e. lost n at e; only = λ five np na. absurd (go (p .pending) five) }
           where
             go : Pending left op own last here → level ≡ 5 → ⊥
-            go (first o w e) five = let m = level-small k in omega (arith, m, et, w, u)
-            go (behind-operator ch s eo ew l) five = let m = level-small op in omega (arith, m, ew, l, five)
+            go (first o w e) five = let m = level-few k in omega (arith, m, et, w, u)
+            go (behind-operator ch s eo ew l) five = let m = level-few op in omega (arith, m, ew, l, five)
 
         module _ (u : tight ≤ own) {o : Told} (j : Joins (t .place last) op (left .n) b next o) where
           pub quick-fault : {a c a′ c′ : ℕ} → o ≡ Failed a c → Quick t env vars vs n at level (Failed a′ c′)
@@ -525,7 +526,7 @@ module _ (t : Table) (env : Env) (vars vs : List ℤ) where
             where
               go : Pending left op own last here → level ≡ 5 → ⊥
               go (first z w e) five = lost n at (sym g ∙ j .alone z)
-              go (behind-operator ch s eo ew l) five = let m = level-small op in omega (arith, m, ew, l, five)
+              go (behind-operator ch s eo ew l) five = let m = level-few op in omega (arith, m, ew, l, five)
 
           module _ {c : Value} {m : ℕ} (g : o ≡ Found c m) where
             joined-chain : Pending left op own last here → Chain n at level c m
@@ -551,7 +552,7 @@ module _ (t : Table) (env : Env) (vars vs : List ℤ) where
                 go (first z w e) five np na =
                     subst (EvalsPrimary t env vars vs n at) (h ∙ sym (j .alone z) ∙ g)
                     (subst (λ (i : ℕ). EvalsPrimary t env vars vs n i r) e (x .only (λ z. np (ap (t .kind) (sym e) ∙ z)) (λ y z. na (ap (t .kind) (sym e) ∙ y) (ap (t .word2) (sym e) ∙ z))))
-                go (behind-operator ch s eo ew l) five np na = absurd (let q = level-small op in omega (arith, q, ew, l, five))
+                go (behind-operator ch s eo ew l) five np na = absurd (let q = level-few op in omega (arith, q, ew, l, five))
 
             pub quick-again : level ≤ tight → next < n → Underway c k tight m (m + 1)
             quick-again v l = let e = same-next (p .pending) in record { within = omega arith; pending = behind-operator (joined-chain (p .pending)) refl kind-there et v }
@@ -565,3 +566,31 @@ joined-none place op a b next h = record { alone = λ z. refl; applied = λ z. a
 
 pub joined-some : (place op : ℕ) (a : ℤ) (b : Value) (next : ℕ) {r : Told} → (op ≡ 0 → ⊥) → r ≡ told-of (placed place (apply-binary op a (b .n))) next → Joins place op a b next r
 joined-some place op a b next h e = record { alone = λ z. absurd (h z); applied = λ z. e }
+
+-- where a short way is left, nothing is said
+pub simple-left : (t : Table) (env : Env) (vars vs : List ℤ) (n at : ℕ) {a c : ℕ} → Quick t env vars vs n at 1 (Failed a c)
+simple-left t env vars vs n at = record { found = λ v next e. lost t env vars vs n at e; only = λ five np na. absurd (omega arith) }
+
+-- ---- expressions of one or two operands
+
+module _ (t : Table) (env : Env) (vars vs : List ℤ) (n at : ℕ) (l : at ≤ n) {a : Value} {next level : ℕ} (x : Leaf t env vars vs n at (Found a next)) (el : level ≡ level-of (t .kind next)) where
+  no-tighter : level ≤ 4
+  no-tighter = let m = level-few (t .kind next) in omega arith
+
+  pub simple-alone : level ≡ 0 → Quick t env vars vs n at 1 (Found a next)
+  simple-alone z =
+      quick-end t env vars vs n at 1 (omega arith) (begun t env vars vs n at 1 {left = a} {last = 0} l) x refl refl el no-tighter (joined-none (t .place 0) 0 (a .n) a next refl) refl (omega arith)
+
+  module _ (some : 1 ≤ level) (few : level ≤ 2) (within : next < n) {op : ℕ} (eo : op ≡ t .kind next) where
+    op-level : level ≡ level-of op
+    op-level = el ∙ ap level-of (sym eo)
+
+    again : Underway t env vars vs n at 1 a op level next (next + 1)
+    again =
+        quick-again t env vars vs n at 1 (omega arith) (begun t env vars vs n at 1 {left = a} {last = 0} l) x refl eo op-level no-tighter (joined-none (t .place 0) 0 (a .n) a next refl) refl some within
+
+    pub simple-related : {b v : Value} {past tight : ℕ} → Leaf t env vars vs n (next + 1) (Found b past) → tight ≡ level-of (t .kind past) → tight ≡ 0 → v ≡ compare op (a .n) (b .n)
+        → Quick t env vars vs n at 1 (Found v past)
+    simple-related {b} {v} {past} y et z e =
+        quick-end t env vars vs n at 1 (omega arith) again y refl refl et (omega arith)
+        (joined-some (t .place next) op (a .n) b past (λ h. let q = level-some op {level = 1} op-level (omega arith) some in omega arith) (told-compare op (omega (arith, op-level)) (a .n) (b .n) (t .place next) past e)) refl (omega arith)

@@ -3,4 +3,5 @@ pub mod TableLaws
 pub mod OperatorLaws
 pub mod NeighbourLaws
 pub mod PrimaryLaws
+pub mod NotedLaws
 pub mod ExpressionLaws

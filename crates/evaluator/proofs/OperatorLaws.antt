@@ -1,33 +1,24 @@
 -- The laws of operators.
 use Prim.Native.Nat.{ℕ, zero, suc, _+_, _≤_, _<_}
 use native.Mathlib.Omega.{arith}
-use mathlib.Core.Path.{_≡_, refl, sym, _∙_}
+use mathlib.Core.Path.{_≡_, refl, sym, ap, _∙_, subst}
 use mathlib.Core.Bool.{Bool, true, false, _||_}
 use lib.Dec.{eqb}
+use lib.IntN.{ℤ}
 use borrow.Author.Tests.{ne-eqb}
 use Rattle.token.specs.Kind.{level-of}
 use Rattle.value.specs.Choice.{if_then_else_}
+use Rattle.value.specs.Worked.{add-of, equal-of}
 use Rattle.value.specs.declared.Value.{Value}
 use Rattle.value.specs.declared.Worked.{Worked}
 use Rattle.value.specs.declared.Worked.the-variants.{Number, OutOfRange, ZeroDivisor}
-use Rattle.evaluator.specs.Operators.{placed}
+use Rattle.evaluator.specs.Operators.{placed, compare, apply-binary}
 use Rattle.evaluator.specs.Stands.{is-sign, is-unary}
 use Rattle.evaluator.specs.Working.{told-of, primary-from}
 use Rattle.evaluator.specs.declared.Told.{Told}
 use Rattle.evaluator.specs.declared.Told.the-variants.{Found, Failed}
 
 -- ---- kinds
-
-pub level-small : (k : ℕ) → level-of k ≤ 4
-unfolding level-of
-level-small k = go (eqb k 42 || eqb k 47 || eqb k 37) (eqb k 43 || eqb k 45) (eqb k 61 || eqb k 132 || eqb k 60 || eqb k 62 || eqb k 130 || eqb k 131) (eqb k 38 || eqb k 124)
-  where
-    go : (a b d e : Bool) → (if a then 4 else if b then 3 else if d then 2 else if e then 1 else 0) ≤ 4
-    go true b d e = omega arith
-    go false true d e = omega arith
-    go false false true e = omega arith
-    go false false false true = omega arith
-    go false false false false = omega arith
 
 -- what has a level is some token
 pub level-some : (k : ℕ) {own level : ℕ} → own ≡ level-of k → 1 ≤ level → level ≤ own → 1 ≤ k
@@ -85,5 +76,29 @@ told-zero place next e q = rw (e, q) refl
 
 pub told-same : {w w′ : Worked} {r : Told} (place next : ℕ) → w ≡ w′ → r ≡ told-of (placed place w) next → r ≡ told-of (placed place w′) next
 told-same place next e q = rw e at q
+
+-- two operators by themselves
+
+pub told-plus : (op : ℕ) (a b : ℤ) {w : Worked} {v : Value} (place next : ℕ) → op ≡ 43 → w ≡ add-of a b → w ≡ Number v → Found v next ≡ told-of (placed place (apply-binary op a b)) next
+unfolding apply-binary
+told-plus op a b place next h e q = rw h (told-number place next (sym e ∙ q))
+
+pub told-equal : (op : ℕ) (a b : ℤ) {v : Value} (place next : ℕ) → op ≡ 61 → v ≡ equal-of a b → Found v next ≡ told-of (placed place (apply-binary op a b)) next
+unfolding apply-binary compare
+told-equal op a b place next h e = rw h (told-number place next (ap Number (sym e)))
+
+-- relations and logic
+
+module _ (op : ℕ) (l : level-of op ≤ 2) where
+  no-operator : (k : ℕ) → 3 ≤ level-of k → op ≡ k → ⊥
+  no-operator k h e = omega (arith, subst (λ (i : ℕ). level-of i ≤ 2) e l)
+
+  pub told-compare : (a b : ℤ) {v : Value} (place next : ℕ) → v ≡ compare op a b → Found v next ≡ told-of (placed place (apply-binary op a b)) next
+  unfolding apply-binary level-of
+  told-compare a b {v} place next e =
+      let n : apply-binary op a b ≡ Number (compare op a b) =
+      simp (ne-eqb op 43 (no-operator 43 (omega arith)), ne-eqb op 45 (no-operator 45 (omega arith)), ne-eqb op 42 (no-operator 42 (omega arith)), ne-eqb op 47 (no-operator 47 (omega arith)), ne-eqb op 37 (no-operator 37 (omega arith)))
+      in
+      told-number place next (n ∙ ap Number (sym e))
 
 pub ruleset OperatorWays = (unary-not, unary-sign, told-number, told-range, told-zero, told-same)

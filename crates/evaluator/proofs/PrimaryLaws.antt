@@ -30,10 +30,10 @@ use Rattle.evaluator.proofs.NeighbourLaws.{encoded-ahead, encoded-back}
 pub room : (c p f g : ℕ) → c < p → p * f ≡ g → c * f + f ≤ g
 room c p f g l e = omega (arith, mul-le-mul-right f l)
 
-pub ready-inside : {words sizes place : List ℕ} {grid : List ℤ} {site : Site} {depth : ℕ} → Ready words sizes place grid site depth → Inside sizes place
+pub ready-inside : {leaves words sizes place : List ℕ} {grid : List ℤ} {site : Site} {depth : ℕ} → Ready leaves words sizes place grid site depth → Inside sizes place
 ready-inside {sizes = sizes} {site = site} r = rw (r .own) (coordinates-inside sizes (site .cell) (r .positive) (r .cell))
 
-pub neighbour-is : {words sizes place : List ℕ} {grid : List ℤ} {site : Site} {depth : ℕ} → Ready words sizes place grid site depth
+pub neighbour-is : {leaves words sizes place : List ℕ} {grid : List ℤ} {site : Site} {depth : ℕ} → Ready leaves words sizes place grid site depth
     → (ds : List ℤ) (c w : ℕ) {v : Value} → c ≡ cell-number sizes (shift sizes place ds) → v ≡ value (entry (cell-of (site .fields) grid c) w)
     → v ≡ value (entry (cell-of (site .fields) grid (neighbour sizes (site .cell) ds)) w)
 unfolding neighbour
@@ -46,7 +46,7 @@ unfolding offsets
 offsets-zeros [] vs = refl
 offsets-zeros (n ∷ ns) vs = ap (λ (l : List ℤ). pos 0 ∷ l) (offsets-zeros ns vs)
 
-pub own-is : {words sizes place : List ℕ} {grid : List ℤ} {site : Site} {depth : ℕ} → Ready words sizes place grid site depth → (vs : List ℤ)
+pub own-is : {leaves words sizes place : List ℕ} {grid : List ℤ} {site : Site} {depth : ℕ} → Ready leaves words sizes place grid site depth → (vs : List ℤ)
     → neighbour sizes (site .cell) (offsets (length sizes) vs []) ≡ site .cell
 own-is {sizes = sizes} {site = site} r vs = ap (neighbour sizes (site .cell)) (offsets-zeros sizes vs) ∙ neighbour-zeros sizes (site .cell) (r .positive) (r .cell)
 

@@ -4,6 +4,7 @@ pub mod Evaluation
 pub mod Written
 -- What it is for a program to stand in the word table, and what the evaluators promise.
 pub mod Stands
+pub mod Leaves
 pub mod Working
 -- The written indices, as they stand in the word table.
 pub mod Listing

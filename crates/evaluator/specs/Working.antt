@@ -15,6 +15,7 @@ use Rattle.program.specs.Syntax.{Expr}
 use Rattle.evaluator.specs.Operators.{Worth, worth, failed, placed, apply-binary}
 use Rattle.evaluator.specs.Evaluation.{Env, eval}
 use Rattle.evaluator.specs.Stands.{Table, table-of, ranges-in, most-loops, refers, is-unary, parsed, decode-expression, decode-operand, decode-primary, decode-name, decode-bracket}
+use Rattle.evaluator.specs.Leaves.{Leaves}
 use Rattle.evaluator.specs.declared.Site.{Site}
 use Rattle.evaluator.specs.declared.Told.{Told}
 use Rattle.evaluator.specs.declared.Told.the-variants.{Found, Failed}
@@ -35,8 +36,8 @@ env-of words sizes grid site =
       look = λ ds. cell-of (site .fields) grid (neighbour sizes (site .cell) ds);
     }
 
--- what evaluating a cell asks of its numbers, with so many loops open; nothing is asked of what the table holds
-pub record Ready (words sizes place : List ℕ) (grid : List ℤ) (site : Site) (depth : ℕ) : Type 0 where
+-- what evaluating a cell asks of its numbers, with so many loops open; nothing is asked of what the word table holds, but the leaf table must be its own
+pub record Ready (leaves words sizes place : List ℕ) (grid : List ℤ) (site : Site) (depth : ℕ) : Type 0 where
   pub table : 4 * site .tokens ≤ length words
   pub tokens : site .tokens ≤ 4096
   pub base : site .base ≤ 4096
@@ -50,6 +51,7 @@ pub record Ready (words sizes place : List ℕ) (grid : List ℤ) (site : Site) 
   pub own : place ≡ coordinates sizes (site .cell)
   pub entries : product sizes * site .fields ≡ length grid
   pub loops : depth ≤ most-loops
+  pub noted : Leaves leaves words sizes (site .tokens) (site .fields) (site .slots)
 
 -- ---- answers
 
@@ -102,6 +104,10 @@ pub record Leaf (t : Table) (env : Env) (vars vs : List ℤ) (n at : ℕ) (r : T
   pub found : (v : Value) (next : ℕ) → r ≡ Found v next → EvalsOperand t env vars vs n at r
   -- where no parentheses and no array constant stand there, it is the primary
   pub only : (t .kind at ≡ kind .paren → ⊥) → (t .kind at ≡ kind .name → t .word2 at ≡ refers .array → ⊥) → EvalsPrimary t env vars vs n at r
+
+-- a value that is found is that of a leaf; else nothing is said
+pub record Noted (t : Table) (env : Env) (vars vs : List ℤ) (n at : ℕ) (r : Told) : Type 0 where
+  pub found : (v : Value) (next : ℕ) → r ≡ Found v next → Leaf t env vars vs n at r
 
 -- a value that is found is that of the expression at a position
 pub record Quick (t : Table) (env : Env) (vars vs : List ℤ) (n at level : ℕ) (r : Told) : Type 0 where

@@ -3,18 +3,21 @@ ghost use mathlib.Core.Path.{_≡_};
 ghost use Prim.Native.Nat.{_*_, _<_, _≤_, _%_};
 ghost use lib.ListN.{length, take};
 ghost use Rattle.evaluator.specs.Stands.{word-in};
-ghost use Rattle.evaluator.specs.Working.{site-table, env-of, Ready, primary-from, EvalsExpression, EvalsOperand, EvalsPrimary, EvalsBracket, Quick, Joins};
+ghost use Rattle.evaluator.specs.Working.{site-table, env-of, Ready, primary-from, EvalsExpression, EvalsOperand, EvalsPrimary, EvalsBracket, Leaf, Quick, Joins};
 use crate::Site;
 use crate::Told;
+use crate::noted::noted;
 use crate::operators::is_unary;
-use crate::operators::level_of;
 use crate::operators::operate;
 use crate::operators::operate_unary;
 use crate::primary::element;
 use crate::primary::leaf;
+use crate::table::leaf_word;
 use crate::table::word_at;
-use program::kind;
+use token::kind;
+use token::kind::level_of;
 use value::Value;
+use value::Worked;
 
 // The value behind an operator at a position, joined with the left one; the value itself, where there is no operator.
 fn joined(words: &[u32], n: usize, last: usize, op: u32, a: Value, b: Value, next: usize) -> Told
@@ -24,12 +27,67 @@ fn joined(words: &[u32], n: usize, last: usize, op: u32, a: Value, b: Value, nex
     if op == 0 {
         return Told::Found(b, next);
     }
+    if op == kind::PLUS {
+        let sum = a.add(b);
+        if let Worked::Number(v) = sum {
+            return Told::Found(v, next);
+        }
+    }
+    if op == kind::EQUAL {
+        return Told::Found(a.equal(b), next);
+    }
     operate(words, n, last, op, a, b, next)
+}
+
+// The operand at a position, if it is noted or is a leaf.
+fn short_operand(
+    leaves: &[u32; 32776],
+    words: &[u32],
+    sizes: &[u32],
+    place: &[u32],
+    grid: &[i32],
+    vars: &[i32; 256],
+    index: &[i32; 16],
+    site: Site,
+    depth: usize,
+    at: usize,
+) -> Told
+    requires { ⌜ Ready (now leaves) (now words) (now sizes) (now place) (now grid) site depth × (at ≤ site .tokens) ⌝ }
+    ensures { λ r. ⌜ Leaf (site-table (now (words .entry)) (now (sizes .entry)) site) (env-of (now (words .entry)) (now (sizes .entry)) (now (grid .entry)) site) (take (site .slots) (now (vars .entry))) (take depth (now (index .entry))) (site .tokens) at r ⌝ }
+{
+    let short = noted(
+        leaves,
+        words,
+        sizes,
+        place,
+        grid,
+        vars,
+        index,
+        site,
+        depth,
+        at,
+    );
+    let Told::Found(v, next) = short else {
+        return leaf(
+            leaves,
+            words,
+            sizes,
+            place,
+            grid,
+            vars,
+            index,
+            site,
+            depth,
+            at,
+        );
+    };
+    Told::Found(v, next)
 }
 
 // The expression at a position, of operators of a level or tighter, if it has no parentheses, unary operators and array constants, no operator
 // is tighter than the one before it, and there is no fault. Else a fault is told, which says nothing; but at level 5 it is that of the primary.
 pub fn quick(
+    leaves: &[u32; 32776],
     words: &[u32],
     sizes: &[u32],
     place: &[u32],
@@ -41,7 +99,7 @@ pub fn quick(
     at: usize,
     level: u32,
 ) -> Told
-    requires { ⌜ Ready (now words) (now sizes) (now place) (now grid) site depth × (1 ≤ level) × (at ≤ site .tokens) ⌝ }
+    requires { ⌜ Ready (now leaves) (now words) (now sizes) (now place) (now grid) site depth × (1 ≤ level) × (at ≤ site .tokens) ⌝ }
     ensures { λ r. ⌜ Quick (site-table (now (words .entry)) (now (sizes .entry)) site) (env-of (now (words .entry)) (now (sizes .entry)) (now (grid .entry)) site) (take (site .slots) (now (vars .entry))) (take depth (now (index .entry))) (site .tokens) at level r ⌝ }
 {
     let n = site.tokens;
@@ -51,12 +109,22 @@ pub fn quick(
     let mut last: usize = 0;
     let mut here = at;
     loop {
-        let part = leaf(words, sizes, place, grid, vars, index, site, depth, here);
+        let part = short_operand(
+            leaves,
+            words,
+            sizes,
+            place,
+            grid,
+            vars,
+            index,
+            site,
+            depth,
+            here,
+        );
         let Told::Found(b, next) = part else {
             return part;
         };
-        let after = word_at(words, n, 0, next);
-        let tight = level_of(after);
+        let tight = leaf_word(leaves, next, 3);
         if own < tight {
             return Told::Failed(0, 0);
         }
@@ -68,7 +136,7 @@ pub fn quick(
             return Told::Found(c, m);
         }
         left = c;
-        op = after;
+        op = word_at(words, n, 0, next);
         own = tight;
         last = m;
         here = m + 1;
@@ -77,6 +145,7 @@ pub fn quick(
 
 // The expression at a position, of operators of a level or tighter.
 pub fn expression(
+    leaves: &[u32; 32776],
     words: &[u32],
     sizes: &[u32],
     place: &[u32],
@@ -88,10 +157,11 @@ pub fn expression(
     at: usize,
     level: u32,
 ) -> Told
-    requires { ⌜ Ready (now words) (now sizes) (now place) (now grid) site depth × (1 ≤ level) × (at ≤ site .tokens) ⌝ }
+    requires { ⌜ Ready (now leaves) (now words) (now sizes) (now place) (now grid) site depth × (1 ≤ level) × (at ≤ site .tokens) ⌝ }
     ensures { λ r. ⌜ EvalsExpression (site-table (now (words .entry)) (now (sizes .entry)) site) (env-of (now (words .entry)) (now (sizes .entry)) (now (grid .entry)) site) (take (site .slots) (now (vars .entry))) (take depth (now (index .entry))) (site .tokens) at level r ⌝ }
 {
     let short = quick(
+        leaves,
         words,
         sizes,
         place,
@@ -105,6 +175,7 @@ pub fn expression(
     );
     let Told::Found(v, next) = short else {
         return chain(
+            leaves,
             words,
             sizes,
             place,
@@ -123,6 +194,7 @@ pub fn expression(
 // The expression at a position, of operators of a level or tighter, worked out by every way that an expression can go. Operators of one level go
 // from left to right.
 fn chain(
+    leaves: &[u32; 32776],
     words: &[u32],
     sizes: &[u32],
     place: &[u32],
@@ -134,11 +206,22 @@ fn chain(
     at: usize,
     level: u32,
 ) -> Told
-    requires { ⌜ Ready (now words) (now sizes) (now place) (now grid) site depth × (1 ≤ level) × (at ≤ site .tokens) ⌝ }
+    requires { ⌜ Ready (now leaves) (now words) (now sizes) (now place) (now grid) site depth × (1 ≤ level) × (at ≤ site .tokens) ⌝ }
     ensures { λ r. ⌜ EvalsExpression (site-table (now (words .entry)) (now (sizes .entry)) site) (env-of (now (words .entry)) (now (sizes .entry)) (now (grid .entry)) site) (take (site .slots) (now (vars .entry))) (take depth (now (index .entry))) (site .tokens) at level r ⌝ }
 {
     let n = site.tokens;
-    let first = operand(words, sizes, place, grid, vars, index, site, depth, at);
+    let first = operand(
+        leaves,
+        words,
+        sizes,
+        place,
+        grid,
+        vars,
+        index,
+        site,
+        depth,
+        at,
+    );
     let Told::Found(v, past) = first else {
         return first;
     };
@@ -151,6 +234,7 @@ fn chain(
             return Told::Found(left, here);
         }
         let right = expression(
+            leaves,
             words,
             sizes,
             place,
@@ -176,6 +260,7 @@ fn chain(
 
 // The operand at a position: a primary with at most one unary operator.
 fn operand(
+    leaves: &[u32; 32776],
     words: &[u32],
     sizes: &[u32],
     place: &[u32],
@@ -186,12 +271,13 @@ fn operand(
     depth: usize,
     at: usize,
 ) -> Told
-    requires { ⌜ Ready (now words) (now sizes) (now place) (now grid) site depth × (at ≤ site .tokens) ⌝ }
+    requires { ⌜ Ready (now leaves) (now words) (now sizes) (now place) (now grid) site depth × (at ≤ site .tokens) ⌝ }
     ensures { λ r. ⌜ EvalsOperand (site-table (now (words .entry)) (now (sizes .entry)) site) (env-of (now (words .entry)) (now (sizes .entry)) (now (grid .entry)) site) (take (site .slots) (now (vars .entry))) (take depth (now (index .entry))) (site .tokens) at r ⌝ }
 {
     let n = site.tokens;
     let op = word_at(words, n, 0, at);
     let inner = primary(
+        leaves,
         words,
         sizes,
         place,
@@ -224,6 +310,7 @@ fn primary_from(kind: u32, at: usize) -> usize
 
 // The primary at a position.
 fn primary(
+    leaves: &[u32; 32776],
     words: &[u32],
     sizes: &[u32],
     place: &[u32],
@@ -234,13 +321,14 @@ fn primary(
     depth: usize,
     at: usize,
 ) -> Told
-    requires { ⌜ Ready (now words) (now sizes) (now place) (now grid) site depth × (at ≤ site .tokens) ⌝ }
+    requires { ⌜ Ready (now leaves) (now words) (now sizes) (now place) (now grid) site depth × (at ≤ site .tokens) ⌝ }
     ensures { λ r. ⌜ EvalsPrimary (site-table (now (words .entry)) (now (sizes .entry)) site) (env-of (now (words .entry)) (now (sizes .entry)) (now (grid .entry)) site) (take (site .slots) (now (vars .entry))) (take depth (now (index .entry))) (site .tokens) at r ⌝ }
 {
     let n = site.tokens;
     let kind = word_at(words, n, 0, at);
     if kind == kind::PAREN {
         return bracket(
+            leaves,
             words,
             sizes,
             place,
@@ -257,6 +345,7 @@ fn primary(
         if word_at(words, n, 2, at) == 2 {
             if word_at(words, n, 0, at + 1) == kind::BRACKET {
                 let inner = bracket(
+                    leaves,
                     words,
                     sizes,
                     place,
@@ -275,13 +364,38 @@ fn primary(
             }
             return Told::Failed(0, 0);
         }
-        return quick(words, sizes, place, grid, vars, index, site, depth, at, 5);
+        return quick(
+            leaves,
+            words,
+            sizes,
+            place,
+            grid,
+            vars,
+            index,
+            site,
+            depth,
+            at,
+            5,
+        );
     }
-    quick(words, sizes, place, grid, vars, index, site, depth, at, 5)
+    quick(
+        leaves,
+        words,
+        sizes,
+        place,
+        grid,
+        vars,
+        index,
+        site,
+        depth,
+        at,
+        5,
+    )
 }
 
 // The expression between the opening token at a position and a token of the closing kind.
 fn bracket(
+    leaves: &[u32; 32776],
     words: &[u32],
     sizes: &[u32],
     place: &[u32],
@@ -293,10 +407,11 @@ fn bracket(
     at: usize,
     close: u32,
 ) -> Told
-    requires { ⌜ Ready (now words) (now sizes) (now place) (now grid) site depth × (at < site .tokens) × (1 ≤ close) ⌝ }
+    requires { ⌜ Ready (now leaves) (now words) (now sizes) (now place) (now grid) site depth × (at < site .tokens) × (1 ≤ close) ⌝ }
     ensures { λ r. ⌜ EvalsBracket (site-table (now (words .entry)) (now (sizes .entry)) site) (env-of (now (words .entry)) (now (sizes .entry)) (now (grid .entry)) site) (take (site .slots) (now (vars .entry))) (take depth (now (index .entry))) (site .tokens) at close r ⌝ }
 {
     let inner = expression(
+        leaves,
         words,
         sizes,
         place,

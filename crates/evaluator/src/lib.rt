@@ -2,8 +2,11 @@
 
 pub mod expression;
 pub mod neighbour;
+mod noted;
 mod operators;
 mod primary;
+pub mod simple;
+pub mod sort;
 pub mod table;
 
 use value::Value;

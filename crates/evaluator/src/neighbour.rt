@@ -12,7 +12,7 @@ ghost use Rattle.evaluator.specs.Working.{site-table, env-of, Ready};
 use crate::Site;
 use crate::operators::is_sign;
 use crate::table::word_at;
-use program::kind;
+use token::kind;
 use value::Value;
 
 // a modulo m. Mostly a is below m, or below twice m, and nothing is divided.
@@ -30,7 +30,7 @@ fn reduced(a: u64, m: u64) -> u64
 }
 
 // The coordinate own + index, wrapped at the edges of a dimension.
-fn wrapped(own: u32, index: Value, size: u32) -> u32
+pub fn wrapped(own: u32, index: Value, size: u32) -> u32
     requires { ⌜ own < size ⌝ }
     ensures { λ r. ⌜ r ≡ wrap-of own (index .n) size ⌝ }
 {
@@ -119,21 +119,30 @@ fn neighbour_number(
     number
 }
 
+// A field that there is, of a cell in the grid.
+pub fn entry_of(grid: &[i32], cell: usize, fields: usize, field: usize) -> Value
+    requires { ⌜ (cell * fields + fields ≤ length (now grid)) × (field < fields) ⌝ }
+    ensures { λ r. ⌜ r ≡ value (entry (cell-of fields (now (grid .entry)) cell) field) ⌝ }
+{
+    Value {
+        n: grid[cell * fields + field],
+    }
+}
+
 // A field of a cell in the grid; 0 for one that there is not.
 pub fn field_of(grid: &[i32], cell: usize, fields: usize, field: usize) -> Value
     requires { ⌜ cell * fields + fields ≤ length (now grid) ⌝ }
     ensures { λ r. ⌜ r ≡ value (entry (cell-of fields (now (grid .entry)) cell) field) ⌝ }
 {
     if field < fields {
-        return Value {
-            n: grid[cell * fields + field],
-        };
+        return entry_of(grid, cell, fields, field);
     }
     Value { n: 0 }
 }
 
 // The field that is noted at the `[` at a position, of the cell at the relative index behind it.
 pub fn neighbour_field(
+    leaves: &[u32; 32776],
     words: &[u32],
     sizes: &[u32],
     place: &[u32],
@@ -143,7 +152,7 @@ pub fn neighbour_field(
     depth: usize,
     at: usize,
 ) -> Value
-    requires { ⌜ Ready (now words) (now sizes) (now place) (now grid) site depth × (at ≤ 4096) ⌝ }
+    requires { ⌜ Ready (now leaves) (now words) (now sizes) (now place) (now grid) site depth × (at ≤ 4096) ⌝ }
     ensures { λ r. ⌜ r ≡ value (entry (env-of (now (words .entry)) (now (sizes .entry)) (now (grid .entry)) site .look (offsets (length (now (sizes .entry))) (take depth (now (index .entry))) (indices-in (site-table (now (words .entry)) (now (sizes .entry)) site) (length (now (sizes .entry))) (at + 1)))) (word-in (now (words .entry)) (site .tokens) 2 at)) ⌝ }
 {
     let n = site.tokens;

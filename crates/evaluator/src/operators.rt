@@ -2,61 +2,14 @@
 ghost use mathlib.Core.Path.{_≡_};
 ghost use Prim.Native.Nat.{_*_, _≤_, _%_};
 ghost use lib.ListN.{length};
-ghost use Rattle.token.specs.Kind.{level-of};
 ghost use Rattle.evaluator.specs.Operators.{placed, apply-unary, compare, apply-binary};
 ghost use Rattle.evaluator.specs.Stands.{word-in, is-sign, is-unary};
 ghost use Rattle.evaluator.specs.Working.{told-of};
 use crate::Told;
 use crate::table::place_at;
-use program::kind;
+use token::kind;
 use value::Value;
 use value::Worked;
-
-// The level of a binary operator, and 0 for what is none.
-pub fn level_of(kind: u32) -> u32
-    ensures { λ r. ⌜ r ≡ level-of kind ⌝ }
-{
-    if kind == kind::PLUS {
-        return 3;
-    }
-    if kind == kind::MINUS {
-        return 3;
-    }
-    if kind == kind::TIMES {
-        return 4;
-    }
-    if kind == kind::SLASH {
-        return 4;
-    }
-    if kind == kind::PERCENT {
-        return 4;
-    }
-    if kind == kind::EQUAL {
-        return 2;
-    }
-    if kind == kind::UNEQUAL {
-        return 2;
-    }
-    if kind == kind::LESS {
-        return 2;
-    }
-    if kind == kind::GREATER {
-        return 2;
-    }
-    if kind == kind::AT_MOST {
-        return 2;
-    }
-    if kind == kind::AT_LEAST {
-        return 2;
-    }
-    if kind == kind::AND {
-        return 1;
-    }
-    if kind == kind::OR {
-        return 1;
-    }
-    0
-}
 
 // Whether a token of this kind is a sign.
 pub fn is_sign(kind: u32) -> bool
@@ -92,7 +45,7 @@ fn apply_unary(op: u32, a: Value) -> Worked
 }
 
 // A relation or logic on two values.
-fn compare(op: u32, a: Value, b: Value) -> Value
+pub fn compare(op: u32, a: Value, b: Value) -> Value
     ensures { λ r. ⌜ r ≡ compare op (a .n) (b .n) ⌝ }
 {
     if op == kind::EQUAL {

@@ -15,7 +15,7 @@ use crate::operators::is_unary;
 use crate::table::link_at;
 use crate::table::place_at;
 use crate::table::word_at;
-use program::kind;
+use token::kind;
 use value::Value;
 
 // The value of a variable; 0 if there are not so many slots.
@@ -51,6 +51,7 @@ pub fn element(words: &[u32], n: usize, dims: usize, at: usize, i: Value, next: 
 
 // The name at a position: a variable, a constant or an index variable.
 fn name(
+    leaves: &[u32; 32776],
     words: &[u32],
     sizes: &[u32],
     place: &[u32],
@@ -61,7 +62,7 @@ fn name(
     depth: usize,
     at: usize,
 ) -> Told
-    requires { ⌜ Ready (now words) (now sizes) (now place) (now grid) site depth × (at < site .tokens) ⌝ }
+    requires { ⌜ Ready (now leaves) (now words) (now sizes) (now place) (now grid) site depth × (at < site .tokens) ⌝ }
     ensures { λ r. ⌜ EvalsName (site-table (now (words .entry)) (now (sizes .entry)) site) (env-of (now (words .entry)) (now (sizes .entry)) (now (grid .entry)) site) (take (site .slots) (now (vars .entry))) (take depth (now (index .entry))) (site .tokens) at r ⌝ }
 {
     let n = site.tokens;
@@ -81,6 +82,7 @@ fn name(
 
 // The primary at a position: a literal, a relative index, `cell` or `time`.
 fn plain(
+    leaves: &[u32; 32776],
     words: &[u32],
     sizes: &[u32],
     place: &[u32],
@@ -91,7 +93,7 @@ fn plain(
     depth: usize,
     at: usize,
 ) -> Told
-    requires { ⌜ Ready (now words) (now sizes) (now place) (now grid) site depth × (at ≤ site .tokens) ⌝ }
+    requires { ⌜ Ready (now leaves) (now words) (now sizes) (now place) (now grid) site depth × (at ≤ site .tokens) ⌝ }
     ensures { λ r. ⌜ EvalsPlain (site-table (now (words .entry)) (now (sizes .entry)) site) (env-of (now (words .entry)) (now (sizes .entry)) (now (grid .entry)) site) (take (site .slots) (now (vars .entry))) (take depth (now (index .entry))) (site .tokens) at r ⌝ }
 {
     let n = site.tokens;
@@ -100,7 +102,7 @@ fn plain(
         return Told::Found(Value::decode(word_at(words, n, 2, at)), at + 1);
     }
     if kind == kind::BRACKET {
-        let v = neighbour_field(words, sizes, place, grid, index, site, depth, at);
+        let v = neighbour_field(leaves, words, sizes, place, grid, index, site, depth, at);
         return Told::Found(v, link_at(words, n, 3, at));
     }
     if kind == kind::CELL {
@@ -120,6 +122,7 @@ fn plain(
 
 // The operand at a position, if it is a literal, a name, a relative index, `cell` or `time` alone. Else a fault is told, which says nothing.
 pub fn leaf(
+    leaves: &[u32; 32776],
     words: &[u32],
     sizes: &[u32],
     place: &[u32],
@@ -130,7 +133,7 @@ pub fn leaf(
     depth: usize,
     at: usize,
 ) -> Told
-    requires { ⌜ Ready (now words) (now sizes) (now place) (now grid) site depth × (at ≤ site .tokens) ⌝ }
+    requires { ⌜ Ready (now leaves) (now words) (now sizes) (now place) (now grid) site depth × (at ≤ site .tokens) ⌝ }
     ensures { λ r. ⌜ Leaf (site-table (now (words .entry)) (now (sizes .entry)) site) (env-of (now (words .entry)) (now (sizes .entry)) (now (grid .entry)) site) (take (site .slots) (now (vars .entry))) (take depth (now (index .entry))) (site .tokens) at r ⌝ }
 {
     let n = site.tokens;
@@ -139,7 +142,18 @@ pub fn leaf(
         if word_at(words, n, 2, at) == 2 {
             return Told::Failed(0, 0);
         }
-        return name(words, sizes, place, grid, vars, index, site, depth, at);
+        return name(
+            leaves,
+            words,
+            sizes,
+            place,
+            grid,
+            vars,
+            index,
+            site,
+            depth,
+            at,
+        );
     }
     if kind == kind::PAREN {
         return Told::Failed(0, 0);
@@ -147,5 +161,16 @@ pub fn leaf(
     if is_unary(kind) {
         return Told::Failed(0, 0);
     }
-    plain(words, sizes, place, grid, vars, index, site, depth, at)
+    plain(
+        leaves,
+        words,
+        sizes,
+        place,
+        grid,
+        vars,
+        index,
+        site,
+        depth,
+        at,
+    )
 }

@@ -3,6 +3,7 @@ ghost use mathlib.Core.Path.{_≡_};
 ghost use Prim.Native.Nat.{_*_, _<_, _≤_, _%_};
 ghost use lib.ListN.{length};
 ghost use Rattle.evaluator.specs.Stands.{word-in, linked};
+ghost use Rattle.evaluator.specs.Leaves.{leaf-word};
 
 // Word w of the token at position i, where there are n tokens.
 pub fn word_at(words: &[u32], n: usize, w: usize, i: usize) -> u32
@@ -33,4 +34,12 @@ pub fn link_at(words: &[u32], n: usize, w: usize, i: usize) -> usize
         return there;
     }
     n
+}
+
+// Word k of what the leaf table notes at position p.
+pub fn leaf_word(leaves: &[u32; 32776], p: usize, k: usize) -> u32
+    requires { ⌜ (p ≤ 4096) × (k < 8) ⌝ }
+    ensures { λ r. ⌜ r ≡ leaf-word (now (leaves .entry)) p k ⌝ }
+{
+    leaves[8 * p + k]
 }

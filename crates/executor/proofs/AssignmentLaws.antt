@@ -19,7 +19,7 @@ use Rattle.program.specs.Syntax.{Range, no-range, Expr, Target, Clause}
 use Rattle.evaluator.specs.Operators.{Worth, worth, failed}
 use Rattle.evaluator.specs.Evaluation.{Env, eval, Frame, frame, on, faulted, goes, valued, in-field, store, branch, conditional, assign-first}
 use Rattle.evaluator.specs.Stands.{Table, range-in, ranges-in, ExprAt, target-in, first-clause, GuardAt, ClausesAt}
-use Rattle.evaluator.specs.Working.{told-of, EvalsExpression}
+use Rattle.evaluator.specs.Working.{told-of, EvalsExpression, Quick}
 use Rattle.evaluator.specs.declared.Told.{Told}
 use Rattle.evaluator.specs.declared.Told.the-variants.{Found, Failed}
 use Rattle.executor.specs.Running.{left, field-range, Stores, AssignsOne, ConditionAt, guarded, Guards, Assigns}
@@ -47,6 +47,11 @@ fault-of (failed k p) next q = cc
 pub found-onward : {t : Table} {env : Env} {vars vs : List ℤ} {n at level : ℕ} {r : Told} {v : Value} {past : ℕ}
     → EvalsExpression t env vars vs n at level r → r ≡ Found v past → (at < past) × (past ≤ n)
 found-onward {n = n} {at = at} x h = rw h at (x .onward)
+
+-- a value that is found by a short way
+pub quick-found : {t : Table} {env : Env} {vars vs : List ℤ} {n at level : ℕ} {r : Told} {v : Value} {past : ℕ}
+    → Quick t env vars vs n at level r → r ≡ Found v past → EvalsExpression t env vars vs n at level (Found v past)
+quick-found {t} {env} {vars} {vs} {n} {at} {level} {r} {v} {past} q h = subst (EvalsExpression t env vars vs n at level) h (q .found v past h)
 
 -- ---- memory
 

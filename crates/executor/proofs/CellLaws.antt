@@ -33,8 +33,8 @@ cleared vars k {vars′} e l q =
     last (suc k) = ap (λ (xs : List ℤ). pos 0 ∷ xs) (last k)
 
 -- what is asked of a site
-pub ready : {words : List ℕ} {rule : Rule} {sizes place : List ℕ} {cell : ℕ} {grid : List ℤ} {fields time : ℕ} → Fit words rule sizes place cell grid fields time
-    → Ready words sizes place grid (record { tokens = rule .tokens; base = rule .base; fields = rule .fields; slots = rule .slots; cell = cell; time = time }) 0
+pub ready : {leaves words : List ℕ} {rule : Rule} {sizes place : List ℕ} {cell : ℕ} {grid : List ℤ} {fields time : ℕ} → Fit leaves words rule sizes place cell grid fields time
+    → Ready leaves words sizes place grid (record { tokens = rule .tokens; base = rule .base; fields = rule .fields; slots = rule .slots; cell = cell; time = time }) 0
 ready f = record {
   table = f .table;
   tokens = f .tokens;
@@ -49,9 +49,10 @@ ready f = record {
   own = f .own;
   entries = f .entries;
   loops = omega arith;
+  noted = f .noted;
 }
 
-module _ {words : List ℕ} {rule : Rule} {sizes place : List ℕ} {cell : ℕ} {grid : List ℤ} {fields time : ℕ} (fit : Fit words rule sizes place cell grid fields time) where
+module _ {leaves words : List ℕ} {rule : Rule} {sizes place : List ℕ} {cell : ℕ} {grid : List ℤ} {fields time : ℕ} (fit : Fit leaves words rule sizes place cell grid fields time) where
   abbrev site : Site
   site = record { tokens = rule .tokens; base = rule .base; fields = rule .fields; slots = rule .slots; cell = cell; time = time }
 

@@ -5,6 +5,7 @@ use mathlib.Core.Path.{_≡_, refl, sym, ap, ap₂, _∙_, subst}
 use mathlib.Core.Bool.{Bool, true, false, not, true≢false}
 use mathlib.Core.List.{List, [], _∷_, _++_}
 use mathlib.Core.Option.{some}
+use mathlib.Core.Logic.{_⊎_, ⊎-elim}
 use lib.Dec.{eqb}
 use lib.ListN.{length, set, take, length-set}
 use lib.Seq.{take-suc, take-set-le, getD-set-same}
@@ -20,10 +21,14 @@ use Rattle.evaluator.specs.Working.{Ready, EvalsExpression}
 use Rattle.evaluator.specs.declared.Site.{Site}
 use Rattle.evaluator.specs.declared.Told.{Told}
 use Rattle.evaluator.specs.declared.Told.the-variants.{Found, Failed}
-use Rattle.executor.specs.Running.{flow-of, left, Assigns, RunsBlock, rest-of, RunsStatement, RunsChoice, body-of, RunsLoop}
+use Rattle.executor.specs.Running.{flow-of, left, Assigns, RunsBlock, rest-of, RunsStatement, Settles, Forward, Chooses, body-of, RunsLoop}
 use Rattle.executor.specs.declared.Going.{Going}
 use Rattle.executor.specs.declared.Going.the-variants.{On, Leaving, Faulted}
-use Rattle.executor.proofs.AssignmentLaws.{answer, worth-of, fault-of}
+use Rattle.executor.specs.declared.blocks.Chosen.{Chosen}
+use Rattle.executor.specs.declared.blocks.Chosen.the-variants as Went
+use denote.Enum.Declared.{tagOf}
+use Rattle.executor.proofs.Going.{the-type}
+use Rattle.executor.proofs.AssignmentLaws.{answer, worth-of, fault-of, found-onward}
 
 -- ---- kinds that begin a statement
 
@@ -90,91 +95,111 @@ onward-empty env vs F = go (F .flow)
     go leaving = refl
     go (faulted k p) = refl
 
-module _ (t : Table) (env : Env) (depth at : ℕ) (vars next ix : List ℤ) where
-  abbrev vs : List ℤ
-  vs = take depth ix
-
-  abbrev fr : Frame
-  fr = frame on vars next
-
-  abbrev chooses : Expr → Block → Block → Frame
-  chooses c d e = conditional env vs (some c) (exec env vs d) (exec env vs e) fr
+module _ (t : Table) (env : Env) (vs : List ℤ) (depth n at : ℕ) (vars : List ℤ) where
+  abbrev chooses : Expr → Block → Block → List ℤ → Frame
+  chooses c d e next = conditional env vs (some c) (exec env vs d) (exec env vs e) (frame on vars next)
 
   -- the arms before `arm` are tried, and none of them is chosen
   pub record Arms (arm : ℕ) : Type 0 where
     pub says : (c : Expr) (d e : Block) → Choice t depth c d e at
-        → (c′ : Expr) × (d′ : Block) × (e′ : Block) × Choice t depth c′ d′ e′ arm × (chooses c d e ≡ chooses c′ d′ e′)
+        → (c′ : Expr) × (d′ : Block) × (e′ : Block) × Choice t depth c′ d′ e′ arm × ((next : List ℤ) → chooses c d e next ≡ chooses c′ d′ e′ next)
+    pub after : at ≤ arm
+    pub within : arm < n
 
-  pub arms-start : Arms at
-  arms-start = record { says = λ c d e x. (c, d, e, x, refl) }
+  pub arms-start : at < n → Arms at
+  arms-start l = record { says = λ c d e x. (c, d, e, x, λ next. refl); after = omega arith; within = l }
 
-  module _ {arm : ℕ} (so : Arms arm) {n : ℕ} {told : Told} (ev : EvalsExpression t env vars vs n (arm + 1) 1 told) where
-    -- what a run leaves is what the arm that is tried now does
-    by-arm : {r : Going} {vars′ next′ ix′ : List ℤ} → take depth ix′ ≡ take depth ix
-        → ((c : Expr) (d e : Block) → Choice t depth c d e arm → left r vars′ next′ ≡ chooses c d e) → RunsChoice t env depth at vars next ix vars′ next′ ix′ r
-    by-arm k h = record { says = λ c d e x. let s = so .says c d e x in h (s .0) (s .1) (s .2) (s .3) ∙ sym (s .4); kept = k }
+  module _ {arm : ℕ} (so : Arms arm) {told : Told} (ev : EvalsExpression t env vars vs n (arm + 1) 1 told) where
+    -- the choice goes on where the arm that is tried now does
+    by-arm : {r : Chosen} → Forward at n r
+        → ((c : Expr) (d e : Block) → Choice t depth c d e arm → (next : List ℤ) → Settles t env vs depth r (chooses c d e next) (frame on vars next))
+        → Chooses t env vs depth n at vars r
+    by-arm {r} l h = record {
+      says = λ c d e x next.
+          let s = so .says c d e x in
+          subst (λ (F : Frame). Settles t env vs depth r F (frame on vars next)) (sym (s .4 next)) (h (s .0) (s .1) (s .2) (s .3) next);
+      onward = l;
+    }
 
-    pub choice-fault : {a p : ℕ} → told ≡ Failed a p → RunsChoice t env depth at vars next ix vars next ix (Faulted a p)
-    choice-fault h = by-arm refl (λ c d e x. rw (fault-of (eval env vars vs c) (x .then-at) (sym h ∙ answer ev (x .condition))) refl)
+    pub choice-fault : {a p : ℕ} → told ≡ Failed a p → Chooses t env vs depth n at vars (Went.Faulted a p)
+    choice-fault h = by-arm tt (λ c d e x next. rw (fault-of (eval env vars vs c) (x .then-at) (sym h ∙ answer ev (x .condition))) refl)
 
     module _ {v : Value} {m : ℕ} (h : told ≡ Found v m) {b : Bool} (eb : b ≡ truth (v .n)) where
       found : (c : Expr) (past : ℕ) → ExprAt t c (arm + 1) past → (eval env vars vs c ≡ worth (v .n)) × (past ≡ m)
       found c past x = worth-of (eval env vars vs c) past (sym h ∙ answer ev x)
 
-      decided : (c : Expr) (d e : Block) → Choice t depth c d e arm → branch b (exec env vs d) (exec env vs e) fr ≡ chooses c d e
-      decided c d e x = rw (found c (x .then-at) (x .condition) .0, ← eb) refl
+      decided : {z : Bool} → b ≡ z → (c : Expr) (d e : Block) → Choice t depth c d e arm → (next : List ℤ)
+          → chooses c d e next ≡ branch z (exec env vs d) (exec env vs e) (frame on vars next)
+      decided {z} y c d e x next = rw (found c (x .then-at) (x .condition) .0, ← eb, y) refl
 
-      pub choice-then : {vars′ next′ ix′ : List ℤ} {r : Going} → b ≡ true → RunsBlock t env depth (m + 1) vars next ix vars′ next′ ix′ r
-          → RunsChoice t env depth at vars next ix vars′ next′ ix′ r
-      choice-then y run =
-          by-arm (run .kept)
-          (λ c d e x.
-          run .says d (subst (λ (i : ℕ). Stands t depth d (i + 1)) (found c (x .then-at) (x .condition) .1) (x .part))
-          ∙ ap (λ (z : Bool). branch z (exec env vs d) (exec env vs e) fr) (sym y) ∙ decided c d e x)
+      pub choice-then : b ≡ true → m < n → Chooses t env vs depth n at vars (Went.List (m + 1))
+      choice-then y l =
+          let f = found-onward ev h in
+          let g = so .after in
+          by-arm (omega arith, omega arith)
+          (λ c d e x next. (d, subst (λ (i : ℕ). Stands t depth d (i + 1)) (found c (x .then-at) (x .condition) .1) (x .part), decided y c d e x next))
 
-      pub choice-wrong : ((i : ℕ) → t .kind i ≡ 16 → i < n) → n ≤ m → RunsChoice t env depth at vars next ix vars next ix On
+      pub choice-wrong : ((i : ℕ) → t .kind i ≡ 16 → i < n) → n ≤ m → Chooses t env vs depth n at vars Went.Nothing
       choice-wrong inside l =
-          by-arm refl
-          (λ c d e x. absurd (let e = found c (x .then-at) (x .condition) .1 in let q = inside (x .then-at) (x .is-then) in omega arith))
+          by-arm tt
+          (λ c d e x next. absurd (let e = found c (x .then-at) (x .condition) .1 in let q = inside (x .then-at) (x .is-then) in omega arith))
 
       module _ (y : b ≡ false) {o : ℕ} (eo : o ≡ t .inner arm) {k : ℕ} (ek : k ≡ t .kind o) where
         there : k ≡ t .kind (t .inner arm)
         there = ek ∙ ap (λ (i : ℕ). t .kind i) eo
 
-        otherwise : (c : Expr) (d e : Block) → Choice t depth c d e arm → exec env vs e fr ≡ chooses c d e
-        otherwise c d e x = ap (λ (z : Bool). branch z (exec env vs d) (exec env vs e) fr) (sym y) ∙ decided c d e x
+        pub choice-else : k ≡ 7 → arm < o → o < n → Chooses t env vs depth n at vars (Went.List (o + 1))
+        choice-else is l f =
+            let g = so .after in
+            by-arm (omega arith, omega arith)
+            (λ c d e x next. (e, subst (λ (i : ℕ). Stands t depth e (i + 1)) (sym eo) (x .rest .at-else (sym there ∙ is)), decided y c d e x next))
 
-        pub choice-else : {vars′ next′ ix′ : List ℤ} {r : Going} → k ≡ 7 → RunsBlock t env depth (o + 1) vars next ix vars′ next′ ix′ r
-            → RunsChoice t env depth at vars next ix vars′ next′ ix′ r
-        choice-else is run =
-            by-arm (run .kept)
-            (λ c d e x. run .says e (subst (λ (i : ℕ). Stands t depth e (i + 1)) (sym eo) (x .rest .at-else (sym there ∙ is))) ∙ otherwise c d e x)
-
-        pub choice-end : (k ≡ 7 → ⊥) → (k ≡ 8 → ⊥) → RunsChoice t env depth at vars next ix vars next ix On
+        pub choice-end : (k ≡ 7 → ⊥) → (k ≡ 8 → ⊥) → Chooses t env vs depth n at vars Went.Nothing
         unfolding exec
         choice-end not-else not-elsif =
-            by-arm refl
-            (λ c d e x.
-            ap (λ (q : Block). exec env vs q fr) (sym (x .rest .at-end (λ u. not-else (there ∙ u)) (λ u. not-elsif (there ∙ u)))) ∙ otherwise c d e x)
+            by-arm tt
+            (λ c d e x next.
+            decided y c d e x next
+            ∙ ap (λ (q : Block). exec env vs q (frame on vars next)) (x .rest .at-end (λ u. not-else (there ∙ u)) (λ u. not-elsif (there ∙ u))))
 
-        pub arms-more : k ≡ 8 → Arms o
+        pub arms-more : k ≡ 8 → arm < o → o < n → Arms o
         unfolding Elsif exec
-        arms-more is = record { says = λ c d e x. let s = so .says c d e x in go c d e (s .0) (s .1) (s .2) (s .3) (s .4) }
+        arms-more is l f = record {
+          says = λ c d e x. let s = so .says c d e x in go c d e (s .0) (s .1) (s .2) (s .3) (s .4);
+          after = let g = so .after in omega arith;
+          within = f;
+        }
           where
-            tail : (e : Block) → Elsif t depth e o → (c′ : Expr) × (d′ : Block) × (e′ : Block) × Choice t depth c′ d′ e′ o × (exec env vs e fr ≡ chooses c′ d′ e′)
+            tail : (e : Block) → Elsif t depth e o
+                → (c′ : Expr) × (d′ : Block) × (e′ : Block) × Choice t depth c′ d′ e′ o × ((next : List ℤ) → exec env vs e (frame on vars next) ≡ chooses c′ d′ e′ next)
             tail empty s = absurd s
             tail (assign to cs rest) s = absurd s
             tail (select c d e rest) s =
-                (c, d, e, s .1, ap (λ (q : Block). onward (chooses c d e) (exec env vs q)) (s .0) ∙ onward-empty env vs (chooses c d e))
+                (c, d, e, s .1, λ next. ap (λ (q : Block). onward (chooses c d e next) (exec env vs q)) (s .0) ∙ onward-empty env vs (chooses c d e next))
             tail (loop r d rest) s = absurd s
             tail (exit rest) s = absurd s
             tail (constant rest) s = absurd s
 
-            go : (c : Expr) (d e : Block) (c₁ : Expr) (d₁ e₁ : Block) → Choice t depth c₁ d₁ e₁ arm → chooses c d e ≡ chooses c₁ d₁ e₁
-                → (c′ : Expr) × (d′ : Block) × (e′ : Block) × Choice t depth c′ d′ e′ o × (chooses c d e ≡ chooses c′ d′ e′)
+            go : (c : Expr) (d e : Block) (c₁ : Expr) (d₁ e₁ : Block) → Choice t depth c₁ d₁ e₁ arm → ((next : List ℤ) → chooses c d e next ≡ chooses c₁ d₁ e₁ next)
+                → (c′ : Expr) × (d′ : Block) × (e′ : Block) × Choice t depth c′ d′ e′ o × ((next : List ℤ) → chooses c d e next ≡ chooses c′ d′ e′ next)
             go c d e c₁ d₁ e₁ x q =
                 let s = tail e₁ (subst (Elsif t depth e₁) (sym eo) (x .rest .at-elsif (sym there ∙ is))) in
-                (s .0, s .1, s .2, s .3, q ∙ sym (otherwise c₁ d₁ e₁ x) ∙ s .4)
+                (s .0, s .1, s .2, s .3, λ next. q next ∙ decided y c₁ d₁ e₁ x next ∙ s .4 next)
+
+-- the position of a list that is chosen
+pub chosen-onward : {t : Table} {env : Env} {vs : List ℤ} {depth n at : ℕ} {vars : List ℤ} {r : Chosen} {m : ℕ} → Chooses t env vs depth n at vars r → r ≡ Went.List m → (at < m) × (m ≤ n)
+chosen-onward {n = n} {at = at} x h = rw h at (x .onward)
+
+-- what stands at an `if`
+at-if : (t : Table) (depth at : ℕ) → t .kind at ≡ 13 → (P : Block → Type 0) → ((c : Expr) (d e rest : Block) → Choice t depth c d e at → Stands t depth rest (t .past at) → P (select c d e rest))
+    → (b : Block) → Stands t depth b at → P b
+unfolding Stands
+at-if t depth at is P h empty s = not-begun (t .kind at) (ap begins is ∙ begins-if) s
+at-if t depth at is P h (assign to cs rest) s = absurd (assigns-kind (t .kind at) (s .0) (λ i. i ≡ 13 → ⊥) (λ u. omega arith) (λ u. omega arith) is)
+at-if t depth at is P h (select c d e rest) s = h c d e rest (s .1) (s .2)
+at-if t depth at is P h (loop values d rest) s = absurd (let q = s .0 in omega arith)
+at-if t depth at is P h (exit rest) s = absurd (let q = s .0 in omega arith)
+at-if t depth at is P h (constant rest) s = absurd (let q = s .0 in omega arith)
 
 -- ---- a statement
 
@@ -186,17 +211,29 @@ module _ (t : Table) (env : Env) (depth at : ℕ) (vars next ix : List ℤ) {k :
   unassigned : {A : Type 0} (j : ℕ) → (j ≡ 1 → ⊥) → (j ≡ 3 → ⊥) → k ≡ j → assigns (t .kind at) ≡ true → A
   unassigned {A} j a b is e = absurd (assigns-kind (t .kind at) e (λ i. i ≡ j → ⊥) (λ u. a (sym u)) (λ u. b (sym u)) (sym ek ∙ is))
 
-  pub statement-if : {vars′ next′ ix′ : List ℤ} {r : Going} → k ≡ 13 → RunsChoice t env depth at vars next ix vars′ next′ ix′ r → RunsStatement t env depth at vars next ix vars′ next′ ix′ r
-  unfolding Stands exec
-  statement-if {vars′} {next′} {ix′} {r} is run = record { says = go; kept = run .kept }
-    where
-      go : begins (t .kind at) ≡ true → (b : Block) → Stands t depth b at → run-of r vars′ next′ b
-      go y empty s = not-begun (t .kind at) y s
-      go y (assign to cs rest) s = unassigned 13 (λ u. omega arith) (λ u. omega arith) is (s .0)
-      go y (select c d e rest) s = ap (λ (F : Frame). onward F (exec env (take depth ix) rest)) (sym (run .says c d e (s .1)))
-      go y (loop values d rest) s = absurd (let q = s .0 in omega arith)
-      go y (exit rest) s = absurd (let q = s .0 in omega arith)
-      go y (constant rest) s = absurd (let q = s .0 in omega arith)
+  module _ (is : k ≡ 13) {n : ℕ} {chosen : Chosen} (ch : Chooses t env (take depth ix) depth n at vars chosen) where
+    -- what is left is what is done where the choice goes on
+    by-choice : {vars′ next′ ix′ : List ℤ} {r : Going} (w : Chosen) → chosen ≡ w → take depth ix′ ≡ take depth ix
+        → ((F : Frame) → Settles t env (take depth ix) depth w F (frame on vars next) → left r vars′ next′ ≡ F) → RunsStatement t env depth at vars next ix vars′ next′ ix′ r
+    unfolding exec
+    by-choice {vars′} {next′} {ix′} {r} w h k f = record {
+      says = λ y. at-if t depth at (sym ek ∙ is) (run-of r vars′ next′)
+          (λ c d e rest x s.
+          let F = chooses t env (take depth ix) depth n at vars c d e next in
+          ap (λ (G : Frame). onward G (exec env (take depth ix) rest))
+          (sym (f F (subst (λ (z : Chosen). Settles t env (take depth ix) depth z F (frame on vars next)) h (ch .says c d e x next)))));
+      kept = k;
+    }
+
+    pub if-fault : {a p : ℕ} → chosen ≡ Went.Faulted a p → RunsStatement t env depth at vars next ix vars next ix (Faulted a p)
+    if-fault {a} {p} h = by-choice (Went.Faulted a p) h refl (λ F s. sym s)
+
+    pub if-nothing : chosen ≡ Went.Nothing → RunsStatement t env depth at vars next ix vars next ix On
+    if-nothing h = by-choice Went.Nothing h refl (λ F s. sym s)
+
+    pub if-list : {m : ℕ} {vars′ next′ ix′ : List ℤ} {r : Going} → chosen ≡ Went.List m → RunsBlock t env depth m vars next ix vars′ next′ ix′ r
+        → RunsStatement t env depth at vars next ix vars′ next′ ix′ r
+    if-list {m} h run = by-choice (Went.List m) h (run .kept) (λ F s. run .says (s .0) (s .1) ∙ sym (s .2))
 
   pub statement-forall : {vars′ next′ ix′ : List ℤ} {r : Going} → k ≡ 12 → RunsLoop t env depth at vars next ix vars′ next′ ix′ r → RunsStatement t env depth at vars next ix vars′ next′ ix′ r
   unfolding Stands exec
@@ -234,7 +271,7 @@ module _ (t : Table) (env : Env) (depth at : ℕ) (vars next ix : List ℤ) {k :
       go y (exit rest) s = absurd (let q = s .0 in omega arith)
       go y (constant rest) s = refl
 
-  pub statement-assign : {vars′ next′ : List ℤ} {r : Going} → (k ≡ 13 → ⊥) → (k ≡ 12 → ⊥) → (k ≡ 10 → ⊥) → (k ≡ 5 → ⊥)
+  pub statement-assign : {vars′ next′ : List ℤ} {r : Going} → (t .kind at ≡ 13 → ⊥) → (k ≡ 12 → ⊥) → (k ≡ 10 → ⊥) → (k ≡ 5 → ⊥)
       → Assigns t env (take depth ix) at vars next vars′ next′ r → RunsStatement t env depth at vars next ix vars′ next′ ix r
   unfolding Stands exec
   statement-assign {vars′} {next′} {r} n13 n12 n10 n5 run = record { says = go; kept = refl }
@@ -244,12 +281,19 @@ module _ (t : Table) (env : Env) (depth at : ℕ) (vars next ix : List ℤ) {k :
       go y (assign to cs rest) s =
           ap (λ (F : Frame). onward F (exec env (take depth ix) rest))
           (ap (λ (x : Target). assign-first env (take depth ix) x cs (frame on vars next)) (s .1) ∙ sym (run .says cs (s .2)))
-      go y (select c d e rest) s = absurd (n13 (ek ∙ s .0))
+      go y (select c d e rest) s = absurd (n13 (s .0))
       go y (loop values d rest) s = absurd (n12 (ek ∙ s .0))
       go y (exit rest) s = absurd (n10 (ek ∙ s .0))
       go y (constant rest) s = absurd (n5 (ek ∙ s .0))
 
 -- ---- a list of statements
+
+pub faulted-stops : {a p : ℕ} → Faulted a p ≡ On → ⊥
+faulted-stops e = let z : _≡_ {A = ℕ} 0 1 = cc in absurd (omega arith)
+
+-- a variant of `Going` but for the first
+pub other-stops : {r : Going} → (tagOf the-type r ≡ 1) ⊎ (tagOf the-type r ≡ 2) → r ≡ On → ⊥
+other-stops k e = let z : tagOf the-type On ≡ 0 = refl in let q = ap (tagOf the-type) e in ⊎-elim (λ h. omega arith) (λ h. omega arith) k
 
 -- what follows a statement stands past it
 rest-stands : (t : Table) (depth at : ℕ) → begins (t .kind at) ≡ true → (b : Block) → Stands t depth b at → Stands t depth (rest-of b) (t .past at)
@@ -318,21 +362,37 @@ module _ (t : Table) (env : Env) (depth at : ℕ) (vars₀ next₀ ix₀ : List 
         kept = run .kept ∙ so .kept;
       }
 
-      pub block-leaves : r ≡ Leaving → RunsBlock t env depth at vars₀ next₀ ix₀ vars′ next′ ix′ r
-      block-leaves e = record {
-        says = λ b′ s.
-            let p = after b′ s in
-            ap (λ (x : Going). left x vars′ next′) e ∙ sym (p .2 ∙ ap (λ (x : Going). onward (left x vars′ next′) (exec env (take depth ix₀) (p .0))) e);
+      pub block-stops : (r ≡ On → ⊥) → RunsBlock t env depth at vars₀ next₀ ix₀ vars′ next′ ix′ r
+      block-stops stops = record {
+        says = λ b′ s. let p = after b′ s in sym (p .2 ∙ stopped r stops (exec env (take depth ix₀) (p .0)));
         kept = run .kept ∙ so .kept;
       }
+        where
+          stopped : (x : Going) → (x ≡ On → ⊥) → (f : Frame → Frame) → onward (left x vars′ next′) f ≡ left x vars′ next′
+          stopped On z f = absurd (z refl)
+          stopped Leaving z f = refl
+          stopped (Faulted a p) z f = refl
 
-      pub block-faults : {a p : ℕ} → r ≡ Faulted a p → RunsBlock t env depth at vars₀ next₀ ix₀ vars′ next′ ix′ (Faulted a p)
-      block-faults {a} {p} e = record {
-        says = λ b′ s.
-            let q = after b′ s in
-            sym (q .2 ∙ ap (λ (x : Going). onward (left x vars′ next′) (exec env (take depth ix₀) (q .0))) e);
-        kept = run .kept ∙ so .kept;
-      }
+  -- an `if` that no statement follows: the list goes on with what is chosen
+  pub block-last : {here : ℕ} {vars next ix : List ℤ} → Progress here vars next ix → {k : ℕ} → k ≡ t .kind here → k ≡ 13
+      → {n : ℕ} {chosen : Chosen} → Chooses t env (take depth ix) depth n here vars chosen → {m : ℕ} → chosen ≡ Went.List m
+      → {l j : ℕ} → l ≡ t .past here → j ≡ t .kind l → {b : Bool} → b ≡ begins j → b ≡ false → Progress m vars next ix
+  unfolding exec
+  block-last {here} {vars} {next} {ix} so ek is {n} {chosen} ch {m} h {l} {j} el ej {b} eb y = record {
+    says = λ b₀ s₀.
+        let vs = take depth ix₀ in
+        let fr = frame on vars next in
+        let p = so .says b₀ s₀ in
+        at-if t depth here (sym ek ∙ is)
+        (λ b′. exec env vs b₀ (frame on vars₀ next₀) ≡ exec env vs b′ fr → (q : Block) × Stands t depth q m × (exec env vs b₀ (frame on vars₀ next₀) ≡ exec env vs q fr))
+        (λ c d e rest x s u.
+        let F = chooses t env vs depth n here vars c d e next in
+        let w = subst (λ (z : Chosen). Settles t env vs depth z F fr) h (subst (λ (zs : List ℤ). Chooses t env zs depth n here vars chosen) (so .kept) ch .says c d e x next) in
+        let none : rest ≡ empty = none-stands t depth (t .past here) (sym (eb ∙ ap begins (ej ∙ ap (λ (i : ℕ). t .kind i) el)) ∙ y) rest s in
+        (w .0, w .1, u ∙ ap (λ (q : Block). onward F (exec env vs q)) none ∙ onward-empty env vs F ∙ w .2))
+        (p .0) (p .1) (p .2);
+    kept = so .kept;
+  }
 
 -- ---- a loop
 
@@ -457,15 +517,9 @@ module _ (t : Table) (env : Env) (depth at body : ℕ) (low : ℤ) (count : ℕ)
       kept = so .kept;
     }
 
--- ---- a run from memory that is as it was at first, and one loop deeper
+-- ---- one loop deeper
 
-pub choice-from : {t : Table} {env : Env} {depth at : ℕ} {a a₀ b b₀ i i₀ a′ b′ i′ : List ℤ} {r : Going} → a ≡ a₀ → b ≡ b₀ → i ≡ i₀
-    → RunsChoice t env depth at a b i a′ b′ i′ r → RunsChoice t env depth at a₀ b₀ i₀ a′ b′ i′ r
-choice-from {t} {env} {depth} {at} {a} {a₀} {b} {b₀} {i} {i₀} {a′} {b′} {i′} {r} e f g x =
-    subst (λ (z : List ℤ). RunsChoice t env depth at a₀ b₀ z a′ b′ i′ r) g
-    (subst (λ (z : List ℤ). RunsChoice t env depth at a₀ z i a′ b′ i′ r) f (subst (λ (z : List ℤ). RunsChoice t env depth at z b i a′ b′ i′ r) e x))
-
-pub deeper : {words sizes place : List ℕ} {grid : List ℤ} {site : Site} {depth : ℕ} → Ready words sizes place grid site depth → depth < 16 → Ready words sizes place grid site (depth + 1)
+pub deeper : {leaves words sizes place : List ℕ} {grid : List ℤ} {site : Site} {depth : ℕ} → Ready leaves words sizes place grid site depth → depth < 16 → Ready leaves words sizes place grid site (depth + 1)
 deeper r l = record {
   table = r .table;
   tokens = r .tokens;
@@ -480,4 +534,5 @@ deeper r l = record {
   own = r .own;
   entries = r .entries;
   loops = omega arith;
+  noted = r .noted;
 }

@@ -14,6 +14,7 @@ use Rattle.automaton.specs.Grid.{cell-of}
 use Rattle.program.specs.Syntax.{Range, no-range, Expr, Clause, Block, empty, assign, select, loop, exit, constant, Program}
 use Rattle.evaluator.specs.declared.Rule.{Rule}
 use Rattle.evaluator.specs.Evaluation.{Env, eval, Flow, on, leaving, faulted, Frame, frame, goes, onward, valued, store, conditional, assign-first, each, exec, evaluate}
+use Rattle.evaluator.specs.Leaves.{Leaves}
 use Rattle.evaluator.specs.Stands.{Table, ExprAt, target-in, first-clause, ClausesAt, LoopAt, begins, Stands, Choice, Holds}
 use Rattle.executor.specs.declared.Going.{Going}
 use Rattle.executor.specs.declared.Going.the-variants.{On, Leaving, Faulted}
@@ -21,6 +22,8 @@ use Rattle.executor.specs.declared.Outcome.{Outcome}
 use Rattle.executor.specs.declared.Outcome.the-variants.{Done, Fault}
 use Rattle.executor.specs.declared.assignment.Verdict.{Verdict}
 use Rattle.executor.specs.declared.assignment.Verdict.the-variants as Said
+use Rattle.executor.specs.declared.blocks.Chosen.{Chosen}
+use Rattle.executor.specs.declared.blocks.Chosen.the-variants as Went
 
 -- how statements go on
 abbrev pub flow-of : Going → Flow
@@ -86,11 +89,23 @@ pub record RunsStatement (t : Table) (env : Env) (depth at : ℕ) (vars next ix 
       → exec env (take depth ix) b (frame on vars next) ≡ onward (left r vars′ next′) (exec env (take depth ix) (rest-of b))
   pub kept : take depth ix′ ≡ take depth ix
 
+-- where a choice goes on: with statements that stand at a position, with nothing more, or with a fault
+abbrev pub Settles : Table → Env → List ℤ → ℕ → Chosen → Frame → Frame → Type 0
+Settles t env vs depth (Went.List m) x fr = (b : Block) × Stands t depth b m × (x ≡ exec env vs b fr)
+Settles t env vs depth Went.Nothing x fr = x ≡ fr
+Settles t env vs depth (Went.Faulted number place) x fr = x ≡ goes (faulted number place) fr
+
+-- a list's position lies past `at` and not past the last token
+abbrev pub Forward : ℕ → ℕ → Chosen → Type 0
+Forward at n (Went.List m) = (at < m) × (m ≤ n)
+Forward at n Went.Nothing = Unit {0}
+Forward at n (Went.Faulted number place) = Unit {0}
+
 -- a choice
-pub record RunsChoice (t : Table) (env : Env) (depth at : ℕ) (vars next ix vars′ next′ ix′ : List ℤ) (r : Going) : Type 0 where
-  pub says : (c : Expr) (d e : Block) → Choice t depth c d e at
-      → left r vars′ next′ ≡ conditional env (take depth ix) (some c) (exec env (take depth ix) d) (exec env (take depth ix) e) (frame on vars next)
-  pub kept : take depth ix′ ≡ take depth ix
+pub record Chooses (t : Table) (env : Env) (vs : List ℤ) (depth n at : ℕ) (vars : List ℤ) (r : Chosen) : Type 0 where
+  pub says : (c : Expr) (d e : Block) → Choice t depth c d e at → (next : List ℤ)
+      → Settles t env vs depth r (conditional env vs (some c) (exec env vs d) (exec env vs e) (frame on vars next)) (frame on vars next)
+  pub onward : Forward at n r
 
 abbrev pub body-of : Env → List ℤ → Block → ℤ → Frame → Frame
 body-of env vs d v = exec env (vs ++ (v ∷ [])) d
@@ -103,8 +118,8 @@ pub record RunsLoop (t : Table) (env : Env) (depth at : ℕ) (vars next ix vars�
 
 -- ---- a cell
 
--- what is asked of the numbers; nothing is asked of what the table holds. There are as many fields as entries in the memory lent for them
-pub record Fit (words : List ℕ) (rule : Rule) (sizes place : List ℕ) (cell : ℕ) (grid : List ℤ) (fields time : ℕ) : Type 0 where
+-- what is asked of the numbers; nothing is asked of what the word table holds, but the leaf table must be its own. There are as many fields as entries in the memory lent for them
+pub record Fit (leaves words : List ℕ) (rule : Rule) (sizes place : List ℕ) (cell : ℕ) (grid : List ℤ) (fields time : ℕ) : Type 0 where
   pub table : 4 * rule .tokens ≤ length words
   pub tokens : rule .tokens ≤ 4096
   pub base : rule .base ≤ 4096
@@ -120,6 +135,7 @@ pub record Fit (words : List ℕ) (rule : Rule) (sizes place : List ℕ) (cell :
   pub inside : cell < product sizes
   pub own : place ≡ coordinates sizes cell
   pub entries : product sizes * rule .fields ≡ length grid
+  pub noted : Leaves leaves words sizes (rule .tokens) (rule .fields) (rule .slots)
 
 -- the outcome of a cell whose next fields are left in `next`
 abbrev pub outcome-is : Outcome → List ℤ → Step.Outcome (List ℤ)

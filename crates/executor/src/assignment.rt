@@ -6,17 +6,18 @@ ghost use Rattle.value.specs.Worked.{truth};
 ghost use Rattle.program.specs.Syntax.{no-range};
 ghost use Rattle.evaluator.specs.Evaluation.{in-field};
 ghost use Rattle.evaluator.specs.Stands.{first-clause};
-ghost use Rattle.evaluator.specs.Working.{site-table, env-of, Ready, EvalsExpression};
+ghost use Rattle.evaluator.specs.Working.{site-table, env-of, Ready, EvalsExpression, Quick};
 ghost use Rattle.executor.specs.Running.{field-range, Stores, AssignsOne, Guards, Assigns};
 use crate::Going;
 use evaluator::Site;
 use evaluator::Told;
 use evaluator::expression::expression;
 use evaluator::expression::quick;
+use evaluator::simple::simple;
 use evaluator::table::link_at;
 use evaluator::table::place_at;
 use evaluator::table::word_at;
-use program::kind;
+use token::kind;
 use value::Value;
 
 // Whether a value counts as true: it is not 0.
@@ -49,6 +50,7 @@ fn put_field(next: &mut [i32], which: usize, v: Value)
 
 // Whether a value is in the range of a field; that of no field is 0 alone.
 fn fits_field(
+    leaves: &[u32; 32776],
     words: &[u32],
     sizes: &[u32],
     place: &[u32],
@@ -58,7 +60,7 @@ fn fits_field(
     which: usize,
     v: Value,
 ) -> bool
-    requires { ⌜ Ready (now words) (now sizes) (now place) (now grid) site depth ⌝ }
+    requires { ⌜ Ready (now leaves) (now words) (now sizes) (now place) (now grid) site depth ⌝ }
     ensures { λ r. ⌜ r ≡ in-field (field-range (env-of (now (words .entry)) (now (sizes .entry)) (now (grid .entry)) site) which) (v .n) ⌝ }
 {
     if which < site.fields {
@@ -72,6 +74,7 @@ fn fits_field(
 
 // Stores a value in the target of the assignment at a position; `here` is the position of the `:=` before the value.
 fn put(
+    leaves: &[u32; 32776],
     words: &[u32],
     sizes: &[u32],
     place: &[u32],
@@ -84,13 +87,13 @@ fn put(
     here: usize,
     v: Value,
 ) -> Going
-    requires { ⌜ Ready (now words) (now sizes) (now place) (now grid) site depth ⌝ }
+    requires { ⌜ Ready (now leaves) (now words) (now sizes) (now place) (now grid) site depth ⌝ }
     ensures { λ r. ⌜ Stores (site-table (now (words .entry)) (now (sizes .entry)) site) (env-of (now (words .entry)) (now (sizes .entry)) (now (grid .entry)) site) at here (v .n) (take (site .slots) (now (vars .entry))) (now (next .entry)) (take (site .slots) (now (vars .exit))) (now (next .exit)) r ⌝ }
 {
     let n = site.tokens;
     let which = word_at(words, n, 2, at) as usize;
     if word_at(words, n, 0, at) == kind::CELL {
-        if fits_field(words, sizes, place, grid, site, depth, which, v) {
+        if fits_field(leaves, words, sizes, place, grid, site, depth, which, v) {
             put_field(next, which, v);
             return Going::On;
         }
@@ -101,7 +104,8 @@ fn put(
 }
 
 // The expression at a position: in one loop where that can be, else by every way that an expression can go.
-pub fn worked_out(
+fn long(
+    leaves: &[u32; 32776],
     words: &[u32],
     sizes: &[u32],
     place: &[u32],
@@ -112,18 +116,77 @@ pub fn worked_out(
     depth: usize,
     at: usize,
 ) -> Told
-    requires { ⌜ Ready (now words) (now sizes) (now place) (now grid) site depth × (at ≤ site .tokens) ⌝ }
+    requires { ⌜ Ready (now leaves) (now words) (now sizes) (now place) (now grid) site depth × (at ≤ site .tokens) ⌝ }
     ensures { λ r. ⌜ EvalsExpression (site-table (now (words .entry)) (now (sizes .entry)) site) (env-of (now (words .entry)) (now (sizes .entry)) (now (grid .entry)) site) (take (site .slots) (now (vars .entry))) (take depth (now (index .entry))) (site .tokens) at 1 r ⌝ }
 {
-    let short = quick(words, sizes, place, grid, vars, index, site, depth, at, 1);
+    let short = quick(
+        leaves,
+        words,
+        sizes,
+        place,
+        grid,
+        vars,
+        index,
+        site,
+        depth,
+        at,
+        1,
+    );
     let Told::Found(v, next) = short else {
-        return expression(words, sizes, place, grid, vars, index, site, depth, at, 1);
+        return expression(
+            leaves,
+            words,
+            sizes,
+            place,
+            grid,
+            vars,
+            index,
+            site,
+            depth,
+            at,
+            1,
+        );
+    };
+    Told::Found(v, next)
+}
+
+// The expression at a position, of which a first answer may be known already.
+pub fn settled(
+    first: Told,
+    leaves: &[u32; 32776],
+    words: &[u32],
+    sizes: &[u32],
+    place: &[u32],
+    grid: &[i32],
+    vars: &[i32; 256],
+    index: &[i32; 16],
+    site: Site,
+    depth: usize,
+    at: usize,
+) -> Told
+    requires { ⌜ Ready (now leaves) (now words) (now sizes) (now place) (now grid) site depth × (at ≤ site .tokens) × Quick (site-table (now words) (now sizes) site) (env-of (now words) (now sizes) (now grid) site) (take (site .slots) (now vars)) (take depth (now index)) (site .tokens) at 1 first ⌝ }
+    ensures { λ r. ⌜ EvalsExpression (site-table (now (words .entry)) (now (sizes .entry)) site) (env-of (now (words .entry)) (now (sizes .entry)) (now (grid .entry)) site) (take (site .slots) (now (vars .entry))) (take depth (now (index .entry))) (site .tokens) at 1 r ⌝ }
+{
+    let Told::Found(v, next) = first else {
+        return long(
+            leaves,
+            words,
+            sizes,
+            place,
+            grid,
+            vars,
+            index,
+            site,
+            depth,
+            at,
+        );
     };
     Told::Found(v, next)
 }
 
 // The clause at a `:=`, for the assignment at a position: its expression is worked out and stored.
 fn assign_one(
+    leaves: &[u32; 32776],
     words: &[u32],
     sizes: &[u32],
     place: &[u32],
@@ -136,10 +199,12 @@ fn assign_one(
     at: usize,
     here: usize,
 ) -> Going
-    requires { ⌜ Ready (now words) (now sizes) (now place) (now grid) site depth × (here < site .tokens) ⌝ }
+    requires { ⌜ Ready (now leaves) (now words) (now sizes) (now place) (now grid) site depth × (here < site .tokens) ⌝ }
     ensures { λ r. ⌜ AssignsOne (site-table (now (words .entry)) (now (sizes .entry)) site) (env-of (now (words .entry)) (now (sizes .entry)) (now (grid .entry)) site) (take depth (now (index .entry))) at here (take (site .slots) (now (vars .entry))) (now (next .entry)) (take (site .slots) (now (vars .exit))) (now (next .exit)) r ⌝ }
 {
-    let told = worked_out(
+    let from = here + 1;
+    let first = simple(
+        leaves,
         words,
         sizes,
         place,
@@ -148,10 +213,24 @@ fn assign_one(
         index,
         site,
         depth,
-        here + 1,
+        from,
+    );
+    let told = settled(
+        first,
+        leaves,
+        words,
+        sizes,
+        place,
+        grid,
+        vars,
+        index,
+        site,
+        depth,
+        from,
     );
     match told {
         Told::Found(v, _) => put(
+            leaves,
             words,
             sizes,
             place,
@@ -177,6 +256,7 @@ pub enum Verdict {
 
 // The condition of the clause at a `:=`; a clause without one is chosen.
 fn guard(
+    leaves: &[u32; 32776],
     words: &[u32],
     sizes: &[u32],
     place: &[u32],
@@ -187,14 +267,16 @@ fn guard(
     depth: usize,
     here: usize,
 ) -> Verdict
-    requires { ⌜ Ready (now words) (now sizes) (now place) (now grid) site depth × (here < site .tokens) ⌝ }
+    requires { ⌜ Ready (now leaves) (now words) (now sizes) (now place) (now grid) site depth × (here < site .tokens) ⌝ }
     ensures { λ r. ⌜ Guards (site-table (now (words .entry)) (now (sizes .entry)) site) (env-of (now (words .entry)) (now (sizes .entry)) (now (grid .entry)) site) (take depth (now (index .entry))) here (take (site .slots) (now (vars .entry))) r ⌝ }
 {
     let n = site.tokens;
     if word_at(words, n, 2, here) == 0 {
         return Verdict::Holds;
     }
-    let told = worked_out(
+    let from = link_at(words, n, 2, here);
+    let first = simple(
+        leaves,
         words,
         sizes,
         place,
@@ -203,7 +285,20 @@ fn guard(
         index,
         site,
         depth,
-        link_at(words, n, 2, here),
+        from,
+    );
+    let told = settled(
+        first,
+        leaves,
+        words,
+        sizes,
+        place,
+        grid,
+        vars,
+        index,
+        site,
+        depth,
+        from,
     );
     match told {
         Told::Found(v, _) => {
@@ -229,6 +324,7 @@ fn clause_of(words: &[u32], sizes: &[u32], site: Site, at: usize) -> usize
 
 // The assignment at a position.
 pub fn assignment(
+    leaves: &[u32; 32776],
     words: &[u32],
     sizes: &[u32],
     place: &[u32],
@@ -240,16 +336,28 @@ pub fn assignment(
     depth: usize,
     at: usize,
 ) -> Going
-    requires { ⌜ Ready (now words) (now sizes) (now place) (now grid) site depth × (at < site .tokens) ⌝ }
+    requires { ⌜ Ready (now leaves) (now words) (now sizes) (now place) (now grid) site depth × (at < site .tokens) ⌝ }
     ensures { λ r. ⌜ Assigns (site-table (now (words .entry)) (now (sizes .entry)) site) (env-of (now (words .entry)) (now (sizes .entry)) (now (grid .entry)) site) (take depth (now (index .entry))) at (take (site .slots) (now (vars .entry))) (now (next .entry)) (take (site .slots) (now (vars .exit))) (now (next .exit)) r ⌝ }
 {
     let n = site.tokens;
     let mut here = clause_of(words, sizes, site, at);
     while word_at(words, n, 0, here) == kind::ASSIGN {
-        let chosen = guard(words, sizes, place, grid, vars, index, site, depth, here);
+        let chosen = guard(
+            leaves,
+            words,
+            sizes,
+            place,
+            grid,
+            vars,
+            index,
+            site,
+            depth,
+            here,
+        );
         match chosen {
             Verdict::Holds => {
                 return assign_one(
+                    leaves,
                     words,
                     sizes,
                     place,

@@ -7,7 +7,7 @@ ghost use Rattle.automaton.specs.Grid.{cell-of};
 ghost use Rattle.executor.specs.Running.{Fit, Evaluates};
 use crate::Going;
 use crate::Outcome;
-use crate::statements::block;
+use crate::blocks::block;
 use evaluator::Rule;
 use evaluator::Site;
 
@@ -41,6 +41,7 @@ fn copy_fields(grid: &[i32], cell: usize, next: &mut [i32])
 // Evaluates a cell, by the rule that stands in the table: its next fields stand in `next`, unless there is a fault. Variables start at 0.
 // `sizes` are those of the grid, `place` the cell's coordinates, `cell` its number.
 pub fn evaluate_cell(
+    leaves: &[u32; 32776],
     words: &[u32],
     rule: Rule,
     sizes: &[u32],
@@ -52,7 +53,7 @@ pub fn evaluate_cell(
     index: &mut [i32; 16],
     time: u32,
 ) -> Outcome
-    requires { ⌜ Fit (now words) rule (now sizes) (now place) cell (now grid) (length (now next)) time ⌝ }
+    requires { ⌜ Fit (now leaves) (now words) rule (now sizes) (now place) cell (now grid) (length (now next)) time ⌝ }
     ensures { λ r. ⌜ Evaluates (now (words .entry)) rule (now (sizes .entry)) cell (now (grid .entry)) (now (next .exit)) time r ⌝ }
 {
     let slots = rule.slots as usize;
@@ -67,6 +68,7 @@ pub fn evaluate_cell(
         time: time,
     };
     let flow = block(
+        leaves,
         words,
         sizes,
         place,

@@ -1,8 +1,8 @@
 // Evaluating one cell, off the word table: statements.
 
 pub mod assignment;
+pub mod blocks;
 pub mod cell;
-pub mod statements;
 
 // How statements go on: with the next one; by leaving the innermost loop; or not at all, after a fault, by its number and place.
 pub enum Going {

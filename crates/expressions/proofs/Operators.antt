@@ -20,7 +20,7 @@ use Rattle.reader.specs.declared.Read.the-variants.{Next}
 use Rattle.reader.specs.Reading.{input, state, anything, once-more, at-end, Gives, refusal, Moved}
 use Rattle.reader.proofs.Steps.{bind-ok, by-another, on, so, other, token, made, refused, returned, advanced}
 use Rattle.expressions.specs.Promises.{are-relations}
-use Rattle.expressions.proofs.Levels.{level-few}
+use Rattle.token.proofs.Levels.{level-few}
 
 -- ---- levels beyond the tightest: the operand alone
 

@@ -15,7 +15,6 @@ use constants::read_signed;
 use names::Found;
 use names::entry_in;
 use names::find_name;
-use program::kind;
 use program::put_word;
 use program::token_at;
 use reader::Read;
@@ -31,6 +30,8 @@ use reader::refuse;
 use reader::use_name;
 use token::Scan;
 use token::Token;
+use token::kind;
+use token::kind::level_of;
 
 // What the cell declaration says of a cell: how many dimensions there are, and whether its fields are named.
 pub struct Cell {
@@ -265,20 +266,6 @@ fn read_own(
 }
 
 // ---- operators
-
-// The level of a binary operator; 0 for what is none.
-fn level_of(k: u32) -> u32
-    ensures { λ r. ⌜ r ≡ level-of k ⌝ }
-{
-    match k {
-        kind::TIMES | kind::SLASH | kind::PERCENT => 4,
-        kind::PLUS | kind::MINUS => 3,
-        kind::EQUAL | kind::UNEQUAL | kind::LESS | kind::GREATER | kind::AT_MOST | kind::AT_LEAST =>
-            2,
-        kind::AND | kind::OR => 1,
-        _ => 0,
-    }
-}
 
 // Whether two levels are those of relations.
 fn are_relations(own: u32, last: u32) -> bool

@@ -119,28 +119,22 @@ pub record Accepted : Type 0 where
   pub words : List ℕ
   pub names : List ℕ
 
+-- what is left of a source whose declaration and statements are read
+abbrev pub accepted-as : Input → Declared → Block → State → Accepted
+accepted-as input d body s =
+    record {
+      program = record { dims = d .cell .dims; fields = d .fields; slots = s .count; body = body; timed = has-kind (kind .time) (s .words) (input .scan .count) };
+      words = s .words;
+      names = sized (s .words) (s .names) (s .count);
+    }
+
 -- the end of the source stands behind the last statement, and no complaint is noted
 unfoldable pub finish : Declared → Block → Reader Accepted
 finish d body input s =
     let t = token-of input s (s .at) in
     if not (is-kind t (kind .stop) && eqb (t .value) 7) then refuse 7 input s
     else if not (eqb (s .noted .number) 0) then refuse-with (s .noted)
-    else
-    ok (
-      record {
-        program =
-            record {
-              dims = d .cell .dims;
-              fields = d .fields;
-              slots = s .count;
-              body = body;
-              timed = has-kind (kind .time) (s .words) (input .scan .count);
-            };
-        words = s .words;
-        names = sized (s .words) (s .names) (s .count);
-      },
-      s,
-    )
+    else ok (accepted-as input d body s, s)
 
 unfoldable pub read-program : Reader Accepted
 read-program = do
@@ -148,6 +142,10 @@ read-program = do
   d ← read-cell
   body ← read-block (d .cell) most-open 0
   finish d body
+
+-- a source, with its tokens
+abbrev pub input-of : List ℕ → Input
+input-of source = record { source = source; scan = scan-of (scan source) }
 
 -- where reading begins: the tokens stand in the table, and no name is declared
 abbrev pub start-state : Scanned → State
@@ -160,6 +158,4 @@ what-is-read (fail number place) = fail number place
 
 -- what a source of allowed length means, or the number and place of the reply that refuses it
 unfoldable pub parse : List ℕ → Result Accepted
-parse source =
-    let scanned = scan source in
-    what-is-read (read-program (record { source = source; scan = scan-of scanned }) (start-state scanned))
+parse source = what-is-read (read-program (input-of source) (start-state (scan source)))

@@ -16,7 +16,7 @@ use evaluator::neighbour::element_after;
 use evaluator::table::link_at;
 use evaluator::table::place_at;
 use evaluator::table::word_at;
-use program::kind;
+use token::kind;
 
 // The words of the lowest and the highest value of an index.
 struct Ends {

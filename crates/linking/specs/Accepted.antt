@@ -16,7 +16,7 @@ use Rattle.program.specs.Syntax.{Expr, Clause, Block}
 use Rattle.grammar.specs.Reader.{Input, State, Result, ok, fail, Reader, refuse-with, unit, token-of, is-kind, refuse}
 use Rattle.grammar.specs.Constants.{read-constants}
 use Rattle.grammar.specs.Statements.{read-block}
-use Rattle.grammar.specs.Source.{Declared, read-cell, most-open, start-state, has-kind, sized, Accepted, finish, read-program, what-is-read, parse}
+use Rattle.grammar.specs.Source.{Declared, read-cell, most-open, input-of, start-state, Accepted, accepted-as, finish, read-program, what-is-read, parse}
 use Rattle.evaluator.specs.declared.Rule.{Rule}
 use Rattle.evaluator.specs.Stands.{Holds, table-of, rule-table}
 use Rattle.evaluator.specs.Written.{written-in}
@@ -24,16 +24,7 @@ use Rattle.evaluator.specs.Listing.{Writes}
 use Rattle.linking.specs.Steps.{Gives, bind, no-end}
 use Rattle.linking.specs.Runs.{tokens}
 use Rattle.linking.specs.Timed.{Timing}
-use Rattle.linking.specs.Linking.{input-of, Linked, linking, timed-linked}
-
--- what is left of a source that is read
-abbrev pub accepted-as : Input → Declared → Block → State → Accepted
-accepted-as input d b s =
-    record {
-      program = record { dims = d .cell .dims; fields = d .fields; slots = s .count; body = b; timed = has-kind (kind .time) (s .words) (input .scan .count) };
-      words = s .words;
-      names = sized (s .words) (s .names) (s .count);
-    }
+use Rattle.linking.specs.Linking.{Linked, linking, timed-linked}
 
 -- the states at which the cell declaration, the statements and the end stand
 pub record Parsed (source : List ℕ) (a : Accepted) : Type 0 where

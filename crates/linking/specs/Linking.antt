@@ -22,7 +22,7 @@ use Rattle.program.specs.Table.{word-at}
 use Rattle.grammar.specs.Reader.{Input, State, ok, unit, token-of}
 use Rattle.grammar.specs.Constants.{read-constants}
 use Rattle.grammar.specs.Statements.{read-block}
-use Rattle.grammar.specs.Source.{Declared, read-cell, most-open, start-state, has-kind}
+use Rattle.grammar.specs.Source.{Declared, read-cell, most-open, input-of, start-state, has-kind}
 use Rattle.evaluator.specs.Stands.{table-of, word-in, ranges-in, Stands}
 use Rattle.evaluator.specs.Written.{written-in-block}
 use Rattle.evaluator.specs.Listing.{Writes}
@@ -87,9 +87,6 @@ behind ts n j l =
     ap (λ (k : ℕ). getD (token-words ts ++ replicate n 0) k 0) e ∙ getD-append-add (token-words ts) (replicate n 0) m 0 ∙ zeros n m
 
 -- ---- the text of a source
-
-abbrev pub input-of : List ℕ → Input
-input-of source = record { source = source; scan = scan-of (scan source) }
 
 module _ (source : List ℕ) (short : length source ≤ 65535) where
   good : Good source 0 (scan source)

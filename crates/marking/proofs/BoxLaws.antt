@@ -14,7 +14,7 @@ use Rattle.value.specs.Worked.{wrap-of}
 use Rattle.automaton.specs.Shape.{product, cell-number, coordinates, shift, neighbour, Bound, width, box-indices, reach-of, opens-of}
 use Rattle.automaton.specs.ShapeLaws.{Inside, Positive, Alike, Within, AllWithin, product-pos, wrap-mod, reach-opens, mem-box, box-alike, coordinates-inside}
 use Rattle.stepper.specs.Reach.{own-only}
-use Rattle.marking.specs.Noting.{note-all, rows, line, box-cells, first-of, count-of, cells-opened, Boxed}
+use Rattle.marking.specs.Noting.{note-all, rows, line, box-cells, opened-from, opened-count, cells-opened, Boxed}
 use Rattle.marking.proofs.NotingLaws.{mem-rows, rows-same, Noted, noted-done}
 
 -- ---- one dimension
@@ -22,7 +22,7 @@ use Rattle.marking.proofs.NotingLaws.{mem-rows, rows-same, Noted, noted
 module _ (n : ℕ) (b : Bound) (i : ℕ) (l : i < n) (near : b .ahead ≤ n) where
   -- the e-th coordinate that is opened
   abbrev opened-at : ℕ → ℕ
-  opened-at e = (first-of n b i + e) % n
+  opened-at e = (opened-from n b i + e) % n
 
   summed : (e : ℕ) → opened-at e ≡ (i + (n - b .ahead) + e) % n
   summed e = mod-add-mod (i + (n - b .ahead)) n e
@@ -41,7 +41,7 @@ module _ (n : ℕ) (b : Bound) (i : ℕ) (l : i < n) (near : b .ahead ≤ n) whe
       let s : i + (n - b .ahead) + (b .ahead + suc m) ≡ i + suc m + n = omega arith in
       summed (b .ahead + suc m) ∙ ap (λ (x : ℕ). x % n) s ∙ add-mod-right (i + suc m) n
 
-  line-there : (e : ℕ) → e < count-of n b → (d : ℤ) × Within b d × (opened-at e ≡ wrap-of i (negℤ d) n)
+  line-there : (e : ℕ) → e < opened-count n b → (d : ℤ) × Within b d × (opened-at e ≡ wrap-of i (negℤ d) n)
   line-there e h = go (decLe e (b .ahead))
     where
       go : Dec (e ≤ b .ahead) → (d : ℤ) × Within b d × (opened-at e ≡ wrap-of i (negℤ d) n)
@@ -54,16 +54,16 @@ module _ (n : ℕ) (b : Bound) (i : ℕ) (l : i < n) (near : b .ahead ≤ n) whe
           let w : e - suc (b .ahead) < b .back = omega arith in
           (negsuc (e - suc (b .ahead)), w, ap opened-at s ∙ at-back (e - suc (b .ahead)))
 
-  line-back : (d : ℤ) → Within b d → (e : ℕ) × (e < count-of n b) × (opened-at e ≡ wrap-of i (negℤ d) n)
+  line-back : (d : ℤ) → Within b d → (e : ℕ) × (e < opened-count n b) × (opened-at e ≡ wrap-of i (negℤ d) n)
   line-back d w = go d w
     where
       -- a coordinate past the count is one before it
-      folded : (e x : ℕ) → e < width b → opened-at e ≡ x → (e : ℕ) × (e < count-of n b) × (opened-at e ≡ x)
+      folded : (e x : ℕ) → e < width b → opened-at e ≡ x → (e : ℕ) × (e < opened-count n b) × (opened-at e ≡ x)
       folded e x h q =
           let z : e % n < n = mod-lt e (omega arith) in
-          (e % n, omega (arith, mod-le e n), add-mod-mod (first-of n b i) e n ∙ q)
+          (e % n, omega (arith, mod-le e n), add-mod-mod (opened-from n b i) e n ∙ q)
 
-      go : (d : ℤ) → Within b d → (e : ℕ) × (e < count-of n b) × (opened-at e ≡ wrap-of i (negℤ d) n)
+      go : (d : ℤ) → Within b d → (e : ℕ) × (e < opened-count n b) × (opened-at e ≡ wrap-of i (negℤ d) n)
       go (pos m) h = folded (b .ahead - m) _ (omega arith) (at-ahead m h)
       go (negsuc m) h = folded (b .ahead + suc m) _ (omega arith) (at-back m)
 
@@ -78,8 +78,8 @@ Opens ns bs is base c = (ds : List ℤ) × AllWithin bs ds × (c ≡ base * prod
 
 -- what the first coordinates and the counts of a box are
 pub record Follows (ns : List ℕ) (bs : List Bound) (is : List ℕ) (first count : ℕ → ℕ) : Type 0 where
-  pub firsts : (k : ℕ) → k < length ns → first k ≡ first-of (getD ns k 0) (getD bs k own-only) (getD is k 0)
-  pub counts : (k : ℕ) → k < length ns → count k ≡ count-of (getD ns k 0) (getD bs k own-only)
+  pub firsts : (k : ℕ) → k < length ns → first k ≡ opened-from (getD ns k 0) (getD bs k own-only) (getD is k 0)
+  pub counts : (k : ℕ) → k < length ns → count k ≡ opened-count (getD ns k 0) (getD bs k own-only)
   pub near : (k : ℕ) → k < length ns → getD bs k own-only .ahead ≤ getD ns k 0
 
 follows-rest : {n : ℕ} {ns : List ℕ} {b : Bound} {bs : List Bound} {i : ℕ} {is : List ℕ} {first count : ℕ → ℕ}
@@ -97,7 +97,7 @@ module _ (n : ℕ) (ns : List ℕ) (b : Bound) (bs : List Bound) (i : ℕ) (is :
   near-first : b .ahead ≤ n
   near-first = f .near 0 (omega arith)
 
-  start : (e : ℕ) → (first 0 + e) % n ≡ (first-of n b i + e) % n
+  start : (e : ℕ) → (first 0 + e) % n ≡ (opened-from n b i + e) % n
   start e = ap (λ (x : ℕ). (x + e) % n) (f .firsts 0 (omega arith))
 
   step-there : List·Memᴰ c (rows row (count 0)) → Opens (n ∷ ns) (b ∷ bs) (i ∷ is) base c
@@ -150,10 +150,10 @@ opens-reach ns bs bound positive alike same near c x lc lx = (there, back)
     f : List ℤ → ℕ
     f ds = neighbour ns x (map negℤ ds)
 
-    follows : Follows ns bs (coordinates ns x) (λ k. first-of (getD ns k 0) (bound k) (getD (coordinates ns x) k 0)) (λ k. count-of (getD ns k 0) (bound k))
+    follows : Follows ns bs (coordinates ns x) (λ k. opened-from (getD ns k 0) (bound k) (getD (coordinates ns x) k 0)) (λ k. opened-count (getD ns k 0) (bound k))
     follows = record {
-      firsts = λ k l. ap (λ (b : Bound). first-of (getD ns k 0) b (getD (coordinates ns x) k 0)) (sym (same k l));
-      counts = λ k l. ap (count-of (getD ns k 0)) (sym (same k l));
+      firsts = λ k l. ap (λ (b : Bound). opened-from (getD ns k 0) b (getD (coordinates ns x) k 0)) (sym (same k l));
+      counts = λ k l. ap (opened-count (getD ns k 0)) (sym (same k l));
       near = λ k l. rw (same k l) (near k l);
     }
 

@@ -11,10 +11,9 @@ use lib.Seq.{ext-getD}
 use lib.IntN.{ℤ}
 use Rattle.automaton.specs.Listed.{length-list-of, getD-list-of}
 use Rattle.automaton.specs.Step.{any-of, marks-of}
-use Rattle.automaton.specs.Quiet.{any-of-false}
+use Rattle.automaton.specs.Quiet.{any-of-false, any-of-true}
 use Rattle.automaton.specs.Shape.{product, neighbour, Bound, box-indices, reach-of}
 use Rattle.automaton.specs.ShapeLaws.{Alike, alike-length, neighbour-lt, box-alike}
-use Rattle.automaton.specs.Marking.{any-some}
 use Rattle.automaton.specs.Grid.{cell-of, differ}
 use Rattle.evaluator.proofs.PrimaryLaws.{room}
 use Rattle.stepper.specs.Reach.{own-only}
@@ -163,7 +162,7 @@ module _ (ns : List ℕ) (reach : Reach) (fields : ℕ) (old grid : List ℤ) (m
 
       at : (k : ℕ) → k < product ns → (t : Bool) → opened ns bounds fields old grid k ≡ t → getD marks k 0 / 2 ≡ cond t 1 0
       at k lk true e =
-          let r = any-some Moved (reach-of ns (box-indices bounds) k) e in
+          let r = any-of-true Moved (reach-of ns (box-indices bounds) k) e in
           let lx = in-reach k (r .0) lk (r .1) in
           let m = mem-rows By k (product ns) .1 (r .0, lx, opened-mem k (r .0) lk lx (r .1) (r .2)) in
           let v : getD marks k 0 ≡ getD marks₀ k 0 % 2 + 2 = ap (λ (z : List ℕ). getD z k 0) says ∙ note-in (rows By (product ns)) k marks₀ (omega (arith, s .marks-fit)) m in

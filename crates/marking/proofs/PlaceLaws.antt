@@ -12,7 +12,7 @@ use Rattle.automaton.specs.Shape.{product, cell-number, coordinates}
 use Rattle.automaton.specs.ShapeLaws.{Inside, Positive, product-pos, coordinates-number}
 use Rattle.stepper.specs.Fitting.{bound-at}
 use Rattle.stepper.specs.declared.Reach.{Reach}
-use Rattle.marking.specs.Noting.{first-of, count-of, Shaped, Firsts, Counts}
+use Rattle.marking.specs.Noting.{opened-from, opened-count, Shaped, Firsts, Counts}
 use Rattle.marking.proofs.BoxLaws.{regroup}
 
 -- ---- one coordinate
@@ -80,7 +80,7 @@ module _ (ns : List ℕ) (reach : Reach) (s : Shaped ns reach) (k : ℕ) (l : k 
 -- the first k counts are made
 pub record Counting (ns : List ℕ) (reach : Reach) (counts : List ℕ) (k : ℕ) : Type 0 where
   pub len : length counts ≡ 3
-  pub each : (m : ℕ) → m < k → getD counts m 0 ≡ count-of (getD ns m 0) (bound-at reach m)
+  pub each : (m : ℕ) → m < k → getD counts m 0 ≡ opened-count (getD ns m 0) (bound-at reach m)
 
 module _ (ns : List ℕ) (reach : Reach) where
   pub counting-start : (counts : List ℕ) → length counts ≡ 3 → Counting ns reach counts 0
@@ -93,10 +93,10 @@ module _ (ns : List ℕ) (reach : Reach) where
     each = λ m h. at m (last-or-below (let w : m < suc k = omega arith in w));
   }
     where
-      value : v ≡ count-of (getD ns k 0) (bound-at reach k)
+      value : v ≡ opened-count (getD ns k 0) (bound-at reach k)
       value = ev ∙ simp (en, eb, ea)
 
-      at : (m : ℕ) → (m ≡ k) ⊎ (m < k) → getD (set counts k v) m 0 ≡ count-of (getD ns m 0) (bound-at reach m)
+      at : (m : ℕ) → (m ≡ k) ⊎ (m < k) → getD (set counts k v) m 0 ≡ opened-count (getD ns m 0) (bound-at reach m)
       at m (inl q) = rw q (getD-set-same counts k v 0 (omega (arith, s .len)) ∙ value)
       at m (inr q) = getD-set-other counts k m v 0 (λ r. absurd (let w = r in omega arith)) ∙ s .each m q
 
@@ -112,7 +112,7 @@ pub record Placing (ns : List ℕ) (reach : Reach) (x : ℕ) (firsts : List ℕ)
   pub turn : k + length place ≡ length ns
   pub inside : Inside (drop k ns) place
   pub number : x ≡ rest * product (drop k ns) + cell-number (drop k ns) place
-  pub each : (m : ℕ) → m < length place → getD firsts (k + m) 0 ≡ first-of (getD ns (k + m) 0) (bound-at reach (k + m)) (getD place m 0)
+  pub each : (m : ℕ) → m < length place → getD firsts (k + m) 0 ≡ opened-from (getD ns (k + m) 0) (bound-at reach (k + m)) (getD place m 0)
 
 module _ (ns : List ℕ) (reach : Reach) (x : ℕ) where
   pub placing-start : (firsts : List ℕ) → length firsts ≡ 3 → Placing ns reach x firsts x (length ns)
@@ -151,7 +151,7 @@ module _ (ns : List ℕ) (reach : Reach) (x : ℕ) where
       number′ : x ≡ rest / n * product (drop j ns) + cell-number (drop j ns) (rest % n ∷ s .place)
       number′ = s .number ∙ rw (ek, cons) (split rest n (product (drop (suc j) ns)) (cell-number (drop (suc j) ns) (s .place)) (div-add-mod' rest n))
 
-      at : (m : ℕ) → m < suc (length (s .place)) → getD (set firsts j v) (j + m) 0 ≡ first-of (getD ns (j + m) 0) (bound-at reach (j + m)) (getD (rest % n ∷ s .place) m 0)
+      at : (m : ℕ) → m < suc (length (s .place)) → getD (set firsts j v) (j + m) 0 ≡ opened-from (getD ns (j + m) 0) (bound-at reach (j + m)) (getD (rest % n ∷ s .place) m 0)
       at zero h = rw (add-zero j) (getD-set-same firsts j v 0 (omega (arith, s .len)) ∙ ev ∙ simp (en, ea))
       at (suc m) h =
           let e : j + suc m ≡ k + m = omega arith in
@@ -177,7 +177,7 @@ module _ (ns : List ℕ) (reach : Reach) (x : ℕ) where
       place′ : coordinates ns x ≡ s .place
       place′ = ap (coordinates ns) (sym (none rest (product ns) _ number′ l)) ∙ coordinates-number ns (s .place) inside′
 
-      at : (m : ℕ) → m < length ns → getD firsts m 0 ≡ first-of (getD ns m 0) (bound-at reach m) (getD (coordinates ns x) m 0)
+      at : (m : ℕ) → m < length ns → getD firsts m 0 ≡ opened-from (getD ns m 0) (bound-at reach m) (getD (coordinates ns x) m 0)
       at m h =
           let e : k + m ≡ m = omega arith in
           rw place′ (rw e at (s .each m (omega (arith, s .turn))))

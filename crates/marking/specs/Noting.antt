@@ -36,17 +36,17 @@ box-cells [] first count base = base ∷ []
 box-cells (n ∷ ns) first count base = rows (λ e. box-cells ns (λ k. first (suc k)) (λ k. count (suc k)) (base * n + (first 0 + e) % n)) (count 0)
 
 -- the first coordinate that a change at the coordinate i opens, by the size: i - ahead, wrapped
-abbrev pub first-of : ℕ → Bound → ℕ → ℕ
-first-of n b i = (i + (n - b .ahead)) % n
+abbrev pub opened-from : ℕ → Bound → ℕ → ℕ
+opened-from n b i = (i + (n - b .ahead)) % n
 
 -- how many coordinates a change opens, by the size
-abbrev pub count-of : ℕ → Bound → ℕ
-count-of n b = min n (width b)
+abbrev pub opened-count : ℕ → Bound → ℕ
+opened-count n b = min n (width b)
 
 -- the cells that a change of the cell x opens, by the bound of each dimension
 unfoldable pub cells-opened : List ℕ → (ℕ → Bound) → ℕ → List ℕ
 cells-opened ns bound x =
-    box-cells ns (λ k. first-of (getD ns k 0) (bound k) (getD (coordinates ns x) k 0)) (λ k. count-of (getD ns k 0) (bound k)) 0
+    box-cells ns (λ k. opened-from (getD ns k 0) (bound k) (getD (coordinates ns x) k 0)) (λ k. opened-count (getD ns k 0) (bound k)) 0
 
 -- the cells that the cell x opens: none, if it did not change
 unfoldable pub opened-by : List ℕ → (ℕ → Bound) → ℕ → List ℤ → List ℤ → ℕ → List ℕ
@@ -74,12 +74,12 @@ pub record Shaped (ns : List ℕ) (reach : Reach) : Type 0 where
 -- the first coordinates that a change of the cell x opens
 pub record Firsts (ns : List ℕ) (reach : Reach) (x : ℕ) (firsts : List ℕ) : Type 0 where
   pub len : length firsts ≡ 3
-  pub each : (k : ℕ) → k < length ns → getD firsts k 0 ≡ first-of (getD ns k 0) (bound-at reach k) (getD (coordinates ns x) k 0)
+  pub each : (k : ℕ) → k < length ns → getD firsts k 0 ≡ opened-from (getD ns k 0) (bound-at reach k) (getD (coordinates ns x) k 0)
 
 -- how many coordinates a change opens
 pub record Counts (ns : List ℕ) (reach : Reach) (counts : List ℕ) : Type 0 where
   pub len : length counts ≡ 3
-  pub each : (k : ℕ) → k < length ns → getD counts k 0 ≡ count-of (getD ns k 0) (bound-at reach k)
+  pub each : (k : ℕ) → k < length ns → getD counts k 0 ≡ opened-count (getD ns k 0) (bound-at reach k)
 
 -- no cell from a cell on to before r has an odd mark
 pub record NextOdd (marks : List ℕ) (from r : ℕ) : Type 0 where

@@ -7,8 +7,7 @@ ghost use Rattle.program.specs.Table.{word-at, with-word};
 ghost use Rattle.program.specs.Standing.{Stands};
 use token::Scan;
 use token::Token;
-
-pub mod kind;
+use token::kind;
 
 // The token at position i, or the stop behind the last one.
 pub fn token_at(words: &[u32], scan: Scan, i: usize) -> Token

@@ -13,11 +13,11 @@ use names::Found;
 use names::find_name;
 use names::write_entry;
 use names::write_value;
-use program::kind;
 use program::put_word;
 use program::token_at;
 use token::Scan;
 use token::Token;
+use token::kind;
 
 // Where reading stands: the position of the next token, the number and place of the complaint noted so far (number 0: none), how many
 // names are declared; and the words read last: a value, a slot or a position in `word`, and a range's lower bound in `low`.

@@ -27,7 +27,7 @@ use Rattle.stepper.specs.Admission.{Request, Refusal, refusal, admission}
 use Rattle.stepper.specs.Report.{Counting, Report, refused, run}
 use Rattle.stepper.specs.Locality.{Flagged}
 use Rattle.stepper.specs.Fitting.{Sized}
-use Rattle.services.specs.Services.{begins, run-read, run-source}
+use Rattle.services.specs.Services.{run-begins, run-read, run-source}
 use Rattle.checker.specs.declared.checking.Outline.{Outline}
 use Rattle.checker.specs.Promises.{Trace, Outlines, accepted-by, Loads, Checks, is-accepted}
 use Rattle.admission.specs.declared.admitting.Admitted.{Admitted}
@@ -113,11 +113,11 @@ module _ {source ws ns : List ℕ} {known : Bool} {o : Outline} {ws′ : List �
 -- ---- a source that is not accepted
 
 module _ (fit : Bool) (source : List ℕ) (q : Request) {n place : ℕ} (reply : complaint n place ≡ check fit source) where
-  not-read : is-accepted (read-source fit source) ≡ false → (begins q (read-source fit source) ≡ false) × ((counting : Counting) → run-source counting fit source q ≡ refused n place (q .grid))
+  not-read : is-accepted (read-source fit source) ≡ false → (run-begins q (read-source fit source) ≡ false) × ((counting : Counting) → run-source counting fit source q ≡ refused n place (q .grid))
   unfolding run-source check
   not-read e = by (read-source fit source) reply e
     where
-      by : (r : Outcome) → complaint n place ≡ checking.reply-of r → is-accepted r ≡ false → (begins q r ≡ false) × ((counting : Counting) → run-read counting q r ≡ refused n place (q .grid))
+      by : (r : Outcome) → complaint n place ≡ checking.reply-of r → is-accepted r ≡ false → (run-begins q r ≡ false) × ((counting : Counting) → run-read counting q r ≡ refused n place (q .grid))
       by (turned-away k p) c d = (refl, λ counting. ap (λ (x : Complaint). refused (x .number) (x .place) (q .grid)) (sym c))
       by (checking.refused k p) c d = (refl, λ counting. ap (λ (x : Complaint). refused (x .number) (x .place) (q .grid)) (sym c))
       by (accepted a) c d = never (sym d)
@@ -156,7 +156,7 @@ module _ {source ws ns sizes : List ℕ} {grid : List ℤ} {scratch marks : ℕ}
         record {
           words = checked .words;
           names = checked .names;
-          closed = λ _. ap (begins (request-of sizes grid scratch marks start steps)) (is .is) ∙ ne-eqb _ 0 refused-by;
+          closed = λ _. ap (run-begins (request-of sizes grid scratch marks start steps)) (is .is) ∙ ne-eqb _ 0 refused-by;
           refuses = λ _ counting.
               ap (run-read counting (request-of sizes grid scratch marks start steps)) (is .is)
               ∙ run-refused counting (is .read .program) (request-of sizes grid scratch marks start steps) refused-by

@@ -28,7 +28,7 @@ use Rattle.stepper.specs.Reach.{reach, running}
 use Rattle.stepper.specs.Admission.{Request, admission}
 use Rattle.stepper.specs.Report as report
 use Rattle.stepper.specs.Report.{Counting, full, quiet, ended, report-of, run}
-use Rattle.services.specs.Services.{begins, run-read, run-source, room-after}
+use Rattle.services.specs.Services.{run-begins, run-read, run-source, room-after}
 use Rattle.admission.specs.Admitting.{request-of}
 use Rattle.runner.specs.declared.Report.{Report}
 use Rattle.runner.specs.declared.opening.Opening.{Opening}
@@ -85,8 +85,8 @@ module _ {fit : Bool} {source sizes : List ℕ} {grid : List ℤ} {scratch marks
   report-is true ran = ran .says (b .read .program) (b .runs)
   report-is false ran = ran .says (always (b .read .program)) (runs-always (b .runs)) ∙ steps-full (b .read .program) sizes (natAbs steps) (natAbs start) grid
 
-  began : begins (request-of sizes grid scratch marks start steps) (read-source fit source) ≡ true
-  began = ap (begins (request-of sizes grid scratch marks start steps)) (b .is) ∙ eq-eqb _ 0 (b .admitted)
+  began : run-begins (request-of sizes grid scratch marks start steps) (read-source fit source) ≡ true
+  began = ap (run-begins (request-of sizes grid scratch marks start steps)) (b .is) ∙ eq-eqb _ 0 (b .admitted)
 
   source-report : (q : Bool) → {said : Report} {grid′ : List ℤ} → Ran words rule sizes r (every-step q timed) (natAbs start) (natAbs steps) grid said grid′
       → told said grid′ ≡ run-source (counting-of q) fit source (request-of sizes grid scratch marks start steps)
@@ -96,11 +96,11 @@ module _ {fit : Bool} {source sizes : List ℕ} {grid : List ℤ} {scratch marks
       ∙ ap (run-read (counting-of q) (request-of sizes grid scratch marks start steps)) (sym (b .is))
 
 -- scratch or marks after a run that began, and after one that did not
-room-cleared : {A : Type 0} (none : A) (fit : Bool) (source : List ℕ) (q : Request) (old : List A) → begins q (read-source fit source) ≡ true → replicate (length old) none ≡ room-after none fit source q old
+room-cleared : {A : Type 0} (none : A) (fit : Bool) (source : List ℕ) (q : Request) (old : List A) → run-begins q (read-source fit source) ≡ true → replicate (length old) none ≡ room-after none fit source q old
 unfolding room-after
 room-cleared none fit source q old e = rw e
 
-room-kept : {A : Type 0} (none : A) (fit : Bool) (source : List ℕ) (q : Request) (old : List A) → begins q (read-source fit source) ≡ false → old ≡ room-after none fit source q old
+room-kept : {A : Type 0} (none : A) (fit : Bool) (source : List ℕ) (q : Request) (old : List A) → run-begins q (read-source fit source) ≡ false → old ≡ room-after none fit source q old
 unfolding room-after
 room-kept none fit source q old e = rw e
 

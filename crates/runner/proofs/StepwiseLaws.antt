@@ -20,6 +20,7 @@ use Rattle.automaton.specs.GridLaws.{differ-false}
 use Rattle.automaton.specs.Going.{Going, going-start, going-on, going-stop, going-done}
 use Rattle.program.specs.Syntax.{Program}
 use Rattle.evaluator.specs.declared.Rule.{Rule}
+use Rattle.evaluator.specs.Leaves.{Leaves}
 use Rattle.evaluator.specs.Stands.{Holds}
 use Rattle.stepper.specs.declared.Reach.{Reach}
 use Rattle.stepper.specs.Reach.{reach, running}
@@ -117,6 +118,11 @@ open-all : (p : Program) (sizes : List ℕ) (old new : List ℤ) → p .timed �
 unfolding running automaton open-after
 open-all p sizes old new e = fun-ext (λ c. ap (λ (b : Bool). b || any-of (changed (running p sizes) old new) (reach-of sizes (box-indices (reach p)) c)) e)
 
+-- the leaf table can be filled
+pub fill-ready : {words : List ℕ} {rule : Rule} {sizes : List ℕ} {r : Reach} {grid scratch : List ℤ} {marks : List ℕ} {start steps : ℕ} → Begins words rule sizes r grid scratch marks start steps
+    → (4 * rule .tokens ≤ length words) × (rule .tokens ≤ 4096) × (length sizes ≤ 3) × Positive sizes
+fill-ready b = (b .rule-fits .table, b .rule-fits .tokens, omega (arith, b .shaped .dims, b .rule-fits .dims), b .shaped .positive)
+
 module _ {words : List ℕ} {rule : Rule} {sizes : List ℕ} {r : Reach} {all-open : Bool} {grid₀ scratch₀ : List ℤ} {marks₀ : List ℕ} {start steps : ℕ}
     (begins : Begins words rule sizes r grid₀ scratch₀ marks₀ start steps) where
   -- ---- at the start every cell is marked
@@ -141,8 +147,8 @@ module _ {words : List ℕ} {rule : Rule} {sizes : List ℕ} {r : Reach} {all-op
   module _ {done count : ℕ} {grid scratch : List ℤ} {marks : List ℕ} (now : Underway words rule sizes r all-open grid₀ start steps done count grid scratch marks) where
     -- ---- a step can be done
 
-    pub step-ready : done < steps → stepping.Ready words rule sizes grid scratch marks (start + done) count
-    step-ready more =
+    pub step-ready : {leaves : List ℕ} → Leaves leaves words sizes (rule .tokens) (rule .fields) (rule .slots) → done < steps → stepping.Ready leaves words rule sizes grid scratch marks (start + done) count
+    step-ready noted more =
         record {
           rule-fits = begins .rule-fits;
           shaped = subst (Shaped rule sizes) (sym (now .grid-size)) (begins .shaped);
@@ -150,6 +156,7 @@ module _ {words : List ℕ} {rule : Rule} {sizes : List ℕ} {r : Reach} {all-op
           marks-fit = now .marks-size;
           small = omega (arith, begins .times);
           room = omega (arith, now .few-cells, now .few-steps, begins .times, begins .shaped .cells);
+          noted = noted;
         }
 
     -- ---- the last step

@@ -13,7 +13,7 @@ use Rattle.stepper.specs.declared.Reach.{Reach}
 use Rattle.stepper.specs.Admission.{admission}
 use Rattle.stepper.specs.Report.{Counting, full, quiet, refused}
 use Rattle.stepper.specs.Fitting.{Sized, Shaped, Near}
-use Rattle.services.specs.Services.{begins, run-source, room-after}
+use Rattle.services.specs.Services.{run-begins, run-source, room-after}
 use Rattle.admission.specs.Admitting.{request-of}
 use Rattle.runner.specs.declared.Report.{Report}
 use Rattle.runner.specs.declared.opening.Opening.{Opening}
@@ -51,7 +51,7 @@ pub record Begun (fit : Bool) (source sizes : List ℕ) (grid : List ℤ) (scrat
 pub record Opens (source ws ns sizes : List ℕ) (grid : List ℤ) (scratch marks : ℕ) (start steps : ℤ) (r : Opening) (ws′ ns′ : List ℕ) : Type 0 where
   pub words : ws′ ≡ words-after (rooms-fit (length ws) (length ns)) source ws
   pub names : ns′ ≡ names-after (rooms-fit (length ws) (length ns)) source ns
-  pub closed : r .begun ≡ false → begins (request-of sizes grid scratch marks start steps) (read-source (rooms-fit (length ws) (length ns)) source) ≡ false
+  pub closed : r .begun ≡ false → run-begins (request-of sizes grid scratch marks start steps) (read-source (rooms-fit (length ws) (length ns)) source) ≡ false
   pub refuses : r .begun ≡ false → (counting : Counting)
       → run-source counting (rooms-fit (length ws) (length ns)) source (request-of sizes grid scratch marks start steps) ≡ refused (r .number) (r .place) grid
   pub opened : r .begun ≡ true → Begun (rooms-fit (length ws) (length ns)) source sizes grid scratch marks start steps ws′ (r .rule) (r .reach) (r .timed)

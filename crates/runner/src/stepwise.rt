@@ -5,6 +5,7 @@ ghost use Rattle.marking.specs.Opened as marking;
 ghost use Rattle.runner.specs.Stepwise.{Begins, Renewed, Ran};
 use crate::Report;
 use evaluator::Rule;
+use leaf_table::fill_leaves;
 use marking::mark_open;
 use stepper::Reach;
 use stepping::Step;
@@ -46,12 +47,22 @@ pub fn run_steps(
     requires { ⌜ Begins (now words) rule (now sizes) reach (now grid) (now scratch) (now marks) start steps ⌝ }
     ensures { λ r. ⌜ Ran (now (words .entry)) rule (now (sizes .entry)) reach all_open start steps (now (grid .entry)) r (now (grid .exit)) ⌝ }
 {
-    mark_all(marks);
     let fields = rule.fields as usize;
+    let mut leaves = [0u32; 32776];
+    fill_leaves(
+        words,
+        sizes,
+        rule.tokens,
+        fields,
+        rule.slots as usize,
+        &mut leaves,
+    );
+    mark_all(marks);
     let mut done: u32 = 0;
     let mut count: u64 = 0;
     while done < steps {
         let s = step(
+            &leaves,
             words,
             rule,
             sizes,

@@ -22,11 +22,11 @@ unfoldable pub run-source : Counting → Bool → List ℕ → Request → Repor
 run-source counting fit source q = run-read counting q (read-source fit source)
 
 -- whether a run of what is read begins: the source is accepted, and the run is admitted
-abbrev pub begins : Request → Outcome → Bool
-begins q (turned-away number place) = false
-begins q (checking.refused number place) = false
-begins q (accepted a) = eqb (admission (a .program) q .number) 0
+abbrev pub run-begins : Request → Outcome → Bool
+run-begins q (turned-away number place) = false
+run-begins q (checking.refused number place) = false
+run-begins q (accepted a) = eqb (admission (a .program) q .number) 0
 
 -- scratch or marks after a run: zeros after one that began, even with 0 steps, else as they were
 unfoldable pub room-after : {A : Type 0} → A → Bool → List ℕ → Request → List A → List A
-room-after none fit source q old = if begins q (read-source fit source) then replicate (length old) none else old
+room-after none fit source q old = if run-begins q (read-source fit source) then replicate (length old) none else old

@@ -22,7 +22,6 @@ use names::Found;
 use names::entry_in;
 use names::find_name;
 use names::write_value;
-use program::kind;
 use program::put_word;
 use program::token_at;
 use reader::Read;
@@ -37,6 +36,7 @@ use reader::moved;
 use reader::refuse;
 use token::Scan;
 use token::Token;
+use token::kind;
 
 // ---- left sides
 

@@ -22,7 +22,7 @@ use Rattle.stepping.specs.declared.Evaluation.the-variants as Gave
 use Rattle.stepping.specs.declared.Step.the-variants as Gives
 use Rattle.stepping.specs.declared.Evaluation.{Evaluation}
 use Rattle.stepping.specs.Stepping.{Ready}
-use Rattle.stepping.specs.Turns.{NextMarked, given, outcome-in, count-after, Turning, Turned, Filled}
+use Rattle.stepping.specs.Turns.{NextMarked, Placed, given, outcome-in, count-after, Turning, Turned, Filled}
 use Rattle.stepping.proofs.ScanLaws.{below-or}
 
 -- ---- runs of cells
@@ -79,9 +79,9 @@ module _ (words : List ℕ) (rule : Rule) (sizes : List ℕ) (grid : List ℤ) (
     fill-start = record { clear = λ p h. refl; counted = omega arith; next = λ p h c l. absurd (omega arith); kept = λ c m. refl }
 
     -- what the next cell's turn asks
-    pub turning : {room lent : ℕ} (i total : ℕ) (scratch : List ℤ) → Ready words rule sizes grid old marks time count → room ≡ length sizes → lent ≡ length old
-        → Filling i total scratch → i < length marks → Turning words rule sizes room i grid lent time total
-    turning i total scratch ready dims size f l =
+    pub turning : {leaves place : List ℕ} {lent : ℕ} (i total : ℕ) (scratch : List ℤ) → Ready leaves words rule sizes grid old marks time count → Placed sizes i place → lent ≡ length old
+        → Filling i total scratch → i < length marks → Turning leaves words rule sizes place i grid lent time total
+    turning i total scratch ready own size f l =
         let m = ready .marks-fit in
         let r = ready .room in
         let t = f .counted in
@@ -89,10 +89,11 @@ module _ (words : List ℕ) (rule : Rule) (sizes : List ℕ) (grid : List ℤ) (
           rule-fits = ready .rule-fits;
           shaped = ready .shaped;
           scratch-fits = size ∙ ready .scratch-fits;
-          dims = dims;
           inside = omega arith;
+          own = own (omega arith);
           small = ready .small;
           countable = omega (arith, how-many-le (marked marks) i);
+          noted = ready .noted;
         }
 
     pub fill-skip : (i r total : ℕ) (scratch : List ℤ) → Filling i total scratch → NextMarked marks i r → Filling r total scratch

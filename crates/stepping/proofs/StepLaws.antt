@@ -18,17 +18,33 @@ use Rattle.stepper.specs.Fitting.{held-fields}
 use Rattle.stepping.specs.declared.Step.{Step}
 use Rattle.stepping.specs.declared.Step.the-variants as Gives
 use Rattle.stepping.specs.Stepping.{fault-in, count-in, Ready, Stepped}
-use Rattle.stepping.specs.Turns.{Filled, Exchanging, Exchanged}
+use Rattle.stepping.specs.Turns.{NextMarked, Placed, Moving, Filled, Exchanging, Exchanged}
 use Rattle.stepping.proofs.PartLaws.{flat-ext}
 use Rattle.stepping.proofs.FillLaws.{outcome, of-marked, of-unmarked}
 
-module _ {words : List ℕ} {rule : Rule} {sizes : List ℕ} {grid scratch : List ℤ} {marks : List ℕ} {time count : ℕ} (ready : Ready words rule sizes grid scratch marks time count) where
+module _ {leaves words : List ℕ} {rule : Rule} {sizes : List ℕ} {grid scratch : List ℤ} {marks : List ℕ} {time count : ℕ} (ready : Ready leaves words rule sizes grid scratch marks time count) where
   -- room for coordinates
   pub place-fits : (zs : List ℕ) → length zs ≡ 3 → length sizes ≤ length zs
   place-fits zs e = let d = ready .shaped .dims in let f = ready .rule-fits .dims in omega arith
 
   pub place-room : (zs : List ℕ) → length zs ≡ 3 → length (take (length sizes) zs) ≡ length sizes
   place-room zs e = length-take-le (length sizes) zs (place-fits zs e)
+
+  -- the number of a cell, or of all cells, is small
+  pub cell-small : {i : ℕ} → i ≤ length marks → i < 4294967296
+  cell-small l = let m = ready .marks-fit in let n = ready .shaped .cells in omega arith
+
+  -- what going on to the next marked cell's coordinates asks
+  pub moving : {i r : ℕ} {place : List ℕ} → length place ≡ length sizes → Placed sizes i place → i < length marks → NextMarked marks (i + 1) r → Moving sizes i r place
+  moving {i} dims own l n =
+      let inside : i < product sizes = let m = ready .marks-fit in omega arith in
+      record {
+        placing = record { dims = dims; positive = ready .shaped .positive };
+        inside = inside;
+        own = own inside;
+        onward = let o = n .onward in omega arith;
+        small = cell-small (n .within);
+      }
 
   -- what the exchange asks
   pub exchanging : {lent : ℕ} → lent ≡ length scratch → Exchanging (length grid) lent (length marks) (rule .fields)
@@ -39,7 +55,7 @@ module _ {words : List ℕ} {rule : Rule} {sizes : List ℕ} {grid scratch : Lis
     most = ready .rule-fits .fields;
   }
 
-module _ {words : List ℕ} {rule : Rule} {sizes : List ℕ} {grid scratch : List ℤ} {marks : List ℕ} {time count : ℕ} (ready : Ready words rule sizes grid scratch marks time count)
+module _ {leaves words : List ℕ} {rule : Rule} {sizes : List ℕ} {grid scratch : List ℤ} {marks : List ℕ} {time count : ℕ} (ready : Ready leaves words rule sizes grid scratch marks time count)
     {r : Step} {filled : List ℤ} (f : Filled words rule sizes grid scratch marks time count r filled) where
   -- the grid after a step without a fault, by its cells
   after-none : (p : Program) → Holds words rule p → fault-in r ≡ no-fault

@@ -7,7 +7,7 @@ use mathlib.Core.List.{List, _++_}
 use lib.ListN.{length, take, drop, length-drop}
 use lib.Seq.{length-take-le}
 use lib.IntN.{ℤ}
-use Rattle.automaton.specs.Shape.{product, coordinates}
+use Rattle.automaton.specs.Shape.{product}
 use Rattle.evaluator.specs.declared.Rule.{Rule}
 use Rattle.executor.specs.declared.Outcome.{Outcome}
 use Rattle.executor.specs.declared.Outcome.the-variants.{Done, Fault}
@@ -36,7 +36,7 @@ part-length from n xs l = length-take-le (from + n - from) (drop from xs) (let e
 pub cell-room : (cells fields cell : ℕ) → cell < cells → cell * fields + fields ≤ cells * fields
 cell-room cells fields cell l = omega (arith, mul-le-mul-right {m = suc cell} {n = cells} fields l)
 
-module _ {words : List ℕ} {rule : Rule} {sizes : List ℕ} {room cell : ℕ} {grid : List ℤ} {lent time count : ℕ} (t : Turning words rule sizes room cell grid lent time count) where
+module _ {leaves words : List ℕ} {rule : Rule} {sizes place : List ℕ} {cell : ℕ} {grid : List ℤ} {lent time count : ℕ} (t : Turning leaves words rule sizes place cell grid lent time count) where
   pub turn-room : cell * rule .fields + rule .fields ≤ lent
   turn-room =
       let a = t .shaped .entries in
@@ -49,8 +49,8 @@ module _ {words : List ℕ} {rule : Rule} {sizes : List ℕ} {room cell : ℕ} {
       let b = t .scratch-fits in
       omega (arith, mul-le-mul {n₁ = product sizes} {m₁ = rule .fields} {n₂ = 1048576} {m₂ = 8} (t .shaped .cells) (t .rule-fits .fields))
 
-  pub turn-fit : {place : List ℕ} {n : ℕ} → place ≡ coordinates sizes cell → n ≡ rule .fields → Fit words rule sizes place cell grid n time
-  turn-fit own e = record {
+  pub turn-fit : {n : ℕ} → n ≡ rule .fields → Fit leaves words rule sizes place cell grid n time
+  turn-fit e = record {
     table = t .rule-fits .table;
     tokens = t .rule-fits .tokens;
     base = t .rule-fits .base;
@@ -64,8 +64,9 @@ module _ {words : List ℕ} {rule : Rule} {sizes : List ℕ} {room cell : ℕ} {
     positive = t .shaped .positive;
     cells = t .shaped .cells;
     inside = t .inside;
-    own = own;
+    own = t .own;
     entries = t .shaped .entries;
+    noted = t .noted;
   }
 
   -- the cell's next fields, put in their place

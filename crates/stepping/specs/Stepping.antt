@@ -10,6 +10,7 @@ use Rattle.automaton.specs.Shape.{product}
 use Rattle.automaton.specs.Grid.{cell-of}
 use Rattle.program.specs.Syntax.{Program}
 use Rattle.evaluator.specs.declared.Rule.{Rule}
+use Rattle.evaluator.specs.Leaves.{Leaves}
 use Rattle.evaluator.specs.Stands.{Holds}
 use Rattle.stepper.specs.Reach.{running}
 use Rattle.stepper.specs.Fitting.{Sized, Shaped}
@@ -26,14 +27,15 @@ abbrev pub count-in : Step → ℕ
 count-in (Gives.Done count) = count
 count-in (Gives.Fault cell number place count) = count
 
--- what a step asks of its numbers; nothing is asked of what the table holds
-pub record Ready (words : List ℕ) (rule : Rule) (sizes : List ℕ) (grid scratch : List ℤ) (marks : List ℕ) (time count : ℕ) : Type 0 where
+-- what a step asks of its numbers; nothing is asked of what the word table holds, but the leaf table must be its own
+pub record Ready (leaves words : List ℕ) (rule : Rule) (sizes : List ℕ) (grid scratch : List ℤ) (marks : List ℕ) (time count : ℕ) : Type 0 where
   pub rule-fits : Sized (length words) rule
   pub shaped : Shaped rule sizes (length grid)
   pub scratch-fits : length scratch ≡ length grid
   pub marks-fit : length marks ≡ product sizes
   pub small : time < 2147483648
   pub room : count + product sizes ≤ 18446744073709551615
+  pub noted : Leaves leaves words sizes (rule .tokens) (rule .fields) (rule .slots)
 
 -- what a step gives, under any marks, right or wrong; whichever program stands in the table
 pub record Stepped (words : List ℕ) (rule : Rule) (sizes : List ℕ) (grid scratch : List ℤ) (marks : List ℕ) (time count : ℕ) (r : Step) (grid′ scratch′ : List ℤ) : Type 0 where

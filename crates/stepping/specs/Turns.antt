@@ -1,4 +1,4 @@
--- What the parts of a step promise: the next marked cell, the evaluation of one cell and of all marked cells, and the exchange.
+-- What the parts of a step promise: the next marked cell, its coordinates, the evaluation of one cell and of all marked cells, and the exchange.
 use mathlib.Core.Path.{_≡_}
 use mathlib.Core.Bool.{true, false, cond}
 use mathlib.Core.List.{List}
@@ -7,12 +7,13 @@ use lib.ListN.{length, getD}
 use lib.IntN.{ℤ, pos}
 use Rattle.automaton.specs.Step as Step
 use Rattle.automaton.specs.Step.{no-fault, state, marked, quiet-step}
-use Rattle.automaton.specs.Shape.{product, neighbour}
+use Rattle.automaton.specs.Shape.{product, coordinates, neighbour}
 use Rattle.automaton.specs.ShapeLaws.{Positive}
 use Rattle.automaton.specs.Grid.{cell-of}
 use Rattle.program.specs.Syntax.{Program}
 use Rattle.evaluator.specs.declared.Rule.{Rule}
 use Rattle.evaluator.specs.Evaluation.{evaluate}
+use Rattle.evaluator.specs.Leaves.{Leaves}
 use Rattle.evaluator.specs.Stands.{Holds}
 use Rattle.stepper.specs.Reach.{running}
 use Rattle.stepper.specs.Fitting.{Sized, Shaped}
@@ -30,13 +31,26 @@ pub record NextMarked (marks : List ℕ) (from r : ℕ) : Type 0 where
   pub skipped : (c : ℕ) → from ≤ c → c < r → marked marks c ≡ false
   pub found : r < length marks → marked marks r ≡ true
 
--- ---- one cell
+-- ---- a cell's coordinates
 
--- what is asked of the numbers of a cell's coordinates, with room for so many
-pub record Placing (sizes : List ℕ) (cell room : ℕ) : Type 0 where
+-- what is asked for coordinates, with room for so many
+pub record Placing (sizes : List ℕ) (room : ℕ) : Type 0 where
   pub dims : room ≡ length sizes
   pub positive : Positive sizes
+
+-- where there is such a cell, these are its coordinates
+abbrev pub Placed : List ℕ → ℕ → List ℕ → Type 0
+Placed sizes cell place = cell < product sizes → place ≡ coordinates sizes cell
+
+-- what is asked for going on from a cell's coordinates
+pub record Moving (sizes : List ℕ) (cell after : ℕ) (place : List ℕ) : Type 0 where
+  pub placing : Placing sizes (length place)
   pub inside : cell < product sizes
+  pub own : place ≡ coordinates sizes cell
+  pub onward : cell < after
+  pub small : after < 4294967296
+
+-- ---- one cell
 
 -- the outcome of a cell whose next fields are `next`
 abbrev pub outcome-in : Evaluation → List ℤ → Step.Outcome (List ℤ)
@@ -58,14 +72,15 @@ pub record Counted (words : List ℕ) (rule : Rule) (sizes : List ℕ) (cell : �
   pub count-is : count-after r ≡ count + 1
 
 -- what is asked of a cell's turn in a step
-pub record Turning (words : List ℕ) (rule : Rule) (sizes : List ℕ) (room cell : ℕ) (grid : List ℤ) (lent time count : ℕ) : Type 0 where
+pub record Turning (leaves words : List ℕ) (rule : Rule) (sizes place : List ℕ) (cell : ℕ) (grid : List ℤ) (lent time count : ℕ) : Type 0 where
   pub rule-fits : Sized (length words) rule
   pub shaped : Shaped rule sizes (length grid)
   pub scratch-fits : lent ≡ length grid
-  pub dims : room ≡ length sizes
   pub inside : cell < product sizes
+  pub own : place ≡ coordinates sizes cell
   pub small : time < 2147483648
   pub countable : count < 18446744073709551615
+  pub noted : Leaves leaves words sizes (rule .tokens) (rule .fields) (rule .slots)
 
 -- the cell's next fields are in its part of scratch, and the other cells' parts stay
 pub record Turned (words : List ℕ) (rule : Rule) (sizes : List ℕ) (cell : ℕ) (grid scratch scratch′ : List ℤ) (time count : ℕ) (r : Evaluation) : Type 0 where

@@ -1,32 +1,16 @@
 // Evaluating one cell, with the count of the cells evaluated.
-ghost use mathlib.Core.Path.{_≡_};
 ghost use Prim.Native.Nat.{_<_};
 ghost use lib.ListN.{length};
-ghost use Rattle.automaton.specs.Shape.{coordinates};
 ghost use Rattle.executor.specs.Running.{Fit};
-ghost use Rattle.stepping.specs.Turns.{Placing, Counted, Turning, Turned};
+ghost use Rattle.stepping.specs.Turns.{Counted, Turning, Turned};
 use crate::Evaluation;
 use evaluator::Rule;
 use executor::Outcome;
 use executor::cell::evaluate_cell;
 
-// Writes the coordinates of a cell, the last dimension's first.
-fn set_place(sizes: &[u32], cell: u32, place: &mut [u32])
-    requires { ⌜ Placing (now sizes) cell (length (now place)) ⌝ }
-    ensures { λ r. ⌜ now (place .exit) ≡ coordinates (now (sizes .entry)) cell ⌝ }
-{
-    let mut rest = cell;
-    let mut k = sizes.len();
-    while 0 < k {
-        k -= 1;
-        let size = sizes[k];
-        place[k] = rest % size;
-        rest = rest / size;
-    }
-}
-
 // Evaluates a cell, and counts it: the count given back is one higher, at a fault too. By no other way is a cell evaluated.
 fn evaluate_counted(
+    leaves: &[u32; 32776],
     words: &[u32],
     rule: Rule,
     sizes: &[u32],
@@ -39,10 +23,11 @@ fn evaluate_counted(
     time: u32,
     count: u64,
 ) -> Evaluation
-    requires { ⌜ Fit (now words) rule (now sizes) (now place) cell (now grid) (length (now next)) time × (count < 18446744073709551615) ⌝ }
+    requires { ⌜ Fit (now leaves) (now words) rule (now sizes) (now place) cell (now grid) (length (now next)) time × (count < 18446744073709551615) ⌝ }
     ensures { λ r. ⌜ Counted (now (words .entry)) rule (now (sizes .entry)) cell (now (grid .entry)) (now (next .exit)) time count r ⌝ }
 {
     let outcome = evaluate_cell(
+        leaves,
         words,
         rule,
         sizes,
@@ -60,12 +45,13 @@ fn evaluate_counted(
     }
 }
 
-// Evaluates a cell from the grid into its part of `scratch`. `place` is room for its coordinates.
+// Evaluates a cell from the grid into its part of `scratch`. `place` is its coordinates.
 pub fn evaluate_into(
+    leaves: &[u32; 32776],
     words: &[u32],
     rule: Rule,
     sizes: &[u32],
-    place: &mut [u32],
+    place: &[u32],
     cell: usize,
     grid: &[i32],
     scratch: &mut [i32],
@@ -74,14 +60,14 @@ pub fn evaluate_into(
     time: u32,
     count: u64,
 ) -> Evaluation
-    requires { ⌜ Turning (now words) rule (now sizes) (length (now place)) cell (now grid) (length (now scratch)) time count ⌝ }
+    requires { ⌜ Turning (now leaves) (now words) rule (now sizes) (now place) cell (now grid) (length (now scratch)) time count ⌝ }
     ensures { λ r. ⌜ Turned (now (words .entry)) rule (now (sizes .entry)) cell (now (grid .entry)) (now (scratch .entry)) (now (scratch .exit)) time count r ⌝ }
 {
-    set_place(sizes, cell as u32, place);
     let fields = rule.fields as usize;
     let from = cell * fields;
     let end = from + fields;
     evaluate_counted(
+        leaves,
         words,
         rule,
         sizes,

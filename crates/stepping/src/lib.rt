@@ -2,6 +2,7 @@
 
 pub mod cells;
 pub mod exchange;
+pub mod places;
 pub mod rooms;
 pub mod scan;
 pub mod steps;

@@ -7,11 +7,14 @@ use crate::Evaluation;
 use crate::Step;
 use crate::cells::evaluate_into;
 use crate::exchange::exchange_marked;
+use crate::places::move_place;
+use crate::places::set_place;
 use crate::scan::next_marked;
 use evaluator::Rule;
 
 // Evaluates the marked cells in rising order from the grid `old` into `new`, up to the first fault. `place` is room for a cell's coordinates.
 fn evaluate_marked(
+    leaves: &[u32; 32776],
     words: &[u32],
     rule: Rule,
     sizes: &[u32],
@@ -24,13 +27,15 @@ fn evaluate_marked(
     time: u32,
     count: u64,
 ) -> Step
-    requires { ⌜ Ready (now words) rule (now sizes) (now old) (now new) (now marks) time count × (length (now place) ≡ length (now sizes)) ⌝ }
+    requires { ⌜ Ready (now leaves) (now words) rule (now sizes) (now old) (now new) (now marks) time count × (length (now place) ≡ length (now sizes)) ⌝ }
     ensures { λ r. ⌜ Filled (now (words .entry)) rule (now (sizes .entry)) (now (old .entry)) (now (new .entry)) (now (marks .entry)) time count r (now (new .exit)) ⌝ }
 {
     let mut total = count;
     let mut cell = next_marked(marks, 0);
+    set_place(sizes, cell as u32, place);
     while cell < marks.len() {
         let turn = evaluate_into(
+            leaves,
             words,
             rule,
             sizes,
@@ -51,7 +56,9 @@ fn evaluate_marked(
                 return Step::Fault(cell as u32, number, at, n);
             }
         }
-        cell = next_marked(marks, cell + 1);
+        let after = next_marked(marks, cell + 1);
+        move_place(sizes, cell, after, place);
+        cell = after;
     }
     Step::Done(total)
 }
@@ -59,6 +66,7 @@ fn evaluate_marked(
 // One step, at a given time: the marked cells (their mark is not 0) get what evaluating them on the old grid gives, all at once, and `scratch` is left
 // with their old fields. At the first fault the grid stays as it is. The count goes up by one for each cell evaluated.
 pub fn step(
+    leaves: &[u32; 32776],
     words: &[u32],
     rule: Rule,
     sizes: &[u32],
@@ -68,7 +76,7 @@ pub fn step(
     time: u32,
     count: u64,
 ) -> Step
-    requires { ⌜ Ready (now words) rule (now sizes) (now grid) (now scratch) (now marks) time count ⌝ }
+    requires { ⌜ Ready (now leaves) (now words) rule (now sizes) (now grid) (now scratch) (now marks) time count ⌝ }
     ensures { λ r. ⌜ Stepped (now (words .entry)) rule (now (sizes .entry)) (now (grid .entry)) (now (scratch .entry)) (now (marks .entry)) time count r (now (grid .exit)) (now (scratch .exit)) ⌝ }
 {
     let mut vars = [0i32; 256];
@@ -76,6 +84,7 @@ pub fn step(
     let mut place = [0u32; 3];
     let dims = sizes.len();
     let done = evaluate_marked(
+        leaves,
         words,
         rule,
         sizes,

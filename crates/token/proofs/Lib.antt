@@ -7,3 +7,4 @@ pub mod Words
 pub mod Blanks
 pub mod Lexemes
 pub mod Scans
+pub mod Levels

@@ -32,7 +32,15 @@ pub fn read_word(source: &[u8], kinds: &[u8; 256], rows: &[u8; 300], at: usize) 
     ensures { λ r. ⌜ r ≡ lexed-of (word-here (drop at (now (source .entry)))) at ⌝ }
 {
     let len = runs::run_end(source, kinds, at, true) - at;
-    let kind = spelling::find_kind(source, rows, at, len, 0, spelling::KEYWORDS, crate::NAME);
+    let kind = spelling::find_kind(
+        source,
+        rows,
+        at,
+        len,
+        0,
+        spelling::KEYWORDS,
+        crate::kind::NAME,
+    );
     token_of(kind, at, len, 0)
 }
 
@@ -44,16 +52,16 @@ pub fn read_digits(source: &[u8], kinds: &[u8; 256], at: usize) -> Lexed
     let end = runs::run_end(source, kinds, at, false);
     let behind = bytes::kind_at(source, kinds, end);
     if behind == bytes::LETTER {
-        return token_of(crate::STOP, at, 1, 3);
+        return token_of(crate::kind::STOP, at, 1, 3);
     }
     if behind == bytes::UNDERSCORE {
-        return token_of(crate::STOP, at, 1, 3);
+        return token_of(crate::kind::STOP, at, 1, 3);
     }
     let value = runs::literal_value(source, at, end);
     if runs::TOO_LARGE <= value {
-        return token_of(crate::STOP, at, end - at, 4);
+        return token_of(crate::kind::STOP, at, end - at, 4);
     }
-    token_of(crate::LITERAL, at, end - at, value as u32)
+    token_of(crate::kind::LITERAL, at, end - at, value as u32)
 }
 
 // The kind of the two-byte token at a position, and 0 if there is none.
@@ -86,7 +94,7 @@ pub fn read_sign(source: &[u8], rows: &[u8; 300], at: usize) -> Lexed
     }
     let one = source[at];
     if one == b'"' {
-        return token_of(crate::REFUSED, at, 1, 0);
+        return token_of(crate::kind::REFUSED, at, 1, 0);
     }
     token_of(one as u32, at, 1, 0)
 }

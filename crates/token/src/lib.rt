@@ -7,19 +7,11 @@ ghost use Rattle.token.specs.Scanning.{blanks};
 ghost use Rattle.token.specs.Promises.{Sorts, all-rows, Walks, Reads, Scans};
 
 pub mod bytes;
+pub mod kind;
 mod lexing;
 mod runs;
-mod scanning;
+pub mod scanning;
 mod spelling;
-
-// Kinds of tokens that reading tells apart: where no token can be read, an identifier, a literal, and a form that is not taken.
-pub const STOP: u32 = 0;
-
-pub const NAME: u32 = 1;
-
-pub const LITERAL: u32 = 2;
-
-pub const REFUSED: u32 = 18;
 
 // At most so many tokens.
 pub const MOST_TOKENS: usize = 4096;
@@ -83,7 +75,7 @@ impl Cursor {
         if kind == bytes::SIGN {
             return lexing::read_sign(source, rows, at);
         }
-        lexing::token_of(STOP, at, 1, 3)
+        lexing::token_of(kind::STOP, at, 1, 3)
     }
 }
 

@@ -14,13 +14,13 @@ fn stop_number(count: usize, t: Token) -> u32
     requires { ⌜ 1 ≤ t .kind + t .value ⌝ }
     ensures { λ r. ⌜ Stops count t r ⌝ }
 {
-    if t.kind == crate::STOP {
+    if t.kind == crate::kind::STOP {
         return t.value;
     }
     if crate::MOST_TOKENS <= count {
         return 5;
     }
-    if t.kind == crate::REFUSED {
+    if t.kind == crate::kind::REFUSED {
         return 6;
     }
     0

@@ -1,7 +1,7 @@
 // Running a source.
 ghost use Rattle.stepper.specs.Report.{full, quiet};
 ghost use Rattle.runner.specs.Property3.{Agree};
-ghost use Rattle.cellang.specs.Told.{run-of, TellsRun};
+ghost use Rattle.cellang.specs.Told.{told-run, TellsRun};
 use crate::exports::entries::put_report;
 use runner::run_full;
 use runner::run_quiet;
@@ -61,7 +61,7 @@ pub extern "C" fn cellang_run_quiet(
     report: &mut [u64],
 ) -> u32
     ensures { λ r. ⌜ TellsRun quiet (now (source .entry)) (now (words .entry)) (now (names .entry)) (now (sizes .entry)) (now (grid .entry)) (now (scratch .entry)) (now (marks .entry)) start steps (now (report .entry)) r (now (words .exit)) (now (names .exit)) (now (grid .exit)) (now (scratch .exit)) (now (marks .exit)) (now (report .exit)) ⌝ }
-    ensures agrees { λ _. ⌜ Agree (run-of quiet (now (source .entry)) (now (words .entry)) (now (names .entry)) (now (sizes .entry)) (now (grid .entry)) (now (scratch .entry)) (now (marks .entry)) start steps) (run-of full (now (source .entry)) (now (words .entry)) (now (names .entry)) (now (sizes .entry)) (now (grid .entry)) (now (scratch .entry)) (now (marks .entry)) start steps) ⌝ }
+    ensures agrees { λ _. ⌜ Agree (told-run quiet (now (source .entry)) (now (words .entry)) (now (names .entry)) (now (sizes .entry)) (now (grid .entry)) (now (scratch .entry)) (now (marks .entry)) start steps) (told-run full (now (source .entry)) (now (words .entry)) (now (names .entry)) (now (sizes .entry)) (now (grid .entry)) (now (scratch .entry)) (now (marks .entry)) start steps) ⌝ }
 {
     let told = run_quiet(
         source,

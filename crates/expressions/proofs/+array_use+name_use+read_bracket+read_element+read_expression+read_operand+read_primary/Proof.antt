@@ -24,7 +24,8 @@ use Rattle.reader.proofs.noting.Reads as noting-reads
 use Rattle.reader.proofs.refuse.Reads as refuse-reads
 use Rattle.reader.proofs.use_name.Reads as use-name-reads
 use Rattle.expressions.specs.Promises.{cell-of}
-use Rattle.expressions.proofs.Levels.{level-few, operator-inside}
+use Rattle.token.proofs.Levels.{level-few}
+use Rattle.expressions.proofs.Levels.{operator-inside}
 use Rattle.expressions.proofs.Operands.{looked, either, operand-by, closed, entered}
 use Rattle.expressions.proofs.Operators.{turn-in, climbed, turn-ends, turn-clashes, turn-right}
 use Rattle.expressions.proofs.+array_use+name_use+read_bracket+read_element+read_expression+read_operand+read_primary.{statement}
@@ -52,7 +53,7 @@ use Rattle.expressions.proofs.read_primary.Kinds as read-primary-kinds
 use Rattle.expressions.proofs.+array_use+name_use+read_bracket+read_element+read_expression+read_operand+read_primary.Lts-read_primary as read-primary-lts
 use Rattle.expressions.proofs.are_relations.Reads as are-relations-reads
 use Rattle.expressions.proofs.is_unary.Reads as is-unary-reads
-use Rattle.expressions.proofs.level_of.Reads as level-of-reads
+use Rattle.token.proofs.kind.level_of.Reads as level-of-reads
 use Rattle.expressions.proofs.plain.Reads as plain-reads
 use Rattle.expressions.proofs.read_neighbour.Reads as read-neighbour-reads
 use Rattle.expressions.proofs.read_own.Reads as read-own-reads

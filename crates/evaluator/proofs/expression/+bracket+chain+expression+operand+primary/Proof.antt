@@ -5,7 +5,8 @@ use borrow.Author.Needs.{needs}
 use lib.ListN.{take}
 use Rattle.evaluator.specs.Working.{site-table, env-of, EvalsExpression}
 use Rattle.evaluator.proofs.TableLaws.{token}
-use Rattle.evaluator.proofs.OperatorLaws.{level-small, level-some, from-within}
+use Rattle.evaluator.proofs.OperatorLaws.{level-some, from-within}
+use Rattle.token.proofs.Levels.{level-few}
 use Rattle.evaluator.proofs.ExpressionLaws.{Chain, bracket-fault, bracket-closed, bracket-open, primary-paren, primary-quick, primary-bare, primary-element-fault, primary-element, operand-bare, operand-fault, operand-unary, first-fault, first-found, chain-end, right-fault, operator-fault, chain-more, chain-less}
 use Prim.Native.Nat.{ℕ, _<_}
 use borrow.Fn.Kinds.{In}
@@ -28,7 +29,7 @@ use Rattle.evaluator.proofs.expression.+bracket+chain+expression+operan
 use Rattle.evaluator.proofs.expression.primary_from.Reads as primary-from-reads
 use Rattle.evaluator.proofs.expression.quick.Reads as quick-reads
 use Rattle.evaluator.proofs.operators.is_unary.Reads as is-unary-reads
-use Rattle.evaluator.proofs.operators.level_of.Reads as level-of-reads
+use Rattle.token.proofs.kind.level_of.Reads as level-of-reads
 use Rattle.evaluator.proofs.operators.operate.Reads as operate-reads
 use Rattle.evaluator.proofs.operators.operate_unary.Reads as operate-unary-reads
 use Rattle.evaluator.proofs.primary.element.Reads as element-reads
@@ -36,50 +37,50 @@ use Rattle.evaluator.proofs.table.word_at.Reads as word-at-reads
 use Rattle.evaluator.proofs.expression.+bracket+chain+expression+operand+primary.{statement}
 use Rattle.evaluator.proofs.expression.+bracket+chain+expression+operand+primary.Tie.{close}
 
-abbrev μ-bracket : Measures 6 bracket-kinds.ps ℕ
-μ-bracket κs a = 5 * (a .1 .1 .1 .1 .1 .1 .0 .tokens - a .1 .1 .1 .1 .1 .1 .1 .1 .0)
+abbrev μ-bracket : Measures 7 bracket-kinds.ps ℕ
+μ-bracket κs a = 5 * (a .1 .1 .1 .1 .1 .1 .1 .0 .tokens - a .1 .1 .1 .1 .1 .1 .1 .1 .1 .0)
 
-abbrev μ-chain : Measures 6 chain-kinds.ps ℕ
-μ-chain κs a = 5 * (a .1 .1 .1 .1 .1 .1 .0 .tokens - a .1 .1 .1 .1 .1 .1 .1 .1 .0) + 3
+abbrev μ-chain : Measures 7 chain-kinds.ps ℕ
+μ-chain κs a = 5 * (a .1 .1 .1 .1 .1 .1 .1 .0 .tokens - a .1 .1 .1 .1 .1 .1 .1 .1 .1 .0) + 3
 
-abbrev μ-expression : Measures 6 expression-kinds.ps ℕ
-μ-expression κs a = 5 * (a .1 .1 .1 .1 .1 .1 .0 .tokens - a .1 .1 .1 .1 .1 .1 .1 .1 .0) + 4
+abbrev μ-expression : Measures 7 expression-kinds.ps ℕ
+μ-expression κs a = 5 * (a .1 .1 .1 .1 .1 .1 .1 .0 .tokens - a .1 .1 .1 .1 .1 .1 .1 .1 .1 .0) + 4
 
-abbrev μ-operand : Measures 6 operand-kinds.ps ℕ
-μ-operand κs a = 5 * (a .1 .1 .1 .1 .1 .1 .0 .tokens - a .1 .1 .1 .1 .1 .1 .1 .1 .0) + 2
+abbrev μ-operand : Measures 7 operand-kinds.ps ℕ
+μ-operand κs a = 5 * (a .1 .1 .1 .1 .1 .1 .1 .0 .tokens - a .1 .1 .1 .1 .1 .1 .1 .1 .1 .0) + 2
 
-abbrev μ-primary : Measures 6 primary-kinds.ps ℕ
-μ-primary κs a = 5 * (a .1 .1 .1 .1 .1 .1 .0 .tokens - a .1 .1 .1 .1 .1 .1 .1 .1 .0) + 1
+abbrev μ-primary : Measures 7 primary-kinds.ps ℕ
+μ-primary κs a = 5 * (a .1 .1 .1 .1 .1 .1 .1 .0 .tokens - a .1 .1 .1 .1 .1 .1 .1 .1 .1 .0) + 1
 
-abbrev bracket-at : ℕ → In 6 bracket-kinds.ps
-bracket-at t = and 6 bracket-kinds.ps (is 6 bracket-kinds.ps μ-bracket t) bracket.Pre
+abbrev bracket-at : ℕ → In 7 bracket-kinds.ps
+bracket-at t = and 7 bracket-kinds.ps (is 7 bracket-kinds.ps μ-bracket t) bracket.Pre
 
-abbrev bracket-below : ℕ → In 6 bracket-kinds.ps
-bracket-below t = and 6 bracket-kinds.ps (falls 6 bracket-kinds.ps _<_ μ-bracket t) bracket.Pre
+abbrev bracket-below : ℕ → In 7 bracket-kinds.ps
+bracket-below t = and 7 bracket-kinds.ps (falls 7 bracket-kinds.ps _<_ μ-bracket t) bracket.Pre
 
-abbrev chain-at : ℕ → In 6 chain-kinds.ps
-chain-at t = and 6 chain-kinds.ps (is 6 chain-kinds.ps μ-chain t) chain.Pre
+abbrev chain-at : ℕ → In 7 chain-kinds.ps
+chain-at t = and 7 chain-kinds.ps (is 7 chain-kinds.ps μ-chain t) chain.Pre
 
-abbrev chain-below : ℕ → In 6 chain-kinds.ps
-chain-below t = and 6 chain-kinds.ps (falls 6 chain-kinds.ps _<_ μ-chain t) chain.Pre
+abbrev chain-below : ℕ → In 7 chain-kinds.ps
+chain-below t = and 7 chain-kinds.ps (falls 7 chain-kinds.ps _<_ μ-chain t) chain.Pre
 
-abbrev expression-at : ℕ → In 6 expression-kinds.ps
-expression-at t = and 6 expression-kinds.ps (is 6 expression-kinds.ps μ-expression t) expression.Pre
+abbrev expression-at : ℕ → In 7 expression-kinds.ps
+expression-at t = and 7 expression-kinds.ps (is 7 expression-kinds.ps μ-expression t) expression.Pre
 
-abbrev expression-below : ℕ → In 6 expression-kinds.ps
-expression-below t = and 6 expression-kinds.ps (falls 6 expression-kinds.ps _<_ μ-expression t) expression.Pre
+abbrev expression-below : ℕ → In 7 expression-kinds.ps
+expression-below t = and 7 expression-kinds.ps (falls 7 expression-kinds.ps _<_ μ-expression t) expression.Pre
 
-abbrev operand-at : ℕ → In 6 operand-kinds.ps
-operand-at t = and 6 operand-kinds.ps (is 6 operand-kinds.ps μ-operand t) operand.Pre
+abbrev operand-at : ℕ → In 7 operand-kinds.ps
+operand-at t = and 7 operand-kinds.ps (is 7 operand-kinds.ps μ-operand t) operand.Pre
 
-abbrev operand-below : ℕ → In 6 operand-kinds.ps
-operand-below t = and 6 operand-kinds.ps (falls 6 operand-kinds.ps _<_ μ-operand t) operand.Pre
+abbrev operand-below : ℕ → In 7 operand-kinds.ps
+operand-below t = and 7 operand-kinds.ps (falls 7 operand-kinds.ps _<_ μ-operand t) operand.Pre
 
-abbrev primary-at : ℕ → In 6 primary-kinds.ps
-primary-at t = and 6 primary-kinds.ps (is 6 primary-kinds.ps μ-primary t) primary.Pre
+abbrev primary-at : ℕ → In 7 primary-kinds.ps
+primary-at t = and 7 primary-kinds.ps (is 7 primary-kinds.ps μ-primary t) primary.Pre
 
-abbrev primary-below : ℕ → In 6 primary-kinds.ps
-primary-below t = and 6 primary-kinds.ps (falls 6 primary-kinds.ps _<_ μ-primary t) primary.Pre
+abbrev primary-below : ℕ → In 7 primary-kinds.ps
+primary-below t = and 7 primary-kinds.ps (falls 7 primary-kinds.ps _<_ μ-primary t) primary.Pre
 
 abbrev bracket-calls : ℕ → bracket-lts.Claims
 bracket-calls t = (expression-below t, expression.Post, word-at-reads.Asked, word-at-reads.Learnt)
@@ -114,8 +115,8 @@ bracket-returns t c = bracket-fault _ _ _ _ _ _ _ (c .before .before .expression
 bracket-word-at-requires : (t : ℕ) → bracket-lts.Need-word-at-requires (bracket-calls t) (bracket-at t) bracket.Post
 bracket-word-at-requires t c κs = search needs
 
-bracket-add-t17 : (t : ℕ) → bracket-lts.Need-add-t17 (bracket-calls t) (bracket-at t) bracket.Post
-bracket-add-t17 t c = omega (arith, token _ _ _ (c .before .word-at .ensures) (omega arith), (c .before .before .before .before .before .before .before .before .before .pre .1 .0 .tokens))
+bracket-add-t18 : (t : ℕ) → bracket-lts.Need-add-t18 (bracket-calls t) (bracket-at t) bracket.Post
+bracket-add-t18 t c = omega (arith, token _ _ _ (c .before .word-at .ensures) (omega arith), (c .before .before .before .before .before .before .before .before .before .pre .1 .0 .tokens))
 
 bracket-returns-2 : (t : ℕ) → bracket-lts.Need-returns-2 (bracket-calls t) (bracket-at t) bracket.Post
 bracket-returns-2 t c = bracket-closed _ _ _ _ _ _ _ (c .before .before .before .before .before .expression .ensures) (c .before .before .before .inner .given .1) (c .before .word-at .ensures) (c .if1 .taken) (token _ _ _ (c .before .word-at .ensures) (omega arith))
@@ -124,10 +125,10 @@ bracket-returns-3 : (t : ℕ) → bracket-lts.Need-returns-3 (bracket-calls t) (
 bracket-returns-3 t c = bracket-open _ _ _ _ _ _ _ (c .before .before .before .before .before .expression .ensures) (c .before .before .before .inner .given .1) (c .before .word-at .ensures) (c .if1 .left)
 
 abbrev chain-Inv-loop : chain-lts.InvT-loop
-chain-Inv-loop words sizes place grid vars index site depth at level n past left₀ here₀ left here = Chain (site-table words sizes site) (env-of words sizes grid site) (take (site .slots) vars) (take depth index) (site .tokens) at level left here
+chain-Inv-loop leaves words sizes place grid vars index site depth at level n past left₀ here₀ left here = Chain (site-table words sizes site) (env-of words sizes grid site) (take (site .slots) vars) (take depth index) (site .tokens) at level left here
 
 abbrev chain-μ-loop : chain-lts.MeasureT-loop
-chain-μ-loop words sizes place grid vars index site depth at level n past left₀ here₀ left here = site .tokens - here
+chain-μ-loop leaves words sizes place grid vars index site depth at level n past left₀ here₀ left here = site .tokens - here
 
 chain-operand-requires : (t : ℕ) → chain-lts.Need-operand-requires (chain-calls t) (chain-at t) chain.Post chain-Inv-loop chain-μ-loop
 chain-operand-requires t c κs = (omega (arith, (c .before .before .before .pre .0)), ((c .before .before .before .pre .1 .0), (c .before .before .before .pre .1 .2)))
@@ -157,7 +158,7 @@ chain-add-expression : (t : ℕ) → chain-lts.Need-add-expression (chain-calls 
 chain-add-expression t c = search needs
 
 chain-add-expression-2 : (t : ℕ) → chain-lts.Need-add-expression-2 (chain-calls t) (chain-at t) chain.Post chain-Inv-loop chain-μ-loop
-chain-add-expression-2 t c = omega (arith, level-small (c .before .before .word-at .result))
+chain-add-expression-2 t c = omega (arith, level-few (c .before .before .word-at .result))
 
 chain-expression-requires : (t : ℕ) → chain-lts.Need-expression-requires (chain-calls t) (chain-at t) chain.Post chain-Inv-loop chain-μ-loop
 chain-expression-requires t c κs = let l = token _ _ _ (c .before .before .word-at .ensures) (level-some _ (c .before .level-of .ensures) (c .before .before .before .before .before .before .before .before .before .before .before .pre .1 .1) (c .if1 .left)) in (omega (arith, (c .before .before .before .before .before .before .before .before .before .before .before .pre .0), (c .before .before .before .loop .inv .past)), ((c .before .before .before .before .before .before .before .before .before .before .before .pre .1 .0), omega arith, omega arith))
@@ -302,7 +303,7 @@ pub +bracket+chain+expression+operand+primary-spec : {M : Type 1} → statement 
     (bracket-enum-told t)
     (bracket-returns t)
     (bracket-word-at-requires t)
-    (bracket-add-t17 t)
+    (bracket-add-t18 t)
     (bracket-returns-2 t)
     (bracket-returns-3 t))
     (λ t. chain-lts.spec (chain-calls t)

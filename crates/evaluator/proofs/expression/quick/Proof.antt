@@ -1,105 +1,70 @@
+use mathlib.Core.Path.{refl, sym, ap, _∙_}
 use Prim.Native.Nat.{_-_}
 use native.Mathlib.Omega.{arith}
 use borrow.Author.Needs.{needs}
 use lib.ListN.{take}
+use Rattle.token.specs.Kind.{level-of}
 use Rattle.evaluator.specs.Working.{site-table, env-of}
-use Rattle.evaluator.proofs.TableLaws.{token}
-use Rattle.evaluator.proofs.OperatorLaws.{level-some}
+use Rattle.evaluator.proofs.NotedLaws.{leaf-within, level-at, operator-within}
 use Rattle.evaluator.proofs.ExpressionLaws.{Underway, begun, quick-none, quick-tighter, quick-fault, quick-end, quick-again, quick-within}
 use Rattle.evaluator.proofs.expression.quick.Statement.{statement}
 use Rattle.evaluator.proofs.expression.quick.Tie as tie
 
 abbrev Inv-loop : tie.InvT-loop
-Inv-loop words sizes place grid vars index site depth at level n left₀ op₀ own₀ last₀ here₀ left op own last here =
+Inv-loop leaves words sizes place grid vars index site depth at level n left₀ op₀ own₀ last₀ here₀ left op own last here =
     Underway (site-table words sizes site) (env-of words sizes grid site) (take (site .slots) vars) (take depth index) (site .tokens) at level left op own last here
 
 abbrev μ-loop : tie.MeasureT-loop
-μ-loop words sizes place grid vars index site depth at level n left₀ op₀ own₀ last₀ here₀ left op own last here =
+μ-loop leaves words sizes place grid vars index site depth at level n left₀ op₀ own₀ last₀ here₀ left op own last here =
     site .tokens - here
 
--- src/expression.rt:53:5
 loop-holds : tie.Need-loop-holds Inv-loop μ-loop
 loop-holds c = begun _ _ _ _ _ _ _ (c .before .before .before .pre .2)
 
--- src/expression.rt:54:13
-leaf-requires : tie.Need-leaf-requires Inv-loop μ-loop
-leaf-requires c κs = ((c .before .before .before .before .pre .0), (c .loop .inv .within))
+short-operand-requires : tie.Need-short-operand-requires Inv-loop μ-loop
+short-operand-requires c κs = ((c .before .before .before .before .pre .0), (c .loop .inv .within))
 
--- src/expression.rt:55:25
 enum-known-part : tie.Need-enum-known-part Inv-loop μ-loop
 enum-known-part c = search needs
 
--- src/expression.rt:56:13
 enum-told : tie.Need-enum-told Inv-loop μ-loop
 enum-told c = search needs
 
--- src/expression.rt:56:13
 returns : tie.Need-returns Inv-loop μ-loop
-returns c = quick-none _ _ _ _ _ _ _ (c .before .before .before .before .before .before .before .pre .1) (c .before .before .before .loop .inv) (c .before .before .leaf .ensures) (c .enum-told .given .1)
+returns c = quick-none _ _ _ _ _ _ _ (c .before .before .before .before .before .before .before .pre .1) (c .before .before .before .loop .inv) (c .before .before .short-operand .ensures) (c .enum-told .given .1)
 
--- src/expression.rt:58:13
-word-at-requires : tie.Need-word-at-requires Inv-loop μ-loop
-word-at-requires c κs = ((c .before .before .before .before .before .before .before .before .pre .0 .table), (c .before .before .before .before .before .before .before .before .pre .0 .tokens), omega arith)
+leaf-word-requires : tie.Need-leaf-word-requires Inv-loop μ-loop
+leaf-word-requires c κs = (omega (arith, leaf-within _ _ _ _ _ _ (c .before .before .before .short-operand .ensures) (c .before .part .given .1) .1, (c .before .before .before .before .before .before .before .before .pre .0 .tokens)), omega arith)
 
--- src/expression.rt:59:13
-level-of-requires : tie.Need-level-of-requires Inv-loop μ-loop
-level-of-requires c κs = search needs
-
--- src/expression.rt:61:13
 returns-2 : tie.Need-returns-2 Inv-loop μ-loop
-returns-2 c = quick-tighter _ _ _ _ _ _ _ (c .before .before .before .before .before .before .before .before .before .before .before .pre .1) (c .before .before .before .before .before .before .before .loop .inv) (c .before .before .before .before .before .before .leaf .ensures) (c .before .before .before .before .part .given .1) (c .before .before .word-at .ensures) (c .before .level-of .ensures) (c .if1 .taken)
+returns-2 c = quick-tighter _ _ _ _ _ _ _ (c .before .before .before .before .before .before .before .before .before .before .pre .1) (c .before .before .before .before .before .before .loop .inv) (c .before .before .before .before .before .short-operand .ensures) (c .before .before .before .part .given .1) refl (level-at (c .before .before .before .before .before .before .before .before .before .before .pre .0) _ (leaf-within _ _ _ _ _ _ (c .before .before .before .before .before .short-operand .ensures) (c .before .before .before .part .given .1) .1) (c .before .leaf-word .ensures)) (c .if1 .taken)
 
--- src/expression.rt:63:13
 joined-requires : tie.Need-joined-requires Inv-loop μ-loop
-joined-requires c κs = ((c .before .before .before .before .before .before .before .before .before .before .before .pre .0 .table), (c .before .before .before .before .before .before .before .before .before .before .before .pre .0 .tokens))
+joined-requires c κs = ((c .before .before .before .before .before .before .before .before .before .before .pre .0 .table), (c .before .before .before .before .before .before .before .before .before .before .pre .0 .tokens))
 
--- src/expression.rt:64:25
 enum-known-done : tie.Need-enum-known-done Inv-loop μ-loop
 enum-known-done c = search needs
 
--- src/expression.rt:65:13
 enum-told-2 : tie.Need-enum-told-2 Inv-loop μ-loop
 enum-told-2 c = search needs
 
--- src/expression.rt:65:13
 returns-3 : tie.Need-returns-3 Inv-loop μ-loop
-returns-3 c = quick-fault _ _ _ _ _ _ _ (c .before .before .before .before .before .before .before .before .before .before .before .before .before .before .pre .1) (c .before .before .before .before .before .before .before .before .before .before .loop .inv) (c .before .before .before .before .before .before .before .before .before .leaf .ensures) (c .before .before .before .before .before .before .before .part .given .1) (c .before .before .before .before .before .word-at .ensures) (c .before .before .before .before .level-of .ensures) (c .before .before .before .if1 .left) (c .before .before .joined .ensures) (c .enum-told2 .given .1)
+returns-3 c = quick-fault _ _ _ _ _ _ _ (c .before .before .before .before .before .before .before .before .before .before .before .before .before .pre .1) (c .before .before .before .before .before .before .before .before .before .loop .inv) (c .before .before .before .before .before .before .before .before .short-operand .ensures) (c .before .before .before .before .before .before .part .given .1) refl (level-at (c .before .before .before .before .before .before .before .before .before .before .before .before .before .pre .0) _ (leaf-within _ _ _ _ _ _ (c .before .before .before .before .before .before .before .before .short-operand .ensures) (c .before .before .before .before .before .before .part .given .1) .1) (c .before .before .before .before .leaf-word .ensures)) (c .before .before .before .if1 .left) (c .before .before .joined .ensures) (c .enum-told2 .given .1)
 
--- src/expression.rt:68:13
 returns-4 : tie.Need-returns-4 Inv-loop μ-loop
-returns-4 c = quick-end _ _ _ _ _ _ _ (c .before .before .before .before .before .before .before .before .before .before .before .before .before .before .before .before .pre .1) (c .before .before .before .before .before .before .before .before .before .before .before .before .loop .inv) (c .before .before .before .before .before .before .before .before .before .before .before .leaf .ensures) (c .before .before .before .before .before .before .before .before .before .part .given .1) (c .before .before .before .before .before .before .before .word-at .ensures) (c .before .before .before .before .before .before .level-of .ensures) (c .before .before .before .before .before .if1 .left) (c .before .before .before .before .joined .ensures) (c .before .before .done .given .1) (c .if2 .taken)
+returns-4 c = quick-end _ _ _ _ _ _ _ (c .before .before .before .before .before .before .before .before .before .before .before .before .before .before .before .pre .1) (c .before .before .before .before .before .before .before .before .before .before .before .loop .inv) (c .before .before .before .before .before .before .before .before .before .before .short-operand .ensures) (c .before .before .before .before .before .before .before .before .part .given .1) refl (level-at (c .before .before .before .before .before .before .before .before .before .before .before .before .before .before .before .pre .0) _ (leaf-within _ _ _ _ _ _ (c .before .before .before .before .before .before .before .before .before .before .short-operand .ensures) (c .before .before .before .before .before .before .before .before .part .given .1) .1) (c .before .before .before .before .before .before .leaf-word .ensures)) (c .before .before .before .before .before .if1 .left) (c .before .before .before .before .joined .ensures) (c .before .before .done .given .1) (c .if2 .taken)
 
--- src/expression.rt:74:16
+word-at-requires : tie.Need-word-at-requires Inv-loop μ-loop
+word-at-requires c κs = ((c .before .before .before .before .before .before .before .before .before .before .before .before .before .before .before .pre .0 .table), (c .before .before .before .before .before .before .before .before .before .before .before .before .before .before .before .pre .0 .tokens), omega arith)
+
 add-here : tie.Need-add-here Inv-loop μ-loop
-add-here c = let l = quick-within _ _ _ _ _ _ _ (c .before .before .before .before .before .before .before .before .before .before .before .before .before .before .before .before .pre .1) (c .before .before .before .before .before .before .before .before .before .before .before .before .loop .inv) (c .before .before .before .before .before .before .before .before .before .before .before .leaf .ensures) (c .before .before .before .before .before .before .before .before .before .part .given .1) (c .before .before .before .before .before .before .before .word-at .ensures) (c .before .before .before .before .before .before .level-of .ensures) (c .before .before .before .before .before .if1 .left) (c .before .before .before .before .joined .ensures) (c .before .before .done .given .1) in omega (arith, (c .before .before .before .before .before .before .before .before .before .before .before .before .before .before .before .before .pre .0 .tokens))
+add-here c = let l = quick-within _ _ _ _ _ _ _ (c .before .before .before .before .before .before .before .before .before .before .before .before .before .before .before .before .pre .1) (c .before .before .before .before .before .before .before .before .before .before .before .before .loop .inv) (c .before .before .before .before .before .before .before .before .before .before .before .short-operand .ensures) (c .before .before .before .before .before .before .before .before .before .part .given .1) refl (level-at (c .before .before .before .before .before .before .before .before .before .before .before .before .before .before .before .before .pre .0) _ (leaf-within _ _ _ _ _ _ (c .before .before .before .before .before .before .before .before .before .before .before .short-operand .ensures) (c .before .before .before .before .before .before .before .before .before .part .given .1) .1) (c .before .before .before .before .before .before .before .leaf-word .ensures)) (c .before .before .before .before .before .before .if1 .left) (c .before .before .before .before .before .joined .ensures) (c .before .before .before .done .given .1) in omega (arith, (c .before .before .before .before .before .before .before .before .before .before .before .before .before .before .before .before .pre .0 .tokens))
 
--- src/expression.rt:53:5
 loop-less : tie.Need-loop-less Inv-loop μ-loop
-loop-less c = let l = quick-within _ _ _ _ _ _ _ (c .before .before .before .before .before .before .before .before .before .before .before .before .before .before .before .before .pre .1) (c .before .before .before .before .before .before .before .before .before .before .before .before .loop .inv) (c .before .before .before .before .before .before .before .before .before .before .before .leaf .ensures) (c .before .before .before .before .before .before .before .before .before .part .given .1) (c .before .before .before .before .before .before .before .word-at .ensures) (c .before .before .before .before .before .before .level-of .ensures) (c .before .before .before .before .before .if1 .left) (c .before .before .before .before .joined .ensures) (c .before .before .done .given .1) in let k = quick-again _ _ _ _ _ _ _ (c .before .before .before .before .before .before .before .before .before .before .before .before .before .before .before .before .pre .1) (c .before .before .before .before .before .before .before .before .before .before .before .before .loop .inv) (c .before .before .before .before .before .before .before .before .before .before .before .leaf .ensures) (c .before .before .before .before .before .before .before .before .before .part .given .1) (c .before .before .before .before .before .before .before .word-at .ensures) (c .before .before .before .before .before .before .level-of .ensures) (c .before .before .before .before .before .if1 .left) (c .before .before .before .before .joined .ensures) (c .before .before .done .given .1) (c .if2 .left) (token _ _ _ (c .before .before .before .before .before .before .before .word-at .ensures) (level-some _ (c .before .before .before .before .before .before .level-of .ensures) (c .before .before .before .before .before .before .before .before .before .before .before .before .before .before .before .before .pre .1) (c .if2 .left))) .within in omega arith
+loop-less c = let l = quick-within _ _ _ _ _ _ _ (c .before .before .before .before .before .before .before .before .before .before .before .before .before .before .before .before .pre .1) (c .before .before .before .before .before .before .before .before .before .before .before .before .loop .inv) (c .before .before .before .before .before .before .before .before .before .before .before .short-operand .ensures) (c .before .before .before .before .before .before .before .before .before .part .given .1) refl (level-at (c .before .before .before .before .before .before .before .before .before .before .before .before .before .before .before .before .pre .0) _ (leaf-within _ _ _ _ _ _ (c .before .before .before .before .before .before .before .before .before .before .before .short-operand .ensures) (c .before .before .before .before .before .before .before .before .before .part .given .1) .1) (c .before .before .before .before .before .before .before .leaf-word .ensures)) (c .before .before .before .before .before .before .if1 .left) (c .before .before .before .before .before .joined .ensures) (c .before .before .before .done .given .1) in let k = quick-again _ _ _ _ _ _ _ (c .before .before .before .before .before .before .before .before .before .before .before .before .before .before .before .before .pre .1) (c .before .before .before .before .before .before .before .before .before .before .before .before .loop .inv) (c .before .before .before .before .before .before .before .before .before .before .before .short-operand .ensures) (c .before .before .before .before .before .before .before .before .before .part .given .1) (c .word-at .ensures) (level-at (c .before .before .before .before .before .before .before .before .before .before .before .before .before .before .before .before .pre .0) _ (leaf-within _ _ _ _ _ _ (c .before .before .before .before .before .before .before .before .before .before .before .short-operand .ensures) (c .before .before .before .before .before .before .before .before .before .part .given .1) .1) (c .before .before .before .before .before .before .before .leaf-word .ensures) ∙ ap level-of (sym (c .word-at .ensures))) (c .before .before .before .before .before .before .if1 .left) (c .before .before .before .before .before .joined .ensures) (c .before .before .before .done .given .1) (c .before .if2 .left) (operator-within (c .before .before .before .before .before .before .before .before .before .before .before .before .before .before .before .before .pre .0) _ (leaf-within _ _ _ _ _ _ (c .before .before .before .before .before .before .before .before .before .before .before .short-operand .ensures) (c .before .before .before .before .before .before .before .before .before .part .given .1) .1) (c .before .before .before .before .before .before .before .leaf-word .ensures) (omega (arith, (c .before .before .before .before .before .before .before .before .before .before .before .before .before .before .before .before .pre .1), (c .before .if2 .left)))) .within in omega arith
 
--- src/expression.rt:53:5
 loop-again : tie.Need-loop-again Inv-loop μ-loop
-loop-again c = quick-again _ _ _ _ _ _ _ (c .before .before .before .before .before .before .before .before .before .before .before .before .before .before .before .before .pre .1) (c .before .before .before .before .before .before .before .before .before .before .before .before .loop .inv) (c .before .before .before .before .before .before .before .before .before .before .before .leaf .ensures) (c .before .before .before .before .before .before .before .before .before .part .given .1) (c .before .before .before .before .before .before .before .word-at .ensures) (c .before .before .before .before .before .before .level-of .ensures) (c .before .before .before .before .before .if1 .left) (c .before .before .before .before .joined .ensures) (c .before .before .done .given .1) (c .if2 .left) (token _ _ _ (c .before .before .before .before .before .before .before .word-at .ensures) (level-some _ (c .before .before .before .before .before .before .level-of .ensures) (c .before .before .before .before .before .before .before .before .before .before .before .before .before .before .before .before .pre .1) (c .if2 .left)))
+loop-again c = quick-again _ _ _ _ _ _ _ (c .before .before .before .before .before .before .before .before .before .before .before .before .before .before .before .before .pre .1) (c .before .before .before .before .before .before .before .before .before .before .before .before .loop .inv) (c .before .before .before .before .before .before .before .before .before .before .before .short-operand .ensures) (c .before .before .before .before .before .before .before .before .before .part .given .1) (c .word-at .ensures) (level-at (c .before .before .before .before .before .before .before .before .before .before .before .before .before .before .before .before .pre .0) _ (leaf-within _ _ _ _ _ _ (c .before .before .before .before .before .before .before .before .before .before .before .short-operand .ensures) (c .before .before .before .before .before .before .before .before .before .part .given .1) .1) (c .before .before .before .before .before .before .before .leaf-word .ensures) ∙ ap level-of (sym (c .word-at .ensures))) (c .before .before .before .before .before .before .if1 .left) (c .before .before .before .before .before .joined .ensures) (c .before .before .before .done .given .1) (c .before .if2 .left) (operator-within (c .before .before .before .before .before .before .before .before .before .before .before .before .before .before .before .before .pre .0) _ (leaf-within _ _ _ _ _ _ (c .before .before .before .before .before .before .before .before .before .before .before .short-operand .ensures) (c .before .before .before .before .before .before .before .before .before .part .given .1) .1) (c .before .before .before .before .before .before .before .leaf-word .ensures) (omega (arith, (c .before .before .before .before .before .before .before .before .before .before .before .before .before .before .before .before .pre .1), (c .before .if2 .left))))
 
 pub quick-spec : {M : Type 1} → statement M
-quick-spec =
-    tie.close
-    (tie.spec
-    Inv-loop
-    μ-loop
-    loop-holds
-    leaf-requires
-    enum-known-part
-    enum-told
-    returns
-    word-at-requires
-    level-of-requires
-    returns-2
-    joined-requires
-    enum-known-done
-    enum-told-2
-    returns-3
-    returns-4
-    add-here
-    loop-less
-    loop-again)
+quick-spec = tie.close (tie.spec Inv-loop μ-loop loop-holds short-operand-requires enum-known-part enum-told returns leaf-word-requires returns-2 joined-requires enum-known-done enum-told-2 returns-3 returns-4 word-at-requires add-here loop-less loop-again)

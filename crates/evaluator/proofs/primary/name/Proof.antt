@@ -15,8 +15,8 @@ cast-variable-value c = search needs
 variable-value-requires : tie.Need-variable-value-requires
 variable-value-requires c κs = search needs
 
-add-t16 : tie.Need-add-t16
-add-t16 c = search needs
+add-t17 : tie.Need-add-t17
+add-t17 c = search needs
 
 returns : tie.Need-returns
 returns c = name-variable _ _ _ _ _ _ _ _ (c .before .before .before .word-at .ensures) (c .before .before .word-at2 .ensures) (c .before .before .before .before .before .before .before .pre .1) (c .before .if1 .taken) (c .variable-value .ensures)
@@ -24,8 +24,8 @@ returns c = name-variable _ _ _ _ _ _ _ _ (c .before .before .before .word-at .e
 decode-requires : tie.Need-decode-requires
 decode-requires c κs = search needs
 
-add-t18 : tie.Need-add-t18
-add-t18 c = search needs
+add-t19 : tie.Need-add-t19
+add-t19 c = search needs
 
 returns-2 : tie.Need-returns-2
 returns-2 c = name-constant _ _ _ _ _ _ _ _ (c .before .before .before .before .word-at .ensures) (c .before .before .before .word-at2 .ensures) (c .before .before .before .before .before .before .before .before .pre .1) (c .before .if2 .taken) (c .decode .ensures)
@@ -36,8 +36,8 @@ cast-index-value c = search needs
 index-value-requires : tie.Need-index-value-requires
 index-value-requires c κs = search needs
 
-add-t21 : tie.Need-add-t21
-add-t21 c = search needs
+add-t22 : tie.Need-add-t22
+add-t22 c = search needs
 
 returns-3 : tie.Need-returns-3
 returns-3 c = name-index _ _ _ _ _ _ _ _ (c .before .before .before .before .before .word-at .ensures) (c .before .before .before .before .word-at2 .ensures) (c .before .before .before .before .before .before .before .before .before .pre .1) (c .before .if3 .taken) (c .index-value .ensures)
@@ -53,13 +53,13 @@ name-spec =
     word-at-requires-2
     cast-variable-value
     variable-value-requires
-    add-t16
+    add-t17
     returns
     decode-requires
-    add-t18
+    add-t19
     returns-2
     cast-index-value
     index-value-requires
-    add-t21
+    add-t22
     returns-3
     returns-4)

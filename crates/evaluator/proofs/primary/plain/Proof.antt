@@ -20,8 +20,8 @@ word-at-requires-2 c κs = search needs
 decode-requires : tie.Need-decode-requires
 decode-requires c κs = search needs
 
-add-t17 : tie.Need-add-t17
-add-t17 c = search needs
+add-t18 : tie.Need-add-t18
+add-t18 c = search needs
 
 returns : tie.Need-returns
 returns c = plain-literal _ _ _ _ _ _ _ (c .before .before .before .word-at .ensures) (token _ _ _ (c .before .before .before .word-at .ensures) (omega arith)) (c .before .before .if1 .taken) (c .before .word-at2 .ensures) (c .decode .ensures)
@@ -53,8 +53,8 @@ returns-3 c = let b = link-bounds _ _ _ (c .link-at2 .ensures) (token _ _ _ (c .
 decode-requires-2 : tie.Need-decode-requires-2
 decode-requires-2 c κs = search needs
 
-add-t22 : tie.Need-add-t22
-add-t22 c = search needs
+add-t23 : tie.Need-add-t23
+add-t23 c = search needs
 
 returns-4 : tie.Need-returns-4
 returns-4 c = plain-time _ _ _ _ _ _ _ (c .before .before .before .before .before .word-at .ensures) (token _ _ _ (c .before .before .before .before .before .word-at .ensures) (omega arith)) (c .before .if4 .taken) (c .before .before .before .before .before .before .before .before .before .pre .0 .time) (c .decode2 .ensures)
@@ -69,7 +69,7 @@ plain-spec =
     word-at-requires
     word-at-requires-2
     decode-requires
-    add-t17
+    add-t18
     returns
     neighbour-field-requires
     link-at-requires
@@ -80,6 +80,6 @@ plain-spec =
     link-at-requires-2
     returns-3
     decode-requires-2
-    add-t22
+    add-t23
     returns-4
     returns-5)

@@ -3,11 +3,14 @@ use borrow.Author.Needs.{needs}
 use Rattle.executor.proofs.assignment.assign_one.Statement.{statement}
 use Rattle.executor.proofs.assignment.assign_one.Tie as tie
 
-add-worked-out : tie.Need-add-worked-out
-add-worked-out c = search needs
+add-from : tie.Need-add-from
+add-from c = search needs
 
-worked-out-requires : tie.Need-worked-out-requires
-worked-out-requires c κs = search needs
+simple-requires : tie.Need-simple-requires
+simple-requires c κs = search needs
+
+settled-requires : tie.Need-settled-requires
+settled-requires c κs = search needs
 
 enum-known-told : tie.Need-enum-known-told
 enum-known-told c = search needs
@@ -22,17 +25,18 @@ same-length : tie.Need-same-length
 same-length c = search needs
 
 returns : tie.Need-returns
-returns c = one-stored _ _ _ _ _ _ _ (c .before .before .before .before .before .before .before .worked-out .ensures) (c .before .before .before .before .before .told .given .1) (c .before .put .ensures)
+returns c = one-stored _ _ _ _ _ _ _ (c .before .before .before .before .before .before .before .settled .ensures) (c .before .before .before .before .before .told .given .1) (c .before .put .ensures)
 
 returns-2 : tie.Need-returns-2
-returns-2 c = one-fault _ _ _ _ _ _ _ (c .before .before .before .worked-out .ensures) (c .before .told2 .given .1)
+returns-2 c = one-fault _ _ _ _ _ _ _ (c .before .before .before .settled .ensures) (c .before .told2 .given .1)
 
 pub assign-one-spec : {M : Type 1} → statement M
 assign-one-spec =
     tie.close
     (tie.spec
-    add-worked-out
-    worked-out-requires
+    add-from
+    simple-requires
+    settled-requires
     enum-known-told
     put-requires
     enum-known-told-2

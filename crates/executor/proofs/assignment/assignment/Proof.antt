@@ -10,10 +10,10 @@ use Rattle.executor.proofs.assignment.assignment.Statement.{statement}
 use Rattle.executor.proofs.assignment.assignment.Tie as tie
 
 abbrev Inv-loop : tie.InvT-loop
-Inv-loop words sizes place grid vars₀ index next₀ site depth at n here₀ vars next here = Tried (site-table words sizes site) (env-of words sizes grid site) (take depth index) at (take (site .slots) vars) next here × (vars ≡ vars₀) × (next ≡ next₀) × (length next ≡ length next₀)
+Inv-loop leaves words sizes place grid vars₀ index next₀ site depth at n here₀ vars next here = Tried (site-table words sizes site) (env-of words sizes grid site) (take depth index) at (take (site .slots) vars) next here × (vars ≡ vars₀) × (next ≡ next₀) × (length next ≡ length next₀)
 
 abbrev μ-loop : tie.MeasureT-loop
-μ-loop words sizes place grid vars₀ index next₀ site depth at n here₀ vars next here = site .tokens - here
+μ-loop leaves words sizes place grid vars₀ index next₀ site depth at n here₀ vars next here = site .tokens - here
 
 clause-of-requires : tie.Need-clause-of-requires Inv-loop μ-loop
 clause-of-requires c κs = search needs

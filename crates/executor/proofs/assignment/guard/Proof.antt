@@ -1,4 +1,3 @@
-use native.Mathlib.Omega.{arith}
 use Rattle.evaluator.proofs.TableLaws.{link-bounds}
 use Rattle.executor.proofs.AssignmentLaws.{guard-none, guard-holds, guard-fails, guard-fault}
 use borrow.Author.Needs.{needs}
@@ -14,8 +13,11 @@ returns c = guard-none _ _ _ _ _ (c .before .word-at .ensures) (c .if1 .taken)
 link-at-requires : tie.Need-link-at-requires
 link-at-requires c κs = search needs
 
-worked-out-requires : tie.Need-worked-out-requires
-worked-out-requires c κs = ((c .before .before .before .before .before .before .pre .0), link-bounds _ _ _ (c .link-at .ensures) (c .before .before .before .before .before .before .pre .1) .1)
+simple-requires : tie.Need-simple-requires
+simple-requires c κs = (c .before .before .before .before .before .before .pre .0, link-bounds _ _ _ (c .link-at .ensures) (c .before .before .before .before .before .before .pre .1) .1)
+
+settled-requires : tie.Need-settled-requires
+settled-requires c κs = (c .before .before .before .before .before .before .before .pre .0, link-bounds _ _ _ (c .before .link-at .ensures) (c .before .before .before .before .before .before .before .pre .1) .1, c .simple .ensures)
 
 enum-known-told : tie.Need-enum-known-told
 enum-known-told c = search needs
@@ -24,16 +26,16 @@ is-true-requires : tie.Need-is-true-requires
 is-true-requires c κs = search needs
 
 returns-2 : tie.Need-returns-2
-returns-2 c = guard-holds _ _ _ _ _ (c .before .before .before .before .before .before .before .before .word-at .ensures) (c .before .before .before .before .before .before .before .if1 .left) (c .before .before .before .before .before .before .link-at .ensures) (c .before .before .before .before .before .worked-out .ensures) (c .before .before .before .told .given .1) (c .before .is-true .ensures) (c .if2 .taken)
+returns-2 c = guard-holds _ _ _ _ _ (c .before .before .before .before .before .before .before .before .before .word-at .ensures) (c .before .before .before .before .before .before .before .before .if1 .left) (c .before .before .before .before .before .before .before .link-at .ensures) (c .before .before .before .before .before .settled .ensures) (c .before .before .before .told .given .1) (c .before .is-true .ensures) (c .if2 .taken)
 
 enum-known-told-2 : tie.Need-enum-known-told-2
 enum-known-told-2 c = search needs
 
 returns-3 : tie.Need-returns-3
-returns-3 c = guard-fails _ _ _ _ _ (c .before .before .before .before .before .before .before .before .word-at .ensures) (c .before .before .before .before .before .before .before .if1 .left) (c .before .before .before .before .before .before .link-at .ensures) (c .before .before .before .before .before .worked-out .ensures) (c .before .before .before .told .given .1) (c .before .is-true .ensures) (c .if2 .left)
+returns-3 c = guard-fails _ _ _ _ _ (c .before .before .before .before .before .before .before .before .before .word-at .ensures) (c .before .before .before .before .before .before .before .before .if1 .left) (c .before .before .before .before .before .before .before .link-at .ensures) (c .before .before .before .before .before .settled .ensures) (c .before .before .before .told .given .1) (c .before .is-true .ensures) (c .if2 .left)
 
 returns-4 : tie.Need-returns-4
-returns-4 c = guard-fault _ _ _ _ _ (c .before .before .before .before .before .before .word-at .ensures) (c .before .before .before .before .before .if1 .left) (c .before .before .before .before .link-at .ensures) (c .before .before .before .worked-out .ensures) (c .before .told2 .given .1)
+returns-4 c = guard-fault _ _ _ _ _ (c .before .before .before .before .before .before .before .word-at .ensures) (c .before .before .before .before .before .before .if1 .left) (c .before .before .before .before .before .link-at .ensures) (c .before .before .before .settled .ensures) (c .before .told2 .given .1)
 
 pub guard-spec : {M : Type 1} → statement M
 guard-spec =
@@ -42,7 +44,8 @@ guard-spec =
     word-at-requires
     returns
     link-at-requires
-    worked-out-requires
+    simple-requires
+    settled-requires
     enum-known-told
     is-true-requires
     returns-2

@@ -13,8 +13,8 @@ clear-requires c κs = search needs
 copy-fields-requires : tie.Need-copy-fields-requires
 copy-fields-requires c κs = rw (c .before .before .before .before .before .before .before .pre .lent) at (room _ _ _ _ (c .before .before .before .before .before .before .before .pre .inside) (c .before .before .before .before .before .before .before .pre .entries))
 
-cast-t21 : tie.Need-cast-t21
-cast-t21 c = search needs
+cast-t22 : tie.Need-cast-t22
+cast-t22 c = search needs
 
 block-requires : tie.Need-block-requires
 block-requires c κs = (ready (c .before .before .before .before .before .before .before .before .before .before .before .before .before .pre), (c .before .before .before .before .before .before .before .before .before .before .before .before .before .pre .body))
@@ -53,7 +53,7 @@ evaluate-cell-spec =
     cast-slots
     clear-requires
     copy-fields-requires
-    cast-t21
+    cast-t22
     block-requires
     enum-told
     enum-told-2

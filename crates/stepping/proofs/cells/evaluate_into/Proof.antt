@@ -5,32 +5,26 @@ use Rattle.stepping.proofs.TurnLaws.{part-length, part-whole, turn-room
 use Rattle.stepping.proofs.cells.evaluate_into.Statement.{statement}
 use Rattle.stepping.proofs.cells.evaluate_into.Tie as tie
 
-cast-set-place : tie.Need-cast-set-place
-cast-set-place c = search needs
-
-set-place-requires : tie.Need-set-place-requires
-set-place-requires c κs = search needs
-
 cast-fields : tie.Need-cast-fields
 cast-fields c = search needs
 
 mul-from : tie.Need-mul-from
 mul-from c =
-    let p = c .before .before .before .before .before .before .before .before .pre in
+    let p = c .before .before .before .before .pre in
     let a = turn-room p in
     let b = turn-small p in
     search needs
 
 add-end : tie.Need-add-end
 add-end c =
-    let p = c .before .before .before .before .before .before .before .before .pre in
+    let p = c .before .before .before .before .pre in
     let a = turn-room p in
     let b = turn-small p in
     search needs
 
 mul-evaluate-counted : tie.Need-mul-evaluate-counted
 mul-evaluate-counted c =
-    let p = c .before .before .before .before .before .before .before .before .before .pre in
+    let p = c .before .before .before .before .pre in
     let a = turn-room p in
     let b = turn-small p in
     search needs
@@ -42,22 +36,19 @@ part-evaluate-counted-start : tie.Need-part-evaluate-counted-start
 part-evaluate-counted-start c = search needs
 
 part-evaluate-counted-end : tie.Need-part-evaluate-counted-end
-part-evaluate-counted-end c = turn-room (c .before .before .before .before .before .before .before .before .before .pre)
+part-evaluate-counted-end c = turn-room (c .before .before .before .before .pre)
 
 evaluate-counted-requires : tie.Need-evaluate-counted-requires
 evaluate-counted-requires c κs =
-    let s = c .before .before .before .before .before .before .before .before .before .before .before .before in
-    (turn-fit (s .pre) (c .before .before .before .before .before .before .before .set-place .ensures) (part-length _ _ _ (turn-room (s .pre))), s .pre .countable)
+    let p = c .before .before .before .before .before .before .before .pre in
+    (turn-fit p (part-length _ _ _ (turn-room p)), p .countable)
 
 same-length : tie.Need-same-length
 same-length c = search needs
 
-same-length-2 : tie.Need-same-length-2
-same-length-2 c = search needs
-
 returns : tie.Need-returns
 returns c =
-    let s = c .before .before .before .before .before .before .before .before .before .before .before .before .before .before in
+    let s = c .before .before .before .before .before .before .before .before .before in
     let long = part-length (s .args .cell * s .args .rule .fields) (s .args .rule .fields) (s .args .scratch .now) (turn-room (s .pre)) in
     turned (s .pre) (c .before .evaluate-counted .ensures) refl (search needs) (part-whole _ _)
 
@@ -65,8 +56,6 @@ pub evaluate-into-spec : {M : Type 1} → statement M
 evaluate-into-spec =
     tie.close
     (tie.spec
-    cast-set-place
-    set-place-requires
     cast-fields
     mul-from
     add-end
@@ -76,5 +65,4 @@ evaluate-into-spec =
     part-evaluate-counted-end
     evaluate-counted-requires
     same-length
-    same-length-2
     returns)

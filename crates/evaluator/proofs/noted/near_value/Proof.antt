@@ -1,0 +1,25 @@
+use native.Mathlib.Omega.{arith}
+use borrow.Author.Needs.{needs}
+use mathlib.Core.Path.{refl}
+use Rattle.evaluator.proofs.PrimaryLaws.{ready-inside}
+use Rattle.evaluator.proofs.NotedLaws.{near-offsets, near-room, near-small, near-leaf}
+use Rattle.evaluator.proofs.noted.near_value.Statement.{statement}
+use Rattle.evaluator.proofs.noted.near_value.Tie as tie
+
+leaf-word-requires : tie.Need-leaf-word-requires
+leaf-word-requires c κs = search needs
+
+cast-which : tie.Need-cast-which
+cast-which c = search needs
+
+noted-number-requires : tie.Need-noted-number-requires
+noted-number-requires c κs = let r = (c .before .before .before .before .pre .0) in (omega (arith, r .tokens, (c .before .before .before .before .pre .1)), r .dims, r .cells, ready-inside r, near-offsets r (c .before .before .before .before .args .vars .now) (c .before .before .before .before .args .index .now) _ (c .before .before .before .before .pre .1) (c .before .before .before .before .pre .2))
+
+entry-of-requires : tie.Need-entry-of-requires
+entry-of-requires c κs = (near-room (c .before .before .before .before .before .pre .0) (c .before .before .before .before .before .args .vars .now) (c .before .before .before .before .before .args .index .now) _ (c .before .before .before .before .before .pre .1) refl (c .before .leaf-word .ensures) (c .noted-number .ensures), near-small (c .before .before .before .before .before .pre .0) (c .before .before .before .before .before .args .vars .now) (c .before .before .before .before .before .args .index .now) _ (c .before .before .before .before .before .pre .1) refl (c .before .leaf-word .ensures) (c .before .before .before .before .before .pre .2))
+
+returns : tie.Need-returns
+returns c = near-leaf (c .before .before .before .before .before .before .pre .0) (c .before .before .before .before .before .before .args .vars .now) (c .before .before .before .before .before .before .args .index .now) _ (c .before .before .before .before .before .before .pre .1) refl (c .before .before .leaf-word .ensures) (c .before .noted-number .ensures) (c .before .before .before .before .before .before .pre .2) (c .entry-of .ensures)
+
+pub near-value-spec : {M : Type 1} → statement M
+near-value-spec = tie.close (tie.spec leaf-word-requires cast-which noted-number-requires entry-of-requires returns)

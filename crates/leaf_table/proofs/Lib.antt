@@ -1,0 +1,3 @@
+-- The laws by which the functions are proved, by topic.
+pub mod NotingLaws
+pub mod WritingLaws

@@ -1,0 +1,37 @@
+use native.Mathlib.Omega.{arith}
+use Prim.Native.Nat.{_+_, _-_}
+use lib.ListN.{length}
+use Rattle.evaluator.specs.Stands.{table-of}
+use Rattle.leaf_table.proofs.WritingLaws.{Filled, filled-start, filled-more}
+use borrow.Author.Needs.{needs}
+use Rattle.leaf_table.proofs.fill_leaves.Statement.{statement}
+use Rattle.leaf_table.proofs.fill_leaves.Tie as tie
+
+abbrev Inv-loop : tie.InvT-loop
+Inv-loop words sizes n fields slots leaves₀ p₀ leaves p = Filled (table-of words n (length sizes)) sizes n fields slots leaves p
+
+abbrev μ-loop : tie.MeasureT-loop
+μ-loop words sizes n fields slots leaves₀ p₀ leaves p = n + 1 - p
+
+loop-holds : tie.Need-loop-holds Inv-loop μ-loop
+loop-holds c = filled-start _ _ _ _ _ _
+
+write-leaf-requires : tie.Need-write-leaf-requires Inv-loop μ-loop
+write-leaf-requires c κs = search needs
+
+add-p : tie.Need-add-p Inv-loop μ-loop
+add-p c = search needs
+
+loop-less : tie.Need-loop-less Inv-loop μ-loop
+loop-less c = search needs
+
+loop-again : tie.Need-loop-again Inv-loop μ-loop
+loop-again c = let s = c .before .before .before .before .before .before in filled-more _ _ _ _ _ (s .pre .2) (c .before .before .before .loop .inv) (c .before .before .loop-test .taken) (c .write-leaf .ensures)
+
+returns : tie.Need-returns Inv-loop μ-loop
+returns c = record { at = λ p l. c .before .loop .inv .at p (omega (arith, c .loop-test .left)) }
+
+pub fill-leaves-spec : {M : Type 1} → statement M
+fill-leaves-spec =
+    tie.close
+    (tie.spec Inv-loop μ-loop loop-holds write-leaf-requires add-p loop-less loop-again returns)

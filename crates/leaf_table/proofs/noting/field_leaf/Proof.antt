@@ -1,0 +1,28 @@
+use native.Mathlib.Omega.{arith}
+use Rattle.evaluator.proofs.TableLaws.{link-bounds}
+use Rattle.leaf_table.proofs.NotingLaws.{field-leaf, field-unnoted}
+use borrow.Author.Needs.{needs}
+use Rattle.leaf_table.proofs.noting.field_leaf.Statement.{statement}
+use Rattle.leaf_table.proofs.noting.field_leaf.Tie as tie
+
+word-at-requires : tie.Need-word-at-requires
+word-at-requires c κs = search needs
+
+link-at-requires : tie.Need-link-at-requires
+link-at-requires c κs = search needs
+
+cast-if1 : tie.Need-cast-if1
+cast-if1 c = search needs
+
+cast-t12 : tie.Need-cast-t12
+cast-t12 c = let b = link-bounds _ _ _ (c .before .link-at .ensures) (c .before .before .before .before .pre .2) in record { fits = omega (arith, c .before .before .before .before .pre .1) }
+
+returns : tie.Need-returns
+returns c = let s = c .before .before .before .before in field-leaf _ _ _ _ _ (s .pre .3) (c .before .before .word-at .ensures) (c .if1 .taken) (c .before .link-at .ensures) (link-bounds _ _ _ (c .before .link-at .ensures) (s .pre .2))
+
+returns-2 : tie.Need-returns-2
+returns-2 c = field-unnoted _ _ _ _ _ (c .before .before .before .before .pre .3)
+
+pub field-leaf-spec : {M : Type 1} → statement M
+field-leaf-spec =
+    tie.close (tie.spec word-at-requires link-at-requires cast-if1 cast-t12 returns returns-2)

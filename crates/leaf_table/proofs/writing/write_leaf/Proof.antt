@@ -1,0 +1,54 @@
+use mathlib.Core.Path.{refl}
+use Rattle.leaf_table.proofs.WritingLaws.{written-near, written-none, written-plain}
+use borrow.Author.Needs.{needs}
+use Rattle.leaf_table.proofs.writing.write_leaf.Statement.{statement}
+use Rattle.leaf_table.proofs.writing.write_leaf.Tie as tie
+
+leaf-at-requires : tie.Need-leaf-at-requires
+leaf-at-requires c κs = search needs
+
+write-offsets-requires : tie.Need-write-offsets-requires
+write-offsets-requires c κs = search needs
+
+write-words-requires : tie.Need-write-words-requires
+write-words-requires c κs = search needs
+
+same-length : tie.Need-same-length
+same-length c = search needs
+
+returns : tie.Need-returns
+returns c = written-near _ _ _ _ _ _ (c .before .before .write-words .ensures) (c .before .before .before .before .before .before .before .write-offsets .ensures) (c .before .before .before .before .before .before .before .before .before .before .before .leaf-at .ensures) (c .before .before .before .before .if2 .taken)
+
+write-words-requires-2 : tie.Need-write-words-requires-2
+write-words-requires-2 c κs = search needs
+
+same-length-2 : tie.Need-same-length-2
+same-length-2 c = search needs
+
+returns-2 : tie.Need-returns-2
+returns-2 c = written-none _ _ _ _ _ _ (c .before .before .write-words2 .ensures) (c .before .before .before .before .before .before .before .write-offsets .ensures) refl (c .before .before .before .before .before .before .before .before .before .before .before .leaf-at .ensures .level)
+
+write-words-requires-3 : tie.Need-write-words-requires-3
+write-words-requires-3 c κs = search needs
+
+same-length-3 : tie.Need-same-length-3
+same-length-3 c = search needs
+
+returns-3 : tie.Need-returns-3
+returns-3 c = written-plain _ _ _ _ _ _ (c .before .before .write-words3 .ensures) (c .before .before .before .before .before .before .leaf-at .ensures) (c .before .before .before .before .if1 .left)
+
+pub write-leaf-spec : {M : Type 1} → statement M
+write-leaf-spec =
+    tie.close
+    (tie.spec
+    leaf-at-requires
+    write-offsets-requires
+    write-words-requires
+    same-length
+    returns
+    write-words-requires-2
+    same-length-2
+    returns-2
+    write-words-requires-3
+    same-length-3
+    returns-3)
