@@ -94,16 +94,6 @@ module _ {M : Type 1} (𝓤 : URA M) (H : Heap 𝓤) (A : Atoms 𝓤) (W : Given
       fpack ! (List Val) (λ us. fsep (cellAt fullShare (Array Row n .mir) us l 0) (Array Row n .own xs us)) (array-vals vals xs) $
       use1 W (‵ (arr-parts (shares Row) n .part fullShare xs l 0)) (array-apart 𝓤 H A W Row fullShare tt n xs l 0) $ fsplit ! $ drop ! $ done !
 
-  pub row-cell : (l : ℕ) → length xs ≡ n
-      → ent 𝓤 (sem 𝓤 H A (row Row fullShare xs l 0)) (guard 𝓤 (Is (Array Row n) xs (array-vals vals xs)) (sem 𝓤 H A (fat fullShare (ArrayTy n) l 0 (array-mach xs))))
-  unfolding partOf
-  row-cell l e =
-      qed W (‵ (row Row fullShare xs l 0) ∷ []) ∵ feqI ! ℕ (length xs) n e $ fjoin ! $
-      use1 W (‵ (partAt (Array Row n) fullShare xs l 0)) (array-whole 𝓤 H A W Row fullShare n xs l 0) $ fpick ! (λ vs. fsplit ! $
-      spelt ! (Array Row n) (Is (Array Row n)) (shows 𝓤 H A (Array Row n)) (array-vals vals) (array-tells Row vals tells n) fullShare xs vs l 0 $ move ! (1 ∷ []) $
-      peeks ! (Array Row n) (Is (Array Row n)) (shows 𝓤 H A (Array Row n)) xs (array-vals vals xs) (λ is. drop ! $
-      use1 W (‵ (fat fullShare (ArrayTy n) l 0 (array-mach xs))) (W .laws .raw-at fullShare (ArrayTy n) l 0 (array-mach xs)) $ check ! is $ done !))
-
   pub row-room : (l : ℕ) → length xs ≡ n → ent 𝓤 (sem 𝓤 H A (row Row fullShare xs l 0)) (sem 𝓤 H A (froom (ArrayTy n) l 0))
   unfolding partOf
   row-room l e =

@@ -5,8 +5,7 @@ use native.Mathlib.Numerals.{add-one}
 use mathlib.Core.Path.{_≡_, refl, sym, ap, _∙_}
 use mathlib.Core.List.{List}
 use mathlib.Core.Bool.{Bool, true, false, _||_}
-use lib.ListN.{length, getD, set, take, replicate, length-set, replicate-append-replicate}
-use lib.Seq.{take-suc-set, take-all}
+use lib.ListN.{length, getD, length-set}
 use lib.Dec.{eqb}
 use borrow.Author.Tests.{eq-eqb, ne-eqb}
 use Rattle.value.specs.Choice.{if_then_else_}
@@ -75,25 +74,3 @@ module _ (words old : List ℕ) (i : ℕ) (new : List ℕ) (h : Sized words old 
 
 pub sized-all : (words old : List ℕ) (i : ℕ) (new : List ℕ) {count : ℕ} → Sized words old i new → i ≤ count → count ≤ i → new ≡ sized words old count
 sized-all words old i new {count} h l m = let e : i ≡ count = omega arith in h .is ∙ ap (sized words old) e
-
--- ---- zeros
-
--- the first i words are zeros
-pub record Cleared (old : List ℕ) (i : ℕ) (new : List ℕ) : Type 0 where
-  pub is : take i new ≡ replicate i 0
-  pub long : length new ≡ length old
-
-pub cleared-start : (old : List ℕ) → Cleared old 0 old
-cleared-start old = record { is = refl; long = refl }
-
-pub cleared-more : (old : List ℕ) (i : ℕ) (new : List ℕ) → Cleared old i new → i < length new → Cleared old (i + 1) (set new i 0)
-cleared-more old i new h l =
-    record {
-      is = rw (add-one i) (take-suc-set new i 0 l ∙ rw (h .is) (replicate-append-replicate i 1 0 ∙ rw (add-one i)));
-      long = length-set new i 0 ∙ h .long;
-    }
-
-pub cleared-all : (old : List ℕ) (i : ℕ) (new : List ℕ) → Cleared old i new → length new ≤ i → i ≤ length new → new ≡ replicate (length old) 0
-cleared-all old i new h l m =
-    let e : i ≡ length new = omega arith in
-    sym (take-all i new l) ∙ h .is ∙ ap (λ (n : ℕ). replicate n 0) (e ∙ h .long)

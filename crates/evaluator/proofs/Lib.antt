@@ -5,3 +5,4 @@ pub mod NeighbourLaws
 pub mod PrimaryLaws
 pub mod NotedLaws
 pub mod ExpressionLaws
+pub mod SimpleLaws

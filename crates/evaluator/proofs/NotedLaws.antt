@@ -3,7 +3,7 @@ use Prim.Native.Nat.{ℕ, suc, _+_, _*_, _%_, _<_, _≤_}
 use native.Mathlib.Nat.{add-mod-mod}
 use native.Mathlib.Omega.{arith}
 use mathlib.Core.Path.{_≡_, refl, sym, ap, _∙_, subst}
-use mathlib.Core.Bool.{Bool, true, false, not}
+use mathlib.Core.Bool.{Bool, true, false}
 use mathlib.Core.List.{List, [], _∷_}
 use lib.ListN.{length, getD, drop, take}
 use lib.Seq.{drop-cons}
@@ -12,7 +12,7 @@ use Rattle.token.specs.Kind.{level-of}
 use Rattle.value.specs.Choice.{if_then_else_}
 use Rattle.value.specs.Worked.{value, decode-of, wrap-of}
 use Rattle.value.specs.declared.Value.{Value}
-use Rattle.value.specs.Laws.{never, wrap-below}
+use Rattle.value.specs.Laws.{wrap-below}
 use Rattle.value.specs.Number.{modZ}
 use Rattle.automaton.specs.Shape.{product, cell-number, shift, neighbour}
 use Rattle.automaton.specs.ShapeLaws.{Inside, wrap-mod}
@@ -95,13 +95,6 @@ module _ (t : Table) (vs : List ℤ) (ns is : List ℕ) (w : ℕ → ℕ) (at : 
         → number ≡ cell-number ns (shift ns is (offsets (length ns) vs (indices-in t (length ns) (at + 1))))
     walk-done {number} {k} so l = steps-done t vs ns is inside (at + 1) number (so .here) k (so .steps) l
 
--- ---- sorts
-
--- where a sort is not said not to be simple, it is
-pub is-simple-left : {s : ℕ} (b : Bool) → (b ≡ true → (1 ≤ s) × (s ≤ 3)) → not b ≡ false → (1 ≤ s) × (s ≤ 3)
-is-simple-left true h e = h refl
-is-simple-left false h e = never (sym e)
-
 -- ---- leaves
 
 module _ (t : Table) (env : Env) (vars vs : List ℤ) (n at : ℕ) where
@@ -150,6 +143,10 @@ module _ {leaves words sizes place : List ℕ} {grid : List ℤ} {site : Site} {
   module _ (at : ℕ) (l : at ≤ site .tokens) {k : ℕ} (ek : k ≡ leaf-word leaves at 3) where
     pub level-at : k ≡ level-of (word-in words (site .tokens) 0 at)
     level-at = ek ∙ r .noted .at at l .level
+
+    -- the operator
+    pub operator-at : 1 ≤ k → {op : ℕ} → op ≡ leaf-word leaves at 1 → op ≡ word-in words (site .tokens) 0 at
+    operator-at h eo = eo ∙ r .noted .at at l .operator (λ z. omega arith)
 
     -- what has one is no end
     pub operator-within : 1 ≤ k → at < site .tokens

@@ -34,6 +34,8 @@ OffsetsAre t vs w (n ∷ ns) at k = (w k ≡ wrap-of 0 (offset vs (index-in t at
 pub record LeafAt (t : Table) (sizes : List ℕ) (n fields slots : ℕ) (w : ℕ → ℕ) (p : ℕ) : Type 0 where
   -- word 3: the level of the operator there
   pub level : w 3 ≡ level-of (t .kind p)
+  -- word 1 of an operator: its kind
+  pub operator : (w 3 ≡ 0 → ⊥) → w 1 ≡ t .kind p
   -- what is noted has no unary operator, and word 2 is the position past it
   pub bare : (w 0 ≡ sort .none → ⊥) → is-unary (t .kind p) ≡ false
   pub onward : (w 0 ≡ sort .none → ⊥) → (p < w 2) × (w 2 ≤ n)
@@ -45,6 +47,26 @@ pub record LeafAt (t : Table) (sizes : List ℕ) (n fields slots : ℕ) (w : ℕ
   pub near : w 0 ≡ sort .near
       → (w 1 < fields) × OperandIs t p (field (indices-in t (t .dims) (p + 1)) (w 1)) (w 2) × ((vs : List ℤ) → OffsetsAre t vs w sizes (p + 1) 4)
 
+-- ---- expressions of one or two operands
+
+-- what is noted is a number, a variable or a field of the own cell
+abbrev pub Simple : ℕ → Type 0
+Simple s = (1 ≤ s) × (s ≤ 3)
+
+-- the operand at a position is simple, and no operator stands behind it
+abbrev pub Last : List ℕ → ℕ → Type 0
+Last leaves p = Simple (leaf-word leaves p 0) × (leaf-word leaves (leaf-word leaves p 2) 3 ≡ 0)
+
+-- word 7 of a position: 1 where the operand there is the last; 2 where it is simple, a relation or logic stands behind it, and the operand behind
+-- that is the last
+pub record ShapeAt (leaves : List ℕ) (p : ℕ) : Type 0 where
+  pub alone : leaf-word leaves p 7 ≡ 1 → Last leaves p
+  pub related : leaf-word leaves p 7 ≡ 2
+      → Simple (leaf-word leaves p 0) × (1 ≤ leaf-word leaves (leaf-word leaves p 2) 3) × (leaf-word leaves (leaf-word leaves p 2) 3 ≤ 2) × Last leaves (leaf-word leaves p 2 + 1)
+
+-- ---- the whole table
+
 -- the leaf table of a word table of n tokens, the position past the last one included
 pub record Leaves (leaves words sizes : List ℕ) (n fields slots : ℕ) : Type 0 where
   pub at : (p : ℕ) → p ≤ n → LeafAt (table-of words n (length sizes)) sizes n fields slots (leaf-word leaves p) p
+  pub shape : (p : ℕ) → p ≤ n → ShapeAt leaves p

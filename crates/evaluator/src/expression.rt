@@ -136,7 +136,7 @@ pub fn quick(
             return Told::Found(c, m);
         }
         left = c;
-        op = word_at(words, n, 0, next);
+        op = leaf_word(leaves, next, 1);
         own = tight;
         last = m;
         here = m + 1;

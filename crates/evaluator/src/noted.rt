@@ -79,7 +79,7 @@ fn near_value(
 }
 
 // Whether what is noted is a number, a variable or a field of the own cell.
-pub fn is_simple(sort: u32) -> bool
+fn is_simple(sort: u32) -> bool
     ensures { λ r. ⌜ (r ≡ true → (1 ≤ sort) × (sort ≤ 3)) ⌝ }
 {
     if sort == sort::NONE {

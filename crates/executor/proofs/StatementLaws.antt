@@ -2,15 +2,15 @@
 use Prim.Native.Nat.{ℕ, zero, suc, _+_, _-_, _≤_, _<_}
 use native.Mathlib.Omega.{arith}
 use mathlib.Core.Path.{_≡_, refl, sym, ap, ap₂, _∙_, subst}
-use mathlib.Core.Bool.{Bool, true, false, not, true≢false}
+use mathlib.Core.Bool.{Bool, true, false, true≢false}
 use mathlib.Core.List.{List, [], _∷_, _++_}
 use mathlib.Core.Option.{some}
 use mathlib.Core.Logic.{_⊎_, ⊎-elim}
 use lib.Dec.{eqb}
-use lib.ListN.{length, set, take, length-set}
+use lib.ListN.{length, getD, set, take, length-set}
 use lib.Seq.{take-suc, take-set-le, getD-set-same}
 use lib.IntN.{ℤ, pos, _+ℤ_, +ℤ-assoc, +ℤ-idr}
-use borrow.Author.Tests.{ne-eqb, eqb-true, not-false, not-true}
+use borrow.Author.Tests.{ne-eqb, eqb-true}
 use Rattle.value.specs.Worked.{value, truth, decode-of, span-of}
 use Rattle.value.specs.declared.Value.{Value}
 use Rattle.program.specs.Syntax.{Range, Expr, Target, Block, empty, assign, select, loop, exit, constant}
@@ -28,6 +28,7 @@ use Rattle.executor.specs.declared.blocks.Chosen.{Chosen}
 use Rattle.executor.specs.declared.blocks.Chosen.the-variants as Went
 use denote.Enum.Declared.{tagOf}
 use Rattle.executor.proofs.Going.{the-type}
+use Rattle.executor.proofs.PendingLaws.{Leads, leads-start, leads-done, leads-stops, leads-pops, leads-enters}
 use Rattle.executor.proofs.AssignmentLaws.{answer, worth-of, fault-of, found-onward}
 
 -- ---- kinds that begin a statement
@@ -67,9 +68,9 @@ unfolding begins
 begins-last a b d e f = sym (simp (ne-eqb _ _ a, ne-eqb _ _ b, ne-eqb _ _ d, ne-eqb _ _ e, ne-eqb _ _ f))
 
 -- a kind that begins a statement is some token
-pub begins-some : (k : ℕ) {b : Bool} → b ≡ begins k → not b ≡ false → 1 ≤ k
+pub begins-some : (k : ℕ) {b : Bool} → b ≡ begins k → b ≡ true → 1 ≤ k
 unfolding begins
-begins-some zero {b} e y = absurd (true≢false (sym (not-false b y) ∙ e))
+begins-some zero e y = absurd (true≢false (sym y ∙ e))
 begins-some (suc k) e y = omega arith
 
 -- the first token of an assignment
@@ -316,83 +317,107 @@ none-stands t depth at y (exit rest) s = not-begun (t .kind at) (ap begins (s .0
 none-stands t depth at y (constant rest) s = not-begun (t .kind at) (ap begins (s .0) ∙ begins-const) y
 
 module _ (t : Table) (env : Env) (depth at : ℕ) (vars₀ next₀ ix₀ : List ℤ) where
-  -- the statements before `here` are run: what is left of a list that stands at `at` stands at `here`
-  pub record Progress (here : ℕ) (vars next ix : List ℤ) : Type 0 where
+  -- what a list that stands at `at` comes to
+  abbrev whole : Block → Frame
+  whole b = exec env (take depth ix₀) b (frame on vars₀ next₀)
+
+  -- what is left of a list that stands at `at`: statements that stand at `here`, then those at the positions of a stack
+  pub record Progress (here : ℕ) (ends : List ℕ) (top : ℕ) (vars next ix : List ℤ) : Type 0 where
     pub says : (b : Block) → Stands t depth b at
-        → (b′ : Block) × Stands t depth b′ here × (exec env (take depth ix₀) b (frame on vars₀ next₀) ≡ exec env (take depth ix₀) b′ (frame on vars next))
+        → (b′ : Block) × Stands t depth b′ here × Leads t env depth (take depth ix₀) ends top (whole b) (exec env (take depth ix₀) b′ (frame on vars next))
     pub kept : take depth ix ≡ take depth ix₀
 
-  pub progress-start : Progress at vars₀ next₀ ix₀
-  progress-start = record { says = λ b s. (b, s, refl); kept = refl }
+  pub progress-start : {ends : List ℕ} → Progress at ends 0 vars₀ next₀ ix₀
+  progress-start {ends} = record { says = λ b s. (b, s, leads-start t env depth (take depth ix₀) ends (whole b)); kept = refl }
 
-  module _ {here : ℕ} {vars next ix : List ℤ} (so : Progress here vars next ix) {k : ℕ} (ek : k ≡ t .kind here) {b : Bool} (eb : b ≡ begins k) where
-    begun : not b ≡ false → begins (t .kind here) ≡ true
-    begun y = sym (eb ∙ ap begins ek) ∙ not-false b y
+  module _ {here : ℕ} {ends : List ℕ} {top : ℕ} {vars next ix : List ℤ} (so : Progress here ends top vars next ix) {k : ℕ} (ek : k ≡ t .kind here) where
+    module _ {b : Bool} (eb : b ≡ begins k) where
+      -- at the end of a list
+      ended : b ≡ false → (b₀ : Block) → Stands t depth b₀ at → Leads t env depth (take depth ix₀) ends top (whole b₀) (frame on vars next)
+      unfolding exec
+      ended y b₀ s =
+          let p = so .says b₀ s in
+          subst (λ (q : Block). Leads t env depth (take depth ix₀) ends top (whole b₀) (exec env (take depth ix₀) q (frame on vars next)))
+          (none-stands t depth here (sym (eb ∙ ap begins ek) ∙ y) (p .0) (p .1)) (p .2)
 
-    pub block-ends : not b ≡ true → RunsBlock t env depth at vars₀ next₀ ix₀ vars next ix On
+      pub block-ends : b ≡ false → top ≡ 0 → RunsBlock t env depth at vars₀ next₀ ix₀ vars next ix On
+      block-ends y z = record {
+        says = λ b₀ s. sym (leads-done t env depth (take depth ix₀) ends (whole b₀) (frame on vars next) z (ended y b₀ s));
+        kept = so .kept;
+      }
+
+      pub block-pops : b ≡ false → (top ≡ 0 → ⊥) → Progress (getD ends (top - 1) 0) ends (top - 1) vars next ix
+      block-pops y nz = record {
+        says = λ b₀ s. leads-pops t env depth (take depth ix₀) ends top (whole b₀) vars next nz (ended y b₀ s);
+        kept = so .kept;
+      }
+
+      module _ (y : b ≡ true) {vars′ next′ ix′ : List ℤ} {r : Going} (run : RunsStatement t env depth here vars next ix vars′ next′ ix′ r) where
+        begun : begins (t .kind here) ≡ true
+        begun = sym (eb ∙ ap begins ek) ∙ y
+
+        -- after the statement
+        after : (b₀ : Block) → Stands t depth b₀ at
+            → (q : Block) × Stands t depth q (t .past here)
+            × Leads t env depth (take depth ix₀) ends top (whole b₀) (onward (left r vars′ next′) (exec env (take depth ix₀) q))
+        after b₀ s =
+            let p = so .says b₀ s in
+            let one = run .says begun (p .0) (p .1) in (
+              rest-of (p .0),
+              rest-stands t depth here begun (p .0) (p .1),
+              subst (Leads t env depth (take depth ix₀) ends top (whole b₀))
+                  (subst (λ (vs : List ℤ). exec env vs (p .0) (frame on vars next) ≡ onward (left r vars′ next′) (exec env vs (rest-of (p .0)))) (so .kept) one)
+                  (p .2),
+            )
+
+        pub block-more : r ≡ On → {l : ℕ} → l ≡ t .past here → Progress l ends top vars′ next′ ix′
+        block-more e {l} el = record {
+          says = λ b₀ s.
+              let p = after b₀ s in (
+                p .0,
+                subst (Stands t depth (p .0)) (sym el) (p .1),
+                subst (λ (x : Going). Leads t env depth (take depth ix₀) ends top (whole b₀) (onward (left x vars′ next′) (exec env (take depth ix₀) (p .0)))) e (p .2),
+              );
+          kept = run .kept ∙ so .kept;
+        }
+
+        pub block-stops : (r ≡ On → ⊥) → RunsBlock t env depth at vars₀ next₀ ix₀ vars′ next′ ix′ r
+        block-stops stops = record {
+          says = λ b₀ s.
+              let p = after b₀ s in
+              sym (leads-stops t env depth (take depth ix₀) ends top (whole b₀) (left r vars′ next′) (stopped r stops)
+              (subst (Leads t env depth (take depth ix₀) ends top (whole b₀)) (stopped r stops (exec env (take depth ix₀) (p .0))) (p .2)));
+          kept = run .kept ∙ so .kept;
+        }
+          where
+            stopped : (x : Going) → (x ≡ On → ⊥) → (f : Frame → Frame) → onward (left x vars′ next′) f ≡ left x vars′ next′
+            stopped On z f = absurd (z refl)
+            stopped Leaving z f = refl
+            stopped (Faulted a p) z f = refl
+
+    -- at an `if` the list goes on with what is chosen, and what is behind the `if` waits
+    pub block-enters : k ≡ 13 → {n : ℕ} {chosen : Chosen} → Chooses t env (take depth ix) depth n here vars chosen → {m : ℕ} → chosen ≡ Went.List m
+        → {l : ℕ} → l ≡ t .past here → top < length ends → Progress m (set ends top l) (top + 1) vars next ix
     unfolding exec
-    block-ends y = record {
-      says = λ b′ s.
-          let p = so .says b′ s in
-          let e : p .0 ≡ empty = none-stands t depth here (sym (eb ∙ ap begins ek) ∙ not-true b y) (p .0) (p .1) in
-          sym (p .2 ∙ ap (λ (q : Block). exec env (take depth ix₀) q (frame on vars next)) e);
+    block-enters is {n} {chosen} ch {m} h {l} el room = record {
+      says = λ b₀ s₀.
+          let vs = take depth ix₀ in
+          let fr = frame on vars next in
+          let p = so .says b₀ s₀ in
+          at-if t depth here (sym ek ∙ is)
+          (λ b′. Leads t env depth vs ends top (whole b₀) (exec env vs b′ fr)
+          → (q : Block) × Stands t depth q m × Leads t env depth vs (set ends top l) (top + 1) (whole b₀) (exec env vs q fr))
+          (λ c d e rest x s u.
+          let F = chooses t env vs depth n here vars c d e next in
+          let w = subst (λ (z : Chosen). Settles t env vs depth z F fr) h (subst (λ (zs : List ℤ). Chooses t env zs depth n here vars chosen) (so .kept) ch .says c d e x next) in (
+            w .0,
+            w .1,
+            leads-enters t env depth vs ends top l (whole b₀) room (exec env vs (w .0) fr) rest (subst (Stands t depth rest) (sym el) s)
+                (subst (λ (G : Frame). Leads t env depth vs ends top (whole b₀) (onward G (exec env vs rest))) (w .2) u),
+          ))
+          (p .0) (p .1) (p .2);
       kept = so .kept;
     }
-
-    module _ (y : not b ≡ false) {vars′ next′ ix′ : List ℤ} {r : Going} (run : RunsStatement t env depth here vars next ix vars′ next′ ix′ r) where
-      -- after the statement
-      after : (b′ : Block) → Stands t depth b′ at
-          → (q : Block) × Stands t depth q (t .past here) × (exec env (take depth ix₀) b′ (frame on vars₀ next₀) ≡ onward (left r vars′ next′) (exec env (take depth ix₀) q))
-      after b′ s =
-          let p = so .says b′ s in
-          let one = run .says (begun y) (p .0) (p .1) in (
-            rest-of (p .0),
-            rest-stands t depth here (begun y) (p .0) (p .1),
-            p .2 ∙ subst (λ (vs : List ℤ). exec env vs (p .0) (frame on vars next) ≡ onward (left r vars′ next′) (exec env vs (rest-of (p .0)))) (so .kept) one,
-          )
-
-      pub block-more : r ≡ On → {l : ℕ} → l ≡ t .past here → Progress l vars′ next′ ix′
-      block-more e {l} el = record {
-        says = λ b′ s.
-            let p = after b′ s in (
-              p .0,
-              subst (Stands t depth (p .0)) (sym el) (p .1),
-              p .2 ∙ ap (λ (x : Going). onward (left x vars′ next′) (exec env (take depth ix₀) (p .0))) e,
-            );
-        kept = run .kept ∙ so .kept;
-      }
-
-      pub block-stops : (r ≡ On → ⊥) → RunsBlock t env depth at vars₀ next₀ ix₀ vars′ next′ ix′ r
-      block-stops stops = record {
-        says = λ b′ s. let p = after b′ s in sym (p .2 ∙ stopped r stops (exec env (take depth ix₀) (p .0)));
-        kept = run .kept ∙ so .kept;
-      }
-        where
-          stopped : (x : Going) → (x ≡ On → ⊥) → (f : Frame → Frame) → onward (left x vars′ next′) f ≡ left x vars′ next′
-          stopped On z f = absurd (z refl)
-          stopped Leaving z f = refl
-          stopped (Faulted a p) z f = refl
-
-  -- an `if` that no statement follows: the list goes on with what is chosen
-  pub block-last : {here : ℕ} {vars next ix : List ℤ} → Progress here vars next ix → {k : ℕ} → k ≡ t .kind here → k ≡ 13
-      → {n : ℕ} {chosen : Chosen} → Chooses t env (take depth ix) depth n here vars chosen → {m : ℕ} → chosen ≡ Went.List m
-      → {l j : ℕ} → l ≡ t .past here → j ≡ t .kind l → {b : Bool} → b ≡ begins j → b ≡ false → Progress m vars next ix
-  unfolding exec
-  block-last {here} {vars} {next} {ix} so ek is {n} {chosen} ch {m} h {l} {j} el ej {b} eb y = record {
-    says = λ b₀ s₀.
-        let vs = take depth ix₀ in
-        let fr = frame on vars next in
-        let p = so .says b₀ s₀ in
-        at-if t depth here (sym ek ∙ is)
-        (λ b′. exec env vs b₀ (frame on vars₀ next₀) ≡ exec env vs b′ fr → (q : Block) × Stands t depth q m × (exec env vs b₀ (frame on vars₀ next₀) ≡ exec env vs q fr))
-        (λ c d e rest x s u.
-        let F = chooses t env vs depth n here vars c d e next in
-        let w = subst (λ (z : Chosen). Settles t env vs depth z F fr) h (subst (λ (zs : List ℤ). Chooses t env zs depth n here vars chosen) (so .kept) ch .says c d e x next) in
-        let none : rest ≡ empty = none-stands t depth (t .past here) (sym (eb ∙ ap begins (ej ∙ ap (λ (i : ℕ). t .kind i) el)) ∙ y) rest s in
-        (w .0, w .1, u ∙ ap (λ (q : Block). onward F (exec env vs q)) none ∙ onward-empty env vs F ∙ w .2))
-        (p .0) (p .1) (p .2);
-    kept = so .kept;
-  }
 
 -- ---- a loop
 

@@ -129,7 +129,7 @@ fn choose(
     }
 }
 
-// The statements from a position on, to the end of their list. Where an `if` is the last of them, the list goes on with the statements that are chosen there.
+// The statements from a position on, to the end of their list. At an `if`, the position behind it is kept on a stack, and the statements that are chosen come next; where the stack is full, they are run by a call.
 pub fn block(
     leaves: &[u32; 32776],
     words: &[u32],
@@ -147,6 +147,8 @@ pub fn block(
     ensures { λ r. ⌜ RunsBlock (site-table (now (words .entry)) (now (sizes .entry)) site) (env-of (now (words .entry)) (now (sizes .entry)) (now (grid .entry)) site) depth at (take (site .slots) (now (vars .entry))) (now (next .entry)) (now (index .entry)) (take (site .slots) (now (vars .exit))) (now (next .exit)) (now (index .exit)) r ⌝ }
 {
     let n = site.tokens;
+    let mut ends = [0u32; 16];
+    let mut top: usize = 0;
     let mut here = at;
     loop {
         let kind = word_at(words, n, 0, here);
@@ -166,7 +168,11 @@ pub fn block(
             );
             match chosen {
                 Chosen::List(m) => {
-                    if begins(word_at(words, n, 0, past)) {
+                    if top < 16 {
+                        ends[top] = past as u32;
+                        top += 1;
+                        here = m;
+                    } else {
                         let inner = block(
                             leaves,
                             words,
@@ -184,8 +190,6 @@ pub fn block(
                             return inner;
                         };
                         here = past;
-                    } else {
-                        here = m;
                     }
                 }
                 Chosen::Nothing => {
@@ -195,10 +199,7 @@ pub fn block(
                     return Going::Faulted(k, p);
                 }
             }
-        } else {
-            if !begins(kind) {
-                return Going::On;
-            }
+        } else if begins(kind) {
             let flow = statement(
                 leaves,
                 words,
@@ -216,6 +217,12 @@ pub fn block(
                 return flow;
             };
             here = link_at(words, n, 3, here);
+        } else {
+            if top == 0 {
+                return Going::On;
+            }
+            top -= 1;
+            here = ends[top] as usize;
         }
     }
 }

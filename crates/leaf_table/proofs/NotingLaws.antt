@@ -58,9 +58,10 @@ module _ (t : Table) (p : ℕ) where
 -- ---- what is noted, by the token
 
 -- nothing
-pub unnoted : (t : Table) (ns : List ℕ) (n fields slots p : ℕ) (w : ℕ → ℕ) → w 0 ≡ 0 → w 3 ≡ level-of (t .kind p) → LeafAt t ns n fields slots w p
-unnoted t ns n fields slots p w e l = record {
+pub unnoted : (t : Table) (ns : List ℕ) (n fields slots p : ℕ) (w : ℕ → ℕ) → w 0 ≡ 0 → w 3 ≡ level-of (t .kind p) → ((w 3 ≡ 0 → ⊥) → w 1 ≡ t .kind p) → LeafAt t ns n fields slots w p
+unnoted t ns n fields slots p w e l o = record {
   level = l;
+  operator = o;
   bare = λ h. absurd (h e);
   onward = λ h. absurd (h e);
   number = λ h. absurd (omega arith);
@@ -79,6 +80,7 @@ module _ (t : Table) (n fields slots p : ℕ) where
   number-fits : (w : ℕ) → level-of (t .kind p) ≡ 0 → is-unary (t .kind p) ≡ false → p < n → OperandIs t p (number (decode-of w)) (p + 1) → Fits (leaf 1 w (p + 1))
   number-fits w l u h o = record {
     level = sym l;
+    operator = λ q. absurd (q refl);
     bare = λ q. u;
     onward = λ q. (omega arith, omega arith);
     number = λ q. o;
@@ -94,7 +96,7 @@ module _ (t : Table) (n fields slots p : ℕ) where
   module _ (k : t .kind p ≡ 1) where
     pub name-unnoted : Fits (leaf 0 0 0)
     unfolding level-of
-    name-unnoted = unnoted t [] n fields slots p _ refl (sym (simp k))
+    name-unnoted = unnoted t [] n fields slots p _ refl (sym (simp k)) (λ q. absurd (q refl))
 
     module _ (l : p < n) {v w : ℕ} (ev : v ≡ t .word2 p) (ew : w ≡ t .word3 p) where
       pub constant-leaf : v ≡ 1 → Fits (leaf 1 w (p + 1))
@@ -105,6 +107,7 @@ module _ (t : Table) (n fields slots p : ℕ) where
       unfolding level-of is-unary is-sign
       variable-leaf e f = record {
         level = sym (simp k);
+        operator = λ q. absurd (q refl);
         bare = λ q. simp k;
         onward = λ q. (omega arith, omega arith);
         number = λ q. absurd (omega arith);
@@ -115,13 +118,14 @@ module _ (t : Table) (n fields slots p : ℕ) where
 
   pub field-unnoted : {s : ℕ} → FieldSort (t .kind p) s → Fits (leaf 0 0 0)
   unfolding level-of
-  field-unnoted (inl (k, e)) = unnoted t [] n fields slots p _ refl (sym (simp k))
-  field-unnoted (inr (k, e)) = unnoted t [] n fields slots p _ refl (sym (simp k))
+  field-unnoted (inl (k, e)) = unnoted t [] n fields slots p _ refl (sym (simp k)) (λ q. absurd (q refl))
+  field-unnoted (inr (k, e)) = unnoted t [] n fields slots p _ refl (sym (simp k)) (λ q. absurd (q refl))
 
   pub field-leaf : {s w x : ℕ} → FieldSort (t .kind p) s → w ≡ t .word2 p → w < fields → x ≡ t .past p → (p < x) × (x ≤ n) → Fits (leaf s w x)
   unfolding level-of is-unary is-sign
   field-leaf (inl (k, e)) ew f ex o = record {
     level = sym (simp k);
+    operator = λ q. absurd (q refl);
     bare = λ q. simp k;
     onward = λ q. o;
     number = λ q. absurd (omega arith);
@@ -131,6 +135,7 @@ module _ (t : Table) (n fields slots p : ℕ) where
   }
   field-leaf (inr (k, e)) ew f ex o = record {
     level = sym (simp k);
+    operator = λ q. absurd (q refl);
     bare = λ q. simp k;
     onward = λ q. o;
     number = λ q. absurd (omega arith);
@@ -139,5 +144,5 @@ module _ (t : Table) (n fields slots p : ℕ) where
     near = λ q. (f, rw (ew, ex) (near-is t p k), λ vs. tt);
   }
 
-  pub other-unnoted : {k l : ℕ} → k ≡ t .kind p → l ≡ level-of k → Fits (record { sort = 0; word = 0; next = 0; level = l })
-  other-unnoted {k} {l} ek el = unnoted t [] n fields slots p _ refl (el ∙ ap level-of ek)
+  pub other-unnoted : {k l : ℕ} → k ≡ t .kind p → l ≡ level-of k → Fits (record { sort = 0; word = k; next = 0; level = l })
+  other-unnoted {k} {l} ek el = unnoted t [] n fields slots p _ refl (el ∙ ap level-of ek) (λ q. ek)

@@ -164,8 +164,10 @@ module _ (t : Table) (n fields slots p : ℕ) where
       let e₀ : w′ 0 ≡ w 0 = e 0 (omega arith) in
       let e₁ : w′ 1 ≡ w 1 = e 1 (omega arith) in
       let e₂ : w′ 2 ≡ w 2 = e 2 (omega arith) in
+      let e₃ : w′ 3 ≡ w 3 = e 3 (omega arith) in
       record {
-        level = e 3 (omega arith) ∙ a .level;
+        level = e₃ ∙ a .level;
+        operator = λ h. e₁ ∙ a .operator (λ z. h (e₃ ∙ z));
         bare = λ h. a .bare (λ z. h (e₀ ∙ z));
         onward = λ h. rw e₂ (a .onward (λ z. h (e₀ ∙ z)));
         number = λ h. rw (e₁, e₂) (a .number (sym e₀ ∙ h));
@@ -173,6 +175,11 @@ module _ (t : Table) (n fields slots p : ℕ) where
         own = λ h. rw (e₁, e₂) (a .own (sym e₀ ∙ h));
         near = λ h. let s = a .near (sym e₀ ∙ h) in (rw e₁ (s .0), rw (e₁, e₂) (s .1), o h);
       }
+
+  pub leaf-same : (ns : List ℕ) (w w′ : ℕ → ℕ) → length ns ≤ 3 → ((k : ℕ) → k < 7 → w′ k ≡ w k) → LeafAt t ns n fields slots w p → LeafAt t ns n fields slots w′ p
+  leaf-same ns w w′ few same a =
+      leaf-by ns ns w w′ (λ k c. same k (omega arith)) a
+      (λ z vs. offsets-same t vs w w′ ns (p + 1) 4 (λ j u v. same j (omega arith)) (a .near (sym (same 0 (omega arith)) ∙ z) .2 vs))
 
   module _ (ns : List ℕ) {l : Leaf} {mid new : List ℕ} (x : Noted l p mid new) where
     -- what is written there: what is noted with its offsets, nothing, or what has no offsets
@@ -188,8 +195,10 @@ module _ (t : Table) (n fields slots p : ℕ) where
             (λ q vs. offsets-same t vs (leaf-word mid p) (leaf-word new p) ns (p + 1) 4 (λ j u v. x .kept .same (8 * p + j) (λ c d. omega arith)) (y .1 h vs)),
       )
 
-      pub written-none : l .sort ≡ 0 → l .level ≡ level-of (t .kind p) → Kept (8 * p) (8 * p + 8) old new × LeafAt t ns n fields slots (leaf-word new p) p
-      written-none e f = (around, unnoted t ns n fields slots p (leaf-word new p) (x .words 0 (omega arith) ∙ e) (x .words 3 (omega arith) ∙ f))
+      pub written-none : l .sort ≡ 0 → l .level ≡ level-of (t .kind p) → ((l .level ≡ 0 → ⊥) → l .word ≡ t .kind p) → Kept (8 * p) (8 * p + 8) old new × LeafAt t ns n fields slots (leaf-word new p) p
+      written-none e f g =
+          let e₃ : leaf-word new p 3 ≡ l .level = x .words 3 (omega arith) in
+          (around, unnoted t ns n fields slots p (leaf-word new p) (x .words 0 (omega arith) ∙ e) (e₃ ∙ f) (λ h. x .words 1 (omega arith) ∙ g (λ z. h (e₃ ∙ z))))
 
     pub written-plain : LeafAt t [] n fields slots (words-of l) p → (l .sort ≡ 4 → ⊥) → Kept (8 * p) (8 * p + 8) mid new × LeafAt t ns n fields slots (leaf-word new p) p
     written-plain a h = (
@@ -213,8 +222,5 @@ module _ (t : Table) (ns : List ℕ) (n fields slots : ℕ) where
     where
       go : (q : ℕ) → Dec (q < p) → q < p + 1 → LeafAt t ns n fields slots (leaf-word new q) q
       go q (yes m) h =
-          let same : (k : ℕ) → k < 8 → leaf-word new q k ≡ leaf-word old q k = λ k c. kept .same (8 * q + k) (λ u v. omega arith) in
-          let b = f .at q m in
-          leaf-by t n fields slots q ns ns (leaf-word old q) (leaf-word new q) (λ k c. same k (omega arith)) b
-          (λ z vs. offsets-same t vs (leaf-word old q) (leaf-word new q) ns (q + 1) 4 (λ j u v. same j (omega arith)) (b .near (sym (same 0 (omega arith)) ∙ z) .2 vs))
+          leaf-same t n fields slots q ns (leaf-word old q) (leaf-word new q) few (λ k c. kept .same (8 * q + k) (λ u v. omega arith)) (f .at q m)
       go q (no m) h = let e : q ≡ p = omega arith in rw e a

@@ -1,2 +1,3 @@
 -- What the functions that fill the leaf table promise.
 pub mod Filling
+pub mod Shaping

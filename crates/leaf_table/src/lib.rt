@@ -3,9 +3,11 @@ ghost use Prim.Native.Nat.{_*_, _≤_};
 ghost use lib.ListN.{length};
 ghost use Rattle.automaton.specs.ShapeLaws.{Positive};
 ghost use Rattle.evaluator.specs.Leaves.{Leaves};
+use crate::shaping::write_shapes;
 use crate::writing::write_leaf;
 
 mod noting;
+mod shaping;
 mod writing;
 
 // The first four words of a position: the sort of the operand there, its number, slot or field, the position past it, and the level of the operator there.
@@ -33,4 +35,5 @@ pub fn fill_leaves(
         write_leaf(words, n, sizes, fields, slots, leaves, p);
         p += 1;
     }
+    write_shapes(leaves, n);
 }

@@ -103,7 +103,7 @@ pub fn leaf_at(words: &[u32], n: usize, dims: usize, fields: usize, slots: usize
     }
     Leaf {
         sort: sort::NONE,
-        word: 0,
+        word: kind,
         next: 0,
         level: level_of(kind),
     }

@@ -81,7 +81,7 @@ pub fn write_leaf(
         }
         let unnoted = Leaf {
             sort: sort::NONE,
-            word: 0,
+            word: leaf.word,
             next: 0,
             level: leaf.level,
         };

@@ -3,6 +3,7 @@ use Prim.Native.Nat.{_+_, _-_}
 use lib.ListN.{length}
 use Rattle.evaluator.specs.Stands.{table-of}
 use Rattle.leaf_table.proofs.WritingLaws.{Filled, filled-start, filled-more}
+use Rattle.leaf_table.proofs.ShapingLaws.{filled-linked, filled-leaves}
 use borrow.Author.Needs.{needs}
 use Rattle.leaf_table.proofs.fill_leaves.Statement.{statement}
 use Rattle.leaf_table.proofs.fill_leaves.Tie as tie
@@ -28,10 +29,13 @@ loop-less c = search needs
 loop-again : tie.Need-loop-again Inv-loop μ-loop
 loop-again c = let s = c .before .before .before .before .before .before in filled-more _ _ _ _ _ (s .pre .2) (c .before .before .before .loop .inv) (c .before .before .loop-test .taken) (c .write-leaf .ensures)
 
+write-shapes-requires : tie.Need-write-shapes-requires Inv-loop μ-loop
+write-shapes-requires c κs = ((c .before .before .before .before .before .pre .1), filled-linked _ _ _ _ _ (c .before .before .loop .inv) (omega (arith, (c .before .loop-test .left))))
+
 returns : tie.Need-returns Inv-loop μ-loop
-returns c = record { at = λ p l. c .before .loop .inv .at p (omega (arith, c .loop-test .left)) }
+returns c = filled-leaves _ _ _ _ _ (c .before .before .before .loop .inv) (omega (arith, (c .before .before .loop-test .left))) (c .before .before .before .before .before .before .pre .2) (c .write-shapes .ensures)
 
 pub fill-leaves-spec : {M : Type 1} → statement M
 fill-leaves-spec =
     tie.close
-    (tie.spec Inv-loop μ-loop loop-holds write-leaf-requires add-p loop-less loop-again returns)
+    (tie.spec Inv-loop μ-loop loop-holds write-leaf-requires add-p loop-less loop-again write-shapes-requires returns)

@@ -1,11 +1,11 @@
 use mathlib.Core.Path.{refl, sym, ap, _∙_}
-use Prim.Native.Nat.{_-_}
+use Prim.Native.Nat.{_-_, _≤_}
 use native.Mathlib.Omega.{arith}
 use borrow.Author.Needs.{needs}
 use lib.ListN.{take}
 use Rattle.token.specs.Kind.{level-of}
 use Rattle.evaluator.specs.Working.{site-table, env-of}
-use Rattle.evaluator.proofs.NotedLaws.{leaf-within, level-at, operator-within}
+use Rattle.evaluator.proofs.NotedLaws.{leaf-within, level-at, operator-at, operator-within}
 use Rattle.evaluator.proofs.ExpressionLaws.{Underway, begun, quick-none, quick-tighter, quick-fault, quick-end, quick-again, quick-within}
 use Rattle.evaluator.proofs.expression.quick.Statement.{statement}
 use Rattle.evaluator.proofs.expression.quick.Tie as tie
@@ -54,17 +54,17 @@ returns-3 c = quick-fault _ _ _ _ _ _ _ (c .before .before .before .before .befo
 returns-4 : tie.Need-returns-4 Inv-loop μ-loop
 returns-4 c = quick-end _ _ _ _ _ _ _ (c .before .before .before .before .before .before .before .before .before .before .before .before .before .before .before .pre .1) (c .before .before .before .before .before .before .before .before .before .before .before .loop .inv) (c .before .before .before .before .before .before .before .before .before .before .short-operand .ensures) (c .before .before .before .before .before .before .before .before .part .given .1) refl (level-at (c .before .before .before .before .before .before .before .before .before .before .before .before .before .before .before .pre .0) _ (leaf-within _ _ _ _ _ _ (c .before .before .before .before .before .before .before .before .before .before .short-operand .ensures) (c .before .before .before .before .before .before .before .before .part .given .1) .1) (c .before .before .before .before .before .before .leaf-word .ensures)) (c .before .before .before .before .before .if1 .left) (c .before .before .before .before .joined .ensures) (c .before .before .done .given .1) (c .if2 .taken)
 
-word-at-requires : tie.Need-word-at-requires Inv-loop μ-loop
-word-at-requires c κs = ((c .before .before .before .before .before .before .before .before .before .before .before .before .before .before .before .pre .0 .table), (c .before .before .before .before .before .before .before .before .before .before .before .before .before .before .before .pre .0 .tokens), omega arith)
+leaf-word-requires-2 : tie.Need-leaf-word-requires-2 Inv-loop μ-loop
+leaf-word-requires-2 c κs = (omega (arith, leaf-within _ _ _ _ _ _ (c .before .before .before .before .before .before .before .before .before .before .short-operand .ensures) (c .before .before .before .before .before .before .before .before .part .given .1) .1, (c .before .before .before .before .before .before .before .before .before .before .before .before .before .before .before .pre .0 .tokens)), omega arith)
 
 add-here : tie.Need-add-here Inv-loop μ-loop
 add-here c = let l = quick-within _ _ _ _ _ _ _ (c .before .before .before .before .before .before .before .before .before .before .before .before .before .before .before .before .pre .1) (c .before .before .before .before .before .before .before .before .before .before .before .before .loop .inv) (c .before .before .before .before .before .before .before .before .before .before .before .short-operand .ensures) (c .before .before .before .before .before .before .before .before .before .part .given .1) refl (level-at (c .before .before .before .before .before .before .before .before .before .before .before .before .before .before .before .before .pre .0) _ (leaf-within _ _ _ _ _ _ (c .before .before .before .before .before .before .before .before .before .before .before .short-operand .ensures) (c .before .before .before .before .before .before .before .before .before .part .given .1) .1) (c .before .before .before .before .before .before .before .leaf-word .ensures)) (c .before .before .before .before .before .before .if1 .left) (c .before .before .before .before .before .joined .ensures) (c .before .before .before .done .given .1) in omega (arith, (c .before .before .before .before .before .before .before .before .before .before .before .before .before .before .before .before .pre .0 .tokens))
 
 loop-less : tie.Need-loop-less Inv-loop μ-loop
-loop-less c = let l = quick-within _ _ _ _ _ _ _ (c .before .before .before .before .before .before .before .before .before .before .before .before .before .before .before .before .pre .1) (c .before .before .before .before .before .before .before .before .before .before .before .before .loop .inv) (c .before .before .before .before .before .before .before .before .before .before .before .short-operand .ensures) (c .before .before .before .before .before .before .before .before .before .part .given .1) refl (level-at (c .before .before .before .before .before .before .before .before .before .before .before .before .before .before .before .before .pre .0) _ (leaf-within _ _ _ _ _ _ (c .before .before .before .before .before .before .before .before .before .before .before .short-operand .ensures) (c .before .before .before .before .before .before .before .before .before .part .given .1) .1) (c .before .before .before .before .before .before .before .leaf-word .ensures)) (c .before .before .before .before .before .before .if1 .left) (c .before .before .before .before .before .joined .ensures) (c .before .before .before .done .given .1) in let k = quick-again _ _ _ _ _ _ _ (c .before .before .before .before .before .before .before .before .before .before .before .before .before .before .before .before .pre .1) (c .before .before .before .before .before .before .before .before .before .before .before .before .loop .inv) (c .before .before .before .before .before .before .before .before .before .before .before .short-operand .ensures) (c .before .before .before .before .before .before .before .before .before .part .given .1) (c .word-at .ensures) (level-at (c .before .before .before .before .before .before .before .before .before .before .before .before .before .before .before .before .pre .0) _ (leaf-within _ _ _ _ _ _ (c .before .before .before .before .before .before .before .before .before .before .before .short-operand .ensures) (c .before .before .before .before .before .before .before .before .before .part .given .1) .1) (c .before .before .before .before .before .before .before .leaf-word .ensures) ∙ ap level-of (sym (c .word-at .ensures))) (c .before .before .before .before .before .before .if1 .left) (c .before .before .before .before .before .joined .ensures) (c .before .before .before .done .given .1) (c .before .if2 .left) (operator-within (c .before .before .before .before .before .before .before .before .before .before .before .before .before .before .before .before .pre .0) _ (leaf-within _ _ _ _ _ _ (c .before .before .before .before .before .before .before .before .before .before .before .short-operand .ensures) (c .before .before .before .before .before .before .before .before .before .part .given .1) .1) (c .before .before .before .before .before .before .before .leaf-word .ensures) (omega (arith, (c .before .before .before .before .before .before .before .before .before .before .before .before .before .before .before .before .pre .1), (c .before .if2 .left)))) .within in omega arith
+loop-less c = let within = leaf-within _ _ _ _ _ _ (c .before .before .before .before .before .before .before .before .before .before .before .short-operand .ensures) (c .before .before .before .before .before .before .before .before .before .part .given .1) .1 in let some : 1 ≤ c .before .before .before .before .before .before .before .leaf-word .result = omega (arith, (c .before .before .before .before .before .before .before .before .before .before .before .before .before .before .before .before .pre .1), (c .before .if2 .left)) in let op = operator-at (c .before .before .before .before .before .before .before .before .before .before .before .before .before .before .before .before .pre .0) _ within (c .before .before .before .before .before .before .before .leaf-word .ensures) some (c .leaf-word2 .ensures) in let l = quick-within _ _ _ _ _ _ _ (c .before .before .before .before .before .before .before .before .before .before .before .before .before .before .before .before .pre .1) (c .before .before .before .before .before .before .before .before .before .before .before .before .loop .inv) (c .before .before .before .before .before .before .before .before .before .before .before .short-operand .ensures) (c .before .before .before .before .before .before .before .before .before .part .given .1) refl (level-at (c .before .before .before .before .before .before .before .before .before .before .before .before .before .before .before .before .pre .0) _ within (c .before .before .before .before .before .before .before .leaf-word .ensures)) (c .before .before .before .before .before .before .if1 .left) (c .before .before .before .before .before .joined .ensures) (c .before .before .before .done .given .1) in let k = quick-again _ _ _ _ _ _ _ (c .before .before .before .before .before .before .before .before .before .before .before .before .before .before .before .before .pre .1) (c .before .before .before .before .before .before .before .before .before .before .before .before .loop .inv) (c .before .before .before .before .before .before .before .before .before .before .before .short-operand .ensures) (c .before .before .before .before .before .before .before .before .before .part .given .1) op (level-at (c .before .before .before .before .before .before .before .before .before .before .before .before .before .before .before .before .pre .0) _ within (c .before .before .before .before .before .before .before .leaf-word .ensures) ∙ ap level-of (sym op)) (c .before .before .before .before .before .before .if1 .left) (c .before .before .before .before .before .joined .ensures) (c .before .before .before .done .given .1) (c .before .if2 .left) (operator-within (c .before .before .before .before .before .before .before .before .before .before .before .before .before .before .before .before .pre .0) _ within (c .before .before .before .before .before .before .before .leaf-word .ensures) some) .within in omega arith
 
 loop-again : tie.Need-loop-again Inv-loop μ-loop
-loop-again c = quick-again _ _ _ _ _ _ _ (c .before .before .before .before .before .before .before .before .before .before .before .before .before .before .before .before .pre .1) (c .before .before .before .before .before .before .before .before .before .before .before .before .loop .inv) (c .before .before .before .before .before .before .before .before .before .before .before .short-operand .ensures) (c .before .before .before .before .before .before .before .before .before .part .given .1) (c .word-at .ensures) (level-at (c .before .before .before .before .before .before .before .before .before .before .before .before .before .before .before .before .pre .0) _ (leaf-within _ _ _ _ _ _ (c .before .before .before .before .before .before .before .before .before .before .before .short-operand .ensures) (c .before .before .before .before .before .before .before .before .before .part .given .1) .1) (c .before .before .before .before .before .before .before .leaf-word .ensures) ∙ ap level-of (sym (c .word-at .ensures))) (c .before .before .before .before .before .before .if1 .left) (c .before .before .before .before .before .joined .ensures) (c .before .before .before .done .given .1) (c .before .if2 .left) (operator-within (c .before .before .before .before .before .before .before .before .before .before .before .before .before .before .before .before .pre .0) _ (leaf-within _ _ _ _ _ _ (c .before .before .before .before .before .before .before .before .before .before .before .short-operand .ensures) (c .before .before .before .before .before .before .before .before .before .part .given .1) .1) (c .before .before .before .before .before .before .before .leaf-word .ensures) (omega (arith, (c .before .before .before .before .before .before .before .before .before .before .before .before .before .before .before .before .pre .1), (c .before .if2 .left))))
+loop-again c = let within = leaf-within _ _ _ _ _ _ (c .before .before .before .before .before .before .before .before .before .before .before .short-operand .ensures) (c .before .before .before .before .before .before .before .before .before .part .given .1) .1 in let some : 1 ≤ c .before .before .before .before .before .before .before .leaf-word .result = omega (arith, (c .before .before .before .before .before .before .before .before .before .before .before .before .before .before .before .before .pre .1), (c .before .if2 .left)) in let op = operator-at (c .before .before .before .before .before .before .before .before .before .before .before .before .before .before .before .before .pre .0) _ within (c .before .before .before .before .before .before .before .leaf-word .ensures) some (c .leaf-word2 .ensures) in quick-again _ _ _ _ _ _ _ (c .before .before .before .before .before .before .before .before .before .before .before .before .before .before .before .before .pre .1) (c .before .before .before .before .before .before .before .before .before .before .before .before .loop .inv) (c .before .before .before .before .before .before .before .before .before .before .before .short-operand .ensures) (c .before .before .before .before .before .before .before .before .before .part .given .1) op (level-at (c .before .before .before .before .before .before .before .before .before .before .before .before .before .before .before .before .pre .0) _ within (c .before .before .before .before .before .before .before .leaf-word .ensures) ∙ ap level-of (sym op)) (c .before .before .before .before .before .before .if1 .left) (c .before .before .before .before .before .joined .ensures) (c .before .before .before .done .given .1) (c .before .if2 .left) (operator-within (c .before .before .before .before .before .before .before .before .before .before .before .before .before .before .before .before .pre .0) _ within (c .before .before .before .before .before .before .before .leaf-word .ensures) some)
 
 pub quick-spec : {M : Type 1} → statement M
-quick-spec = tie.close (tie.spec Inv-loop μ-loop loop-holds short-operand-requires enum-known-part enum-told returns leaf-word-requires returns-2 joined-requires enum-known-done enum-told-2 returns-3 returns-4 word-at-requires add-here loop-less loop-again)
+quick-spec = tie.close (tie.spec Inv-loop μ-loop loop-holds short-operand-requires enum-known-part enum-told returns leaf-word-requires returns-2 joined-requires enum-known-done enum-told-2 returns-3 returns-4 leaf-word-requires-2 add-here loop-less loop-again)

@@ -6,7 +6,8 @@ use lib.ListN.{length, take}
 use Rattle.value.specs.Worked.{span-of}
 use Rattle.evaluator.specs.Working.{site-table, env-of}
 use Rattle.evaluator.proofs.TableLaws.{token, link-bounds}
-use Rattle.executor.proofs.StatementLaws.{begins-some, begins-at, begins-if, chosen-onward, if-fault, if-nothing, if-list, statement-forall, faulted-stops, other-stops, statement-exit, statement-constant, statement-assign, Progress, progress-start, block-ends, block-more, block-stops, block-last, known, loop-many, loop-deep, Turns, turns-start, turns-more, loop-leaves, loop-faults, loop-done, deeper}
+use Rattle.executor.proofs.PendingLaws.{Stack, stack-start, stack-pops, stack-top, stack-room, stack-enters, weight, weight-enters, weight-goes, weight-pops}
+use Rattle.executor.proofs.StatementLaws.{begins-some, begins-at, begins-if, chosen-onward, if-fault, if-nothing, if-list, statement-forall, faulted-stops, other-stops, statement-exit, statement-constant, statement-assign, Progress, progress-start, block-ends, block-more, block-stops, block-pops, block-enters, known, loop-many, loop-deep, Turns, turns-start, turns-more, loop-leaves, loop-faults, loop-done, deeper}
 use borrow.Fn.Kinds.{In}
 use borrow.Fn.PlainCycle.{Measures, is, falls, and}
 use Rattle.executor.proofs.blocks.block.Reads as block
@@ -58,13 +59,13 @@ statement-below t =
     and 8 statement-kinds.ps (falls 8 statement-kinds.ps _<_ μ-statement t) statement′.Pre
 
 abbrev block-Inv-loop : block-lts.InvT-loop
-block-Inv-loop leaves words sizes place grid vars₀ index₀ next₀ site depth at n here₀ vars index next here = Progress (site-table words sizes site) (env-of words sizes grid site) depth at (take (site .slots) vars₀) next₀ index₀ here (take (site .slots) vars) next index × (at ≤ here) × (here ≤ site .tokens) × (length next ≡ length next₀)
+block-Inv-loop leaves words sizes place grid vars₀ index₀ next₀ site depth at n ends₀ top₀ here₀ vars index next ends top here = Progress (site-table words sizes site) (env-of words sizes grid site) depth at (take (site .slots) vars₀) next₀ index₀ here ends top (take (site .slots) vars) next index × (at ≤ here) × (here ≤ site .tokens) × (length next ≡ length next₀) × Stack at (site .tokens) ends top
 
 abbrev block-μ-loop : block-lts.MeasureT-loop
-block-μ-loop leaves words sizes place grid vars₀ index₀ next₀ site depth at n here₀ vars index next here = site .tokens - here
+block-μ-loop leaves words sizes place grid vars₀ index₀ next₀ site depth at n ends₀ top₀ here₀ vars index next ends top here = weight (site .tokens) here ends top
 
 abbrev block-calls : ℕ → block-lts.Claims
-block-calls t = (word-at-reads.Asked, word-at-reads.Learnt, link-at-reads.Asked, link-at-reads.Learnt, choose-reads.Asked, choose-reads.Learnt, begins-reads.Asked, begins-reads.Learnt, block-below t, block.Post, statement-below t, statement′.Post)
+block-calls t = (word-at-reads.Asked, word-at-reads.Learnt, link-at-reads.Asked, link-at-reads.Learnt, choose-reads.Asked, choose-reads.Learnt, block-below t, block.Post, begins-reads.Asked, begins-reads.Learnt, statement-below t, statement′.Post)
 
 abbrev forall-calls : ℕ → forall-lts.Claims
 forall-calls t = (word-at-reads.Asked, word-at-reads.Learnt, decode-reads.Asked, decode-reads.Learnt, link-at-reads.Asked, link-at-reads.Learnt, span-reads.Asked, span-reads.Learnt, set-index-reads.Asked, set-index-reads.Learnt, block-below t, block.Post)
@@ -73,7 +74,7 @@ abbrev statement-calls : ℕ → statement-lts.Claims
 statement-calls t = (word-at-reads.Asked, word-at-reads.Learnt, forall-below t, forall.Post, assignment-reads.Asked, assignment-reads.Learnt)
 
 block-loop-holds : (t : ℕ) → block-lts.Need-loop-holds (block-calls t) (block-at t) block.Post block-Inv-loop block-μ-loop
-block-loop-holds t c = (progress-start _ _ _ _ _ _ _, omega arith, omega (arith, (c .before .before .before .pre .1 .1)), refl)
+block-loop-holds t c = (progress-start _ _ _ _ _ _ _, omega arith, omega (arith, (c .before .before .before .pre .1 .1)), refl, stack-start refl)
 
 block-word-at-requires : (t : ℕ) → block-lts.Need-word-at-requires (block-calls t) (block-at t) block.Post block-Inv-loop block-μ-loop
 block-word-at-requires t c κs = ((c .before .before .before .before .pre .1 .0 .table), (c .before .before .before .before .pre .1 .0 .tokens), omega arith)
@@ -87,44 +88,50 @@ block-choose-requires t c κs = ((c .before .before .before .before .before .bef
 block-enum-known-chosen : (t : ℕ) → block-lts.Need-enum-known-chosen (block-calls t) (block-at t) block.Post block-Inv-loop block-μ-loop
 block-enum-known-chosen t c = search needs
 
-block-word-at-requires-2 : (t : ℕ) → block-lts.Need-word-at-requires-2 (block-calls t) (block-at t) block.Post block-Inv-loop block-μ-loop
-block-word-at-requires-2 t c κs = ((c .before .before .before .before .before .before .before .before .before .before .before .before .before .pre .1 .0 .table), (c .before .before .before .before .before .before .before .before .before .before .before .before .before .pre .1 .0 .tokens), omega arith)
+block-cast-ends : (t : ℕ) → block-lts.Need-cast-ends (block-calls t) (block-at t) block.Post block-Inv-loop block-μ-loop
+block-cast-ends t c = let l = token _ _ _ (c .before .before .before .before .before .before .before .before .before .word-at .ensures) (omega (arith, (c .before .before .before .before .before .before .before .before .if1 .taken))) in let m = link-bounds _ _ _ (c .before .before .before .before .before .before .before .link-at .ensures) l in omega (arith, (c .before .before .before .before .before .before .before .before .before .before .before .before .before .before .pre .1 .0 .tokens))
 
-block-begins-requires : (t : ℕ) → block-lts.Need-begins-requires (block-calls t) (block-at t) block.Post block-Inv-loop block-μ-loop
-block-begins-requires t c κs = search needs
+block-mul-ends : (t : ℕ) → block-lts.Need-mul-ends (block-calls t) (block-at t) block.Post block-Inv-loop block-μ-loop
+block-mul-ends t c = search needs
+
+block-array-write-ends : (t : ℕ) → block-lts.Need-array-write-ends (block-calls t) (block-at t) block.Post block-Inv-loop block-μ-loop
+block-array-write-ends t c = search needs
+
+block-add-top : (t : ℕ) → block-lts.Need-add-top (block-calls t) (block-at t) block.Post block-Inv-loop block-μ-loop
+block-add-top t c = search needs
+
+block-loop-less : (t : ℕ) → block-lts.Need-loop-less (block-calls t) (block-at t) block.Post block-Inv-loop block-μ-loop
+block-loop-less t c = let l = token _ _ _ (c .before .before .before .before .before .before .before .before .before .word-at .ensures) (omega (arith, (c .before .before .before .before .before .before .before .before .if1 .taken))) in let m = link-bounds _ _ _ (c .before .before .before .before .before .before .before .link-at .ensures) l in let f = chosen-onward (c .before .before .before .before .choose .ensures) (c .before .before .chosen .given .1) in weight-enters _ _ _ _ l (f .0) (m .0) (stack-room (c .before .before .before .before .before .before .before .before .before .before .loop .inv .4) (c .if2 .taken))
+
+block-loop-again : (t : ℕ) → block-lts.Need-loop-again (block-calls t) (block-at t) block.Post block-Inv-loop block-μ-loop
+block-loop-again t c = let l = token _ _ _ (c .before .before .before .before .before .before .before .before .before .word-at .ensures) (omega (arith, (c .before .before .before .before .before .before .before .before .if1 .taken))) in let m = link-bounds _ _ _ (c .before .before .before .before .before .before .before .link-at .ensures) l in let f = chosen-onward (c .before .before .before .before .choose .ensures) (c .before .before .chosen .given .1) in (block-enters _ _ _ _ _ _ _ (c .before .before .before .before .before .before .before .before .before .before .loop .inv .0) (c .before .before .before .before .before .before .before .before .before .word-at .ensures) (c .before .before .before .before .before .before .before .before .if1 .taken) (c .before .before .before .before .choose .ensures) (c .before .before .chosen .given .1) (c .before .before .before .before .before .before .before .link-at .ensures) (stack-room (c .before .before .before .before .before .before .before .before .before .before .loop .inv .4) (c .if2 .taken)), omega (arith, (c .before .before .before .before .before .before .before .before .before .before .loop .inv .1)), f .1, (c .before .before .before .before .before .before .before .before .before .before .loop .inv .3), stack-enters (c .before .before .before .before .before .before .before .before .before .before .loop .inv .4) (c .if2 .taken) (omega (arith, (c .before .before .before .before .before .before .before .before .before .before .loop .inv .1))) (m .1))
 
 block-block-requires : (t : ℕ) → block-lts.Need-block-requires (block-calls t) (block-at t) block.Post block-Inv-loop block-μ-loop
-block-block-requires t c κs = let f = chosen-onward (c .before .before .before .before .before .before .before .before .before .choose .ensures) (c .before .before .before .before .before .before .before .chosen .given .1) in (omega (arith, (c .before .before .before .before .before .before .before .before .before .before .before .before .before .before .before .before .before .before .before .pre .0), (c .before .before .before .before .before .before .before .before .before .before .before .before .before .before .before .loop .inv .1)), ((c .before .before .before .before .before .before .before .before .before .before .before .before .before .before .before .before .before .before .before .pre .1 .0), f .1))
+block-block-requires t c κs = let f = chosen-onward (c .before .before .before .before .before .before .before .choose .ensures) (c .before .before .before .before .before .chosen .given .1) in (omega (arith, (c .before .before .before .before .before .before .before .before .before .before .before .before .before .before .before .before .before .pre .0), (c .before .before .before .before .before .before .before .before .before .before .before .before .before .loop .inv .1)), ((c .before .before .before .before .before .before .before .before .before .before .before .before .before .before .before .before .before .pre .1 .0), f .1))
 
 block-enum-told : (t : ℕ) → block-lts.Need-enum-told (block-calls t) (block-at t) block.Post block-Inv-loop block-μ-loop
 block-enum-told t c = search needs
 
 block-same-length : (t : ℕ) → block-lts.Need-same-length (block-calls t) (block-at t) block.Post block-Inv-loop block-μ-loop
-block-same-length t c = (c .before .next .given) ∙ (c .before .before .before .before .before .before .before .before .before .before .before .before .before .before .before .before .before .before .loop .inv .3)
+block-same-length t c = (c .before .next .given) ∙ (c .before .before .before .before .before .before .before .before .before .before .before .before .before .before .before .before .loop .inv .3)
 
 block-returns : (t : ℕ) → block-lts.Need-returns (block-calls t) (block-at t) block.Post block-Inv-loop block-μ-loop
-block-returns t c = block-stops _ _ _ _ _ _ _ (c .before .before .before .before .before .before .before .before .before .before .before .before .before .before .before .before .before .before .loop .inv .0) (c .before .before .before .before .before .before .before .before .before .before .before .before .before .before .before .before .before .word-at .ensures) (begins-at 13 begins-if (c .before .before .before .before .before .before .before .before .before .before .before .before .before .before .before .before .if1 .taken)) refl (if-list _ _ _ _ _ _ _ (c .before .before .before .before .before .before .before .before .before .before .before .before .before .before .before .before .before .word-at .ensures) (c .before .before .before .before .before .before .before .before .before .before .before .before .before .before .before .before .if1 .taken) (c .before .before .before .before .before .before .before .before .before .before .before .before .choose .ensures) (c .before .before .before .before .before .before .before .before .before .before .chosen .given .1) (c .before .before .block .ensures)) (other-stops (c .match2 .keys2))
-
-block-loop-less : (t : ℕ) → block-lts.Need-loop-less (block-calls t) (block-at t) block.Post block-Inv-loop block-μ-loop
-block-loop-less t c = let l = token _ _ _ (c .before .before .before .before .before .before .before .before .before .before .before .before .before .before .before .before .before .before .word-at .ensures) (omega (arith, (c .before .before .before .before .before .before .before .before .before .before .before .before .before .before .before .before .before .if1 .taken))) in let m = link-bounds _ _ _ (c .before .before .before .before .before .before .before .before .before .before .before .before .before .before .before .before .link-at .ensures) l in omega arith
-
-block-loop-again : (t : ℕ) → block-lts.Need-loop-again (block-calls t) (block-at t) block.Post block-Inv-loop block-μ-loop
-block-loop-again t c = let l = token _ _ _ (c .before .before .before .before .before .before .before .before .before .before .before .before .before .before .before .before .before .before .word-at .ensures) (omega (arith, (c .before .before .before .before .before .before .before .before .before .before .before .before .before .before .before .before .before .if1 .taken))) in let m = link-bounds _ _ _ (c .before .before .before .before .before .before .before .before .before .before .before .before .before .before .before .before .link-at .ensures) l in (block-more _ _ _ _ _ _ _ (c .before .before .before .before .before .before .before .before .before .before .before .before .before .before .before .before .before .before .before .loop .inv .0) (c .before .before .before .before .before .before .before .before .before .before .before .before .before .before .before .before .before .before .word-at .ensures) (begins-at 13 begins-if (c .before .before .before .before .before .before .before .before .before .before .before .before .before .before .before .before .before .if1 .taken)) refl (if-list _ _ _ _ _ _ _ (c .before .before .before .before .before .before .before .before .before .before .before .before .before .before .before .before .before .before .word-at .ensures) (c .before .before .before .before .before .before .before .before .before .before .before .before .before .before .before .before .before .if1 .taken) (c .before .before .before .before .before .before .before .before .before .before .before .before .before .choose .ensures) (c .before .before .before .before .before .before .before .before .before .before .before .chosen .given .1) (c .before .before .before .block .ensures)) (c .enum-told .given .1) (c .before .before .before .before .before .before .before .before .before .before .before .before .before .before .before .before .link-at .ensures), omega (arith, (c .before .before .before .before .before .before .before .before .before .before .before .before .before .before .before .before .before .before .before .loop .inv .1)), m .1, (c .before .before .next .given) ∙ (c .before .before .before .before .before .before .before .before .before .before .before .before .before .before .before .before .before .before .before .loop .inv .3))
+block-returns t c = block-stops _ _ _ _ _ _ _ (c .before .before .before .before .before .before .before .before .before .before .before .before .before .before .before .before .loop .inv .0) (c .before .before .before .before .before .before .before .before .before .before .before .before .before .before .before .word-at .ensures) (begins-at 13 begins-if (c .before .before .before .before .before .before .before .before .before .before .before .before .before .before .if1 .taken)) refl (if-list _ _ _ _ _ _ _ (c .before .before .before .before .before .before .before .before .before .before .before .before .before .before .before .word-at .ensures) (c .before .before .before .before .before .before .before .before .before .before .before .before .before .before .if1 .taken) (c .before .before .before .before .before .before .before .before .before .before .choose .ensures) (c .before .before .before .before .before .before .before .before .chosen .given .1) (c .before .before .block .ensures)) (other-stops (c .match2 .keys2))
 
 block-loop-less-2 : (t : ℕ) → block-lts.Need-loop-less-2 (block-calls t) (block-at t) block.Post block-Inv-loop block-μ-loop
-block-loop-less-2 t c = let l = token _ _ _ (c .before .before .before .before .before .before .before .before .before .before .before .word-at .ensures) (omega (arith, (c .before .before .before .before .before .before .before .before .before .before .if1 .taken))) in let f = chosen-onward (c .before .before .before .before .before .before .choose .ensures) (c .before .before .before .before .chosen .given .1) in omega arith
+block-loop-less-2 t c = let l = token _ _ _ (c .before .before .before .before .before .before .before .before .before .before .before .before .before .before .before .before .word-at .ensures) (omega (arith, (c .before .before .before .before .before .before .before .before .before .before .before .before .before .before .before .if1 .taken))) in let m = link-bounds _ _ _ (c .before .before .before .before .before .before .before .before .before .before .before .before .before .before .link-at .ensures) l in weight-goes _ _ _ _ l (m .0)
 
 block-loop-again-2 : (t : ℕ) → block-lts.Need-loop-again-2 (block-calls t) (block-at t) block.Post block-Inv-loop block-μ-loop
-block-loop-again-2 t c = let f = chosen-onward (c .before .before .before .before .before .before .choose .ensures) (c .before .before .before .before .chosen .given .1) in (block-last _ _ _ _ _ _ _ (c .before .before .before .before .before .before .before .before .before .before .before .before .loop .inv .0) (c .before .before .before .before .before .before .before .before .before .before .before .word-at .ensures) (c .before .before .before .before .before .before .before .before .before .before .if1 .taken) (c .before .before .before .before .before .before .choose .ensures) (c .before .before .before .before .chosen .given .1) (c .before .before .before .before .before .before .before .before .before .link-at .ensures) (c .before .before .word-at2 .ensures) (c .before .begins .ensures) (c .if2 .left), omega (arith, (c .before .before .before .before .before .before .before .before .before .before .before .before .loop .inv .1)), f .1, (c .before .before .before .before .before .before .before .before .before .before .before .before .loop .inv .3))
+block-loop-again-2 t c = let l = token _ _ _ (c .before .before .before .before .before .before .before .before .before .before .before .before .before .before .before .before .word-at .ensures) (omega (arith, (c .before .before .before .before .before .before .before .before .before .before .before .before .before .before .before .if1 .taken))) in let m = link-bounds _ _ _ (c .before .before .before .before .before .before .before .before .before .before .before .before .before .before .link-at .ensures) l in (block-more _ _ _ _ _ _ _ (c .before .before .before .before .before .before .before .before .before .before .before .before .before .before .before .before .before .loop .inv .0) (c .before .before .before .before .before .before .before .before .before .before .before .before .before .before .before .before .word-at .ensures) (begins-at 13 begins-if (c .before .before .before .before .before .before .before .before .before .before .before .before .before .before .before .if1 .taken)) refl (if-list _ _ _ _ _ _ _ (c .before .before .before .before .before .before .before .before .before .before .before .before .before .before .before .before .word-at .ensures) (c .before .before .before .before .before .before .before .before .before .before .before .before .before .before .before .if1 .taken) (c .before .before .before .before .before .before .before .before .before .before .before .choose .ensures) (c .before .before .before .before .before .before .before .before .before .chosen .given .1) (c .before .before .before .block .ensures)) (c .enum-told .given .1) (c .before .before .before .before .before .before .before .before .before .before .before .before .before .before .link-at .ensures), omega (arith, (c .before .before .before .before .before .before .before .before .before .before .before .before .before .before .before .before .before .loop .inv .1)), m .1, (c .before .before .next .given) ∙ (c .before .before .before .before .before .before .before .before .before .before .before .before .before .before .before .before .before .loop .inv .3), (c .before .before .before .before .before .before .before .before .before .before .before .before .before .before .before .before .before .loop .inv .4))
 
 block-enum-told-2 : (t : ℕ) → block-lts.Need-enum-told-2 (block-calls t) (block-at t) block.Post block-Inv-loop block-μ-loop
 block-enum-told-2 t c = search needs
 
 block-loop-less-3 : (t : ℕ) → block-lts.Need-loop-less-3 (block-calls t) (block-at t) block.Post block-Inv-loop block-μ-loop
-block-loop-less-3 t c = let l = token _ _ _ (c .before .before .before .before .before .before .before .word-at .ensures) (omega (arith, (c .before .before .before .before .before .before .if1 .taken))) in let m = link-bounds _ _ _ (c .before .before .before .before .before .link-at .ensures) l in omega arith
+block-loop-less-3 t c = let l = token _ _ _ (c .before .before .before .before .before .before .before .word-at .ensures) (omega (arith, (c .before .before .before .before .before .before .if1 .taken))) in let m = link-bounds _ _ _ (c .before .before .before .before .before .link-at .ensures) l in weight-goes _ _ _ _ l (m .0)
 
 block-loop-again-3 : (t : ℕ) → block-lts.Need-loop-again-3 (block-calls t) (block-at t) block.Post block-Inv-loop block-μ-loop
-block-loop-again-3 t c = let l = token _ _ _ (c .before .before .before .before .before .before .before .word-at .ensures) (omega (arith, (c .before .before .before .before .before .before .if1 .taken))) in let m = link-bounds _ _ _ (c .before .before .before .before .before .link-at .ensures) l in (block-more _ _ _ _ _ _ _ (c .before .before .before .before .before .before .before .before .loop .inv .0) (c .before .before .before .before .before .before .before .word-at .ensures) (begins-at 13 begins-if (c .before .before .before .before .before .before .if1 .taken)) refl (if-nothing _ _ _ _ _ _ _ (c .before .before .before .before .before .before .before .word-at .ensures) (c .before .before .before .before .before .before .if1 .taken) (c .before .before .choose .ensures) (c .enum-told2 .given .1)) refl (c .before .before .before .before .before .link-at .ensures), omega (arith, (c .before .before .before .before .before .before .before .before .loop .inv .1)), m .1, (c .before .before .before .before .before .before .before .before .loop .inv .3))
+block-loop-again-3 t c = let l = token _ _ _ (c .before .before .before .before .before .before .before .word-at .ensures) (omega (arith, (c .before .before .before .before .before .before .if1 .taken))) in let m = link-bounds _ _ _ (c .before .before .before .before .before .link-at .ensures) l in (block-more _ _ _ _ _ _ _ (c .before .before .before .before .before .before .before .before .loop .inv .0) (c .before .before .before .before .before .before .before .word-at .ensures) (begins-at 13 begins-if (c .before .before .before .before .before .before .if1 .taken)) refl (if-nothing _ _ _ _ _ _ _ (c .before .before .before .before .before .before .before .word-at .ensures) (c .before .before .before .before .before .before .if1 .taken) (c .before .before .choose .ensures) (c .enum-told2 .given .1)) refl (c .before .before .before .before .before .link-at .ensures), omega (arith, (c .before .before .before .before .before .before .before .before .loop .inv .1)), m .1, (c .before .before .before .before .before .before .before .before .loop .inv .3), (c .before .before .before .before .before .before .before .before .loop .inv .4))
 
 block-enum-known-chosen-2 : (t : ℕ) → block-lts.Need-enum-known-chosen-2 (block-calls t) (block-at t) block.Post block-Inv-loop block-μ-loop
 block-enum-known-chosen-2 t c = search needs
@@ -135,35 +142,53 @@ block-same-length-2 t c = (c .before .before .before .before .before .before .be
 block-returns-2 : (t : ℕ) → block-lts.Need-returns-2 (block-calls t) (block-at t) block.Post block-Inv-loop block-μ-loop
 block-returns-2 t c = block-stops _ _ _ _ _ _ _ (c .before .before .before .before .before .before .before .before .before .loop .inv .0) (c .before .before .before .before .before .before .before .before .word-at .ensures) (begins-at 13 begins-if (c .before .before .before .before .before .before .before .if1 .taken)) refl (if-fault _ _ _ _ _ _ _ (c .before .before .before .before .before .before .before .before .word-at .ensures) (c .before .before .before .before .before .before .before .if1 .taken) (c .before .before .before .choose .ensures) (c .before .chosen2 .given .1)) faulted-stops
 
-block-begins-requires-2 : (t : ℕ) → block-lts.Need-begins-requires-2 (block-calls t) (block-at t) block.Post block-Inv-loop block-μ-loop
-block-begins-requires-2 t c κs = search needs
-
-block-same-length-3 : (t : ℕ) → block-lts.Need-same-length-3 (block-calls t) (block-at t) block.Post block-Inv-loop block-μ-loop
-block-same-length-3 t c = (c .before .before .before .before .loop .inv .3)
-
-block-returns-3 : (t : ℕ) → block-lts.Need-returns-3 (block-calls t) (block-at t) block.Post block-Inv-loop block-μ-loop
-block-returns-3 t c = block-ends _ _ _ _ _ _ _ (c .before .before .before .before .loop .inv .0) (c .before .before .before .word-at .ensures) (c .before .begins2 .ensures) (c .if3 .taken)
+block-begins-requires : (t : ℕ) → block-lts.Need-begins-requires (block-calls t) (block-at t) block.Post block-Inv-loop block-μ-loop
+block-begins-requires t c κs = search needs
 
 block-statement-requires : (t : ℕ) → block-lts.Need-statement-requires (block-calls t) (block-at t) block.Post block-Inv-loop block-μ-loop
-block-statement-requires t c κs = let l = token _ _ _ (c .before .before .before .before .before .before .word-at .ensures) (begins-some _ (c .before .before .before .before .begins2 .ensures) (c .before .before .before .if3 .left)) in (omega (arith, (c .before .before .before .before .before .before .before .before .before .before .before .pre .0), (c .before .before .before .before .before .before .before .loop .inv .1)), ((c .before .before .before .before .before .before .before .before .before .before .before .pre .1 .0), l, λ u. (c .before .before .before .before .before .if1 .left) ((c .before .before .before .before .before .before .word-at .ensures) ∙ u)))
+block-statement-requires t c κs = let l = token _ _ _ (c .before .before .before .before .before .before .word-at .ensures) (begins-some _ (c .before .before .before .before .begins .ensures) (c .before .before .before .if3 .taken)) in (omega (arith, (c .before .before .before .before .before .before .before .before .before .before .before .pre .0), (c .before .before .before .before .before .before .before .loop .inv .1)), ((c .before .before .before .before .before .before .before .before .before .before .before .pre .1 .0), l, λ u. (c .before .before .before .before .before .if1 .left) ((c .before .before .before .before .before .before .word-at .ensures) ∙ u)))
 
 block-enum-told-3 : (t : ℕ) → block-lts.Need-enum-told-3 (block-calls t) (block-at t) block.Post block-Inv-loop block-μ-loop
 block-enum-told-3 t c = search needs
 
-block-same-length-4 : (t : ℕ) → block-lts.Need-same-length-4 (block-calls t) (block-at t) block.Post block-Inv-loop block-μ-loop
-block-same-length-4 t c = (c .before .next2 .given) ∙ (c .before .before .before .before .before .before .before .before .before .before .loop .inv .3)
+block-same-length-3 : (t : ℕ) → block-lts.Need-same-length-3 (block-calls t) (block-at t) block.Post block-Inv-loop block-μ-loop
+block-same-length-3 t c = (c .before .next2 .given) ∙ (c .before .before .before .before .before .before .before .before .before .before .loop .inv .3)
 
-block-returns-4 : (t : ℕ) → block-lts.Need-returns-4 (block-calls t) (block-at t) block.Post block-Inv-loop block-μ-loop
-block-returns-4 t c = block-stops _ _ _ _ _ _ _ (c .before .before .before .before .before .before .before .before .before .before .loop .inv .0) (c .before .before .before .before .before .before .before .before .before .word-at .ensures) (c .before .before .before .before .before .before .before .begins2 .ensures) (c .before .before .before .before .before .before .if3 .left) (c .before .before .statement .ensures) (other-stops (c .match3 .keys2))
+block-returns-3 : (t : ℕ) → block-lts.Need-returns-3 (block-calls t) (block-at t) block.Post block-Inv-loop block-μ-loop
+block-returns-3 t c = block-stops _ _ _ _ _ _ _ (c .before .before .before .before .before .before .before .before .before .before .loop .inv .0) (c .before .before .before .before .before .before .before .before .before .word-at .ensures) (c .before .before .before .before .before .before .before .begins .ensures) (c .before .before .before .before .before .before .if3 .taken) (c .before .before .statement .ensures) (other-stops (c .match3 .keys2))
 
 block-link-at-requires-2 : (t : ℕ) → block-lts.Need-link-at-requires-2 (block-calls t) (block-at t) block.Post block-Inv-loop block-μ-loop
 block-link-at-requires-2 t c κs = ((c .before .before .before .before .before .before .before .before .before .before .before .before .before .before .before .pre .1 .0 .table), (c .before .before .before .before .before .before .before .before .before .before .before .before .before .before .before .pre .1 .0 .tokens), omega arith)
 
 block-loop-less-4 : (t : ℕ) → block-lts.Need-loop-less-4 (block-calls t) (block-at t) block.Post block-Inv-loop block-μ-loop
-block-loop-less-4 t c = let l = token _ _ _ (c .before .before .before .before .before .before .before .before .before .before .before .word-at .ensures) (begins-some _ (c .before .before .before .before .before .before .before .before .before .begins2 .ensures) (c .before .before .before .before .before .before .before .before .if3 .left)) in omega (arith, link-bounds _ _ _ (c .link-at2 .ensures) l)
+block-loop-less-4 t c = let l = token _ _ _ (c .before .before .before .before .before .before .before .before .before .before .before .word-at .ensures) (begins-some _ (c .before .before .before .before .before .before .before .before .before .begins .ensures) (c .before .before .before .before .before .before .before .before .if3 .taken)) in let m = link-bounds _ _ _ (c .link-at2 .ensures) l in weight-goes _ _ _ _ l (m .0)
 
 block-loop-again-4 : (t : ℕ) → block-lts.Need-loop-again-4 (block-calls t) (block-at t) block.Post block-Inv-loop block-μ-loop
-block-loop-again-4 t c = let l = token _ _ _ (c .before .before .before .before .before .before .before .before .before .before .before .word-at .ensures) (begins-some _ (c .before .before .before .before .before .before .before .before .before .begins2 .ensures) (c .before .before .before .before .before .before .before .before .if3 .left)) in let m = link-bounds _ _ _ (c .link-at2 .ensures) l in (block-more _ _ _ _ _ _ _ (c .before .before .before .before .before .before .before .before .before .before .before .before .loop .inv .0) (c .before .before .before .before .before .before .before .before .before .before .before .word-at .ensures) (c .before .before .before .before .before .before .before .before .before .begins2 .ensures) (c .before .before .before .before .before .before .before .before .if3 .left) (c .before .before .before .before .statement .ensures) (c .before .enum-told3 .given .1) (c .link-at2 .ensures), omega (arith, (c .before .before .before .before .before .before .before .before .before .before .before .before .loop .inv .1)), m .1, (c .before .before .before .next2 .given) ∙ (c .before .before .before .before .before .before .before .before .before .before .before .before .loop .inv .3))
+block-loop-again-4 t c = let l = token _ _ _ (c .before .before .before .before .before .before .before .before .before .before .before .word-at .ensures) (begins-some _ (c .before .before .before .before .before .before .before .before .before .begins .ensures) (c .before .before .before .before .before .before .before .before .if3 .taken)) in let m = link-bounds _ _ _ (c .link-at2 .ensures) l in (block-more _ _ _ _ _ _ _ (c .before .before .before .before .before .before .before .before .before .before .before .before .loop .inv .0) (c .before .before .before .before .before .before .before .before .before .before .before .word-at .ensures) (c .before .before .before .before .before .before .before .before .before .begins .ensures) (c .before .before .before .before .before .before .before .before .if3 .taken) (c .before .before .before .before .statement .ensures) (c .before .enum-told3 .given .1) (c .link-at2 .ensures), omega (arith, (c .before .before .before .before .before .before .before .before .before .before .before .before .loop .inv .1)), m .1, (c .before .before .before .next2 .given) ∙ (c .before .before .before .before .before .before .before .before .before .before .before .before .loop .inv .3), (c .before .before .before .before .before .before .before .before .before .before .before .before .loop .inv .4))
+
+block-same-length-4 : (t : ℕ) → block-lts.Need-same-length-4 (block-calls t) (block-at t) block.Post block-Inv-loop block-μ-loop
+block-same-length-4 t c = (c .before .before .before .before .before .loop .inv .3)
+
+block-returns-4 : (t : ℕ) → block-lts.Need-returns-4 (block-calls t) (block-at t) block.Post block-Inv-loop block-μ-loop
+block-returns-4 t c = block-ends _ _ _ _ _ _ _ (c .before .before .before .before .before .loop .inv .0) (c .before .before .before .before .word-at .ensures) (c .before .before .begins .ensures) (c .before .if3 .left) (c .if4 .taken)
+
+block-sub-top : (t : ℕ) → block-lts.Need-sub-top (block-calls t) (block-at t) block.Post block-Inv-loop block-μ-loop
+block-sub-top t c = omega (arith, (c .if4 .left))
+
+block-mul-here : (t : ℕ) → block-lts.Need-mul-here (block-calls t) (block-at t) block.Post block-Inv-loop block-μ-loop
+block-mul-here t c = search needs
+
+block-array-read-here : (t : ℕ) → block-lts.Need-array-read-here (block-calls t) (block-at t) block.Post block-Inv-loop block-μ-loop
+block-array-read-here t c = omega (arith, (c .if4 .left), (c .before .before .before .before .before .loop .inv .4 .few))
+
+block-cast-here : (t : ℕ) → block-lts.Need-cast-here (block-calls t) (block-at t) block.Post block-Inv-loop block-μ-loop
+block-cast-here t c = omega (arith, stack-top (c .before .before .before .before .before .loop .inv .4) (c .if4 .left), (c .before .before .before .before .before .before .before .before .before .pre .1 .0 .tokens))
+
+block-loop-less-5 : (t : ℕ) → block-lts.Need-loop-less-5 (block-calls t) (block-at t) block.Post block-Inv-loop block-μ-loop
+block-loop-less-5 t c = weight-pops _ _ _ _ (c .if4 .left)
+
+block-loop-again-5 : (t : ℕ) → block-lts.Need-loop-again-5 (block-calls t) (block-at t) block.Post block-Inv-loop block-μ-loop
+block-loop-again-5 t c = (block-pops _ _ _ _ _ _ _ (c .before .before .before .before .before .loop .inv .0) (c .before .before .before .before .word-at .ensures) (c .before .before .begins .ensures) (c .before .if3 .left) (c .if4 .left), stack-top (c .before .before .before .before .before .loop .inv .4) (c .if4 .left) .0, stack-top (c .before .before .before .before .before .loop .inv .4) (c .if4 .left) .1, (c .before .before .before .before .before .loop .inv .3), stack-pops (c .before .before .before .before .before .loop .inv .4))
 
 abbrev forall-Inv-loop : forall-lts.InvT-loop
 forall-Inv-loop leaves words sizes place grid vars₀ index₀ next₀ site depth at n low high body count k₀ vars index next k = Turns (site-table words sizes site) (env-of words sizes grid site) depth at body (low .n) count (take (site .slots) vars₀) next₀ index₀ k (take (site .slots) vars) next index × (at < body) × (body ≤ site .tokens) × (count ≡ span-of (low .n) (high .n)) × (length next ≡ length next₀)
@@ -287,14 +312,16 @@ pub +block+forall+statement-spec : {M : Type 1} → statement M
     (block-link-at-requires t)
     (block-choose-requires t)
     (block-enum-known-chosen t)
-    (block-word-at-requires-2 t)
-    (block-begins-requires t)
+    (block-cast-ends t)
+    (block-mul-ends t)
+    (block-array-write-ends t)
+    (block-add-top t)
+    (block-loop-less t)
+    (block-loop-again t)
     (block-block-requires t)
     (block-enum-told t)
     (block-same-length t)
     (block-returns t)
-    (block-loop-less t)
-    (block-loop-again t)
     (block-loop-less-2 t)
     (block-loop-again-2 t)
     (block-enum-told-2 t)
@@ -303,16 +330,22 @@ pub +block+forall+statement-spec : {M : Type 1} → statement M
     (block-enum-known-chosen-2 t)
     (block-same-length-2 t)
     (block-returns-2 t)
-    (block-begins-requires-2 t)
-    (block-same-length-3 t)
-    (block-returns-3 t)
+    (block-begins-requires t)
     (block-statement-requires t)
     (block-enum-told-3 t)
-    (block-same-length-4 t)
-    (block-returns-4 t)
+    (block-same-length-3 t)
+    (block-returns-3 t)
     (block-link-at-requires-2 t)
     (block-loop-less-4 t)
-    (block-loop-again-4 t))
+    (block-loop-again-4 t)
+    (block-same-length-4 t)
+    (block-returns-4 t)
+    (block-sub-top t)
+    (block-mul-here t)
+    (block-array-read-here t)
+    (block-cast-here t)
+    (block-loop-less-5 t)
+    (block-loop-again-5 t))
     (λ t. forall-lts.spec (forall-calls t)
     (forall-at t)
     forall.Post

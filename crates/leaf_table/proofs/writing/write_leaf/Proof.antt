@@ -26,7 +26,7 @@ same-length-2 : tie.Need-same-length-2
 same-length-2 c = search needs
 
 returns-2 : tie.Need-returns-2
-returns-2 c = written-none _ _ _ _ _ _ (c .before .before .write-words2 .ensures) (c .before .before .before .before .before .before .before .write-offsets .ensures) refl (c .before .before .before .before .before .before .before .before .before .before .before .leaf-at .ensures .level)
+returns-2 c = let a = c .before .before .before .before .before .before .before .before .before .before .before .leaf-at .ensures in written-none _ _ _ _ _ _ (c .before .before .write-words2 .ensures) (c .before .before .before .before .before .before .before .write-offsets .ensures) refl (a .level) (a .operator)
 
 write-words-requires-3 : tie.Need-write-words-requires-3
 write-words-requires-3 c κs = search needs

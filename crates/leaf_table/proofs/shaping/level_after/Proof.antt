@@ -1,0 +1,38 @@
+use native.Mathlib.Omega.{arith}
+use borrow.Author.Needs.{needs}
+use Rattle.leaf_table.proofs.ShapingLaws.{next-small, level-behind, none-behind}
+use Rattle.leaf_table.proofs.shaping.level_after.Statement.{statement}
+use Rattle.leaf_table.proofs.shaping.level_after.Tie as tie
+
+leaf-word-requires : tie.Need-leaf-word-requires
+leaf-word-requires c κs = search needs
+
+returns : tie.Need-returns
+returns c = none-behind _ _
+
+returns-2 : tie.Need-returns-2
+returns-2 c = none-behind _ _
+
+leaf-word-requires-2 : tie.Need-leaf-word-requires-2
+leaf-word-requires-2 c κs = search needs
+
+cast-leaf-word : tie.Need-cast-leaf-word
+cast-leaf-word c = search needs
+
+leaf-word-requires-3 : tie.Need-leaf-word-requires-3
+leaf-word-requires-3 c κs = let o = next-small (c .before .before .before .before .pre .1) (c .before .before .before .before .pre .2) (c .before .before .before .leaf-word .ensures) (c .before .before .if1 .left) (c .before .if2 .left) (c .leaf-word2 .ensures) in (omega (arith, (c .before .before .before .before .pre .0), o), omega arith)
+
+returns-3 : tie.Need-returns-3
+returns-3 c = level-behind _ _ (c .before .before .before .before .leaf-word .ensures) (c .before .before .before .if1 .left) (c .before .before .if2 .left) (c .before .leaf-word2 .ensures) (c .leaf-word3 .ensures)
+
+pub level-after-spec : {M : Type 1} → statement M
+level-after-spec =
+    tie.close
+    (tie.spec
+    leaf-word-requires
+    returns
+    returns-2
+    leaf-word-requires-2
+    cast-leaf-word
+    leaf-word-requires-3
+    returns-3)

@@ -1,0 +1,48 @@
+use Prim.Native.Nat.{_+_, _-_, _≤_}
+use native.Mathlib.Omega.{arith}
+use borrow.Author.Needs.{needs}
+use Rattle.leaf_table.specs.Shaping.{Shaped}
+use Rattle.leaf_table.proofs.ShapingLaws.{shaped-start, shaped-linked, shaped-more, shaped-done}
+use Rattle.leaf_table.proofs.shaping.write_shapes.Statement.{statement}
+use Rattle.leaf_table.proofs.shaping.write_shapes.Tie as tie
+
+abbrev Inv-loop : tie.InvT-loop
+Inv-loop leaves₀ n p₀ leaves p = Shaped p leaves₀ leaves × (p ≤ n + 1)
+
+abbrev μ-loop : tie.MeasureT-loop
+μ-loop leaves₀ n p₀ leaves p = n + 1 - p
+
+loop-holds : tie.Need-loop-holds Inv-loop μ-loop
+loop-holds c = (shaped-start _, omega arith)
+
+shape-at-requires : tie.Need-shape-at-requires Inv-loop μ-loop
+shape-at-requires c κs = ((c .before .before .before .pre .0), shaped-linked (c .before .before .loop .inv .0) (c .before .before .before .pre .1), (c .before .loop-test .taken))
+
+write-shape-requires : tie.Need-write-shape-requires Inv-loop μ-loop
+write-shape-requires c κs = search needs
+
+add-p : tie.Need-add-p Inv-loop μ-loop
+add-p c = search needs
+
+loop-less : tie.Need-loop-less Inv-loop μ-loop
+loop-less c = search needs
+
+loop-again : tie.Need-loop-again Inv-loop μ-loop
+loop-again c = (shaped-more (c .before .before .before .before .before .loop .inv .0) (c .write-shape .ensures) (c .before .before .shape-at .ensures), omega (arith, (c .before .before .before .before .loop-test .taken)))
+
+returns : tie.Need-returns Inv-loop μ-loop
+returns c = shaped-done (c .before .loop .inv .0) (omega (arith, (c .loop-test .left)))
+
+pub write-shapes-spec : {M : Type 1} → statement M
+write-shapes-spec =
+    tie.close
+    (tie.spec
+    Inv-loop
+    μ-loop
+    loop-holds
+    shape-at-requires
+    write-shape-requires
+    add-p
+    loop-less
+    loop-again
+    returns)
