@@ -3,7 +3,7 @@
 mod hand;
 mod proved;
 
-use cellang::Mode;
+use cellang::{Mode, NAME_WORDS, WORDS};
 use proved::Rooms;
 use std::env;
 use std::fs;
@@ -111,14 +111,16 @@ fn seconds(begun: Instant) -> f64 {
     }
 }
 
-/// The best time of some, in seconds.
-fn best(times: usize, mut work: impl FnMut()) -> f64 {
+/// The best time of some for each of several works, in seconds. They take turns, so that a slow spell of the machine meets all.
+fn best_each<const N: usize>(times: usize, mut works: [&mut dyn FnMut(); N]) -> [f64; N] {
     let begun = Instant::now();
-    let mut least = f64::MAX;
+    let mut least = [f64::MAX; N];
     for _ in 0..times {
-        let before = seconds(begun);
-        work();
-        least = least.min(seconds(begun) - before);
+        for (work, least) in works.iter_mut().zip(&mut least) {
+            let before = seconds(begun);
+            work();
+            *least = least.min(seconds(begun) - before);
+        }
     }
     least
 }
@@ -130,21 +132,20 @@ fn run_proved(mode: Mode, source: &str, grid: &[i32], fields: usize, steps: i64)
     left
 }
 
-fn run_second(rule: &Rule, steps: i64) -> Vec<i32> {
-    let mut left = rule.grid.clone();
-    let mut scratch = vec![0; left.len()];
-    let mut marks = vec![0; CELLS];
-    let report = reference::run_full(
-        rule.source.as_bytes(),
-        16_384,
-        256,
-        &SIZES,
-        &mut left,
-        &mut scratch,
-        &mut marks,
-        0,
+/// A full run of the second program.
+fn run_second(source: &str, sizes: &[u32], grid: &[i32], steps: i64) -> Vec<i32> {
+    let lent = reference::Lent {
+        source: source.as_bytes(),
+        words: WORDS,
+        names: NAME_WORDS / 4,
+        shape: sizes,
+        start: 0,
         steps,
-    );
+    };
+    let cells: u32 = sizes.iter().product();
+    let mut left = grid.to_vec();
+    let (mut scratch, mut marks) = (vec![0; left.len()], vec![0; cells as usize]);
+    let report = reference::run_full(&lent, &mut left, &mut scratch, &mut marks);
     assert_eq!(report.number, 0);
     left
 }
@@ -168,21 +169,29 @@ fn full(times: usize, steps: i64) {
         let result = run_hand(&rule, 3);
         let proved = run_proved(Mode::Full, &rule.source, &rule.grid, rule.fields, 3);
         assert!(proved == result, "{}: the proved run differs", rule.name);
+        let second = run_second(&rule.source, &SIZES, &rule.grid, 3);
         assert!(
-            run_second(&rule, 3) == result,
+            second == result,
             "{}: the second program differs",
             rule.name
         );
-        let rate = |seconds: f64| CELLS as f64 * steps as f64 / seconds / 1e6;
-        let a = rate(best(times, || {
-            run_proved(Mode::Full, &rule.source, &rule.grid, rule.fields, steps);
-        }));
-        let b = rate(best(times, || {
-            run_second(&rule, steps);
-        }));
-        let c = rate(best(times, || {
-            run_hand(&rule, steps);
-        }));
+        let seconds = best_each(
+            times,
+            [
+                &mut || {
+                    drop(run_proved(
+                        Mode::Full,
+                        &rule.source,
+                        &rule.grid,
+                        rule.fields,
+                        steps,
+                    ))
+                },
+                &mut || drop(run_second(&rule.source, &SIZES, &rule.grid, steps)),
+                &mut || drop(run_hand(&rule, steps)),
+            ],
+        );
+        let [a, b, c] = seconds.map(|s| CELLS as f64 * steps as f64 / s / 1e6);
         println!(
             "| {} | {a:.2} | {b:.2} | {c:.0} | {:.2} | {:.0} |",
             rule.name,
@@ -192,15 +201,22 @@ fn full(times: usize, steps: i64) {
     }
 }
 
-/// A step's seconds: the difference of two runs by the difference of their steps.
-fn step_time(times: usize, mode: Mode, source: &str, grid: &[i32], few: i64, many: i64) -> f64 {
-    let short = best(times, || {
-        run_proved(mode, source, grid, 1, few);
-    });
-    let long = best(times, || {
-        run_proved(mode, source, grid, 1, many);
-    });
-    (long - short) / (many - few) as f64
+/// The seconds of a quiet and of a full step: each the difference of two runs by the difference of their steps.
+fn step_times(times: usize, source: &str, grid: &[i32], quiet: i64, full: i64) -> [f64; 2] {
+    let run = |mode, steps| drop(run_proved(mode, source, grid, 1, steps));
+    let each = best_each(
+        times,
+        [
+            &mut || run(Mode::Quiet, 1),
+            &mut || run(Mode::Quiet, quiet),
+            &mut || run(Mode::Full, 1),
+            &mut || run(Mode::Full, full),
+        ],
+    );
+    [
+        (each[1] - each[0]) / (quiet - 1) as f64,
+        (each[3] - each[2]) / (full - 1) as f64,
+    ]
 }
 
 fn quiet(times: usize) {
@@ -224,8 +240,7 @@ fn quiet(times: usize) {
                 == run_proved(Mode::Full, source, grid, 1, few),
             "{name}: the quiet run differs"
         );
-        let q = step_time(times, Mode::Quiet, source, grid, 1, many);
-        let f = step_time(times, Mode::Full, source, grid, 1, many.min(21));
+        let [q, f] = step_times(times, source, grid, many, many.min(21));
         println!(
             "| {name} | {:.3} | {:.1} | {:.3} = 1/{:.0} |",
             q * 1e3,
@@ -244,31 +259,18 @@ fn on_side(side: usize, times: usize, steps: i64) -> [f64; 3] {
     let grid: Vec<i32> = (0..side * side).map(|_| random.below(2)).collect();
     let sizes = [side as u32, side as u32];
     let mut rooms = Rooms::new(side * side, 1);
-    let proved = best(times, || {
+    let mut proved = || {
         for _ in 0..runs {
             let mut left = grid.clone();
             proved::run(Mode::Full, LIFE, &sizes, &mut left, &mut rooms, steps);
         }
-    });
-    let second = best(times, || {
+    };
+    let mut second = || {
         for _ in 0..runs {
-            let mut left = grid.clone();
-            let (mut scratch, mut marks) = (vec![0; left.len()], vec![0; left.len()]);
-            let report = reference::run_full(
-                LIFE.as_bytes(),
-                16_384,
-                256,
-                &sizes,
-                &mut left,
-                &mut scratch,
-                &mut marks,
-                0,
-                steps,
-            );
-            assert_eq!(report.number, 0);
+            run_second(LIFE, &sizes, &grid, steps);
         }
-    });
-    let by_hand = best(times, || {
+    };
+    let mut by_hand = || {
         for _ in 0..runs {
             let mut left = grid.clone();
             let mut next = vec![0; left.len()];
@@ -278,8 +280,8 @@ fn on_side(side: usize, times: usize, steps: i64) -> [f64; 3] {
             }
             assert_eq!(left.len(), side * side);
         }
-    });
-    [proved, second, by_hand].map(|t| t / runs as f64)
+    };
+    best_each(times, [&mut proved, &mut second, &mut by_hand]).map(|t| t / runs as f64)
 }
 
 /// A source of about so many tokens: constants, and one assignment to `cell`.
@@ -296,28 +298,17 @@ fn on_tokens(tokens: usize, times: usize) -> [f64; 2] {
     let source = long_source(tokens);
     let mut rooms = Rooms::new(1, 1);
     let again = 200;
-    let proved = best(times, || {
+    let mut proved = || {
         for _ in 0..again {
             proved::run(Mode::Full, &source, &[1], &mut [0], &mut rooms, 0);
         }
-    });
-    let second = best(times, || {
+    };
+    let mut second = || {
         for _ in 0..again {
-            let report = reference::run_full(
-                source.as_bytes(),
-                16_384,
-                256,
-                &[1],
-                &mut [0],
-                &mut [0],
-                &mut [0],
-                0,
-                0,
-            );
-            assert_eq!(report.number, 0);
+            run_second(&source, &[1], &[0], 0);
         }
-    });
-    [proved / f64::from(again), second / f64::from(again)]
+    };
+    best_each(times, [&mut proved, &mut second]).map(|t| t / f64::from(again))
 }
 
 /// How the times grow with the side of the grid, and with the tokens of the source.

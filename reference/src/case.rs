@@ -1,6 +1,6 @@
 //! Cases, their replies, and their binary form.
 
-use crate::interpret::{run_full, Report, WORDS};
+use crate::interpret::{run_full, Lent, Report, WORDS};
 use crate::names::MAX_NAMES;
 use crate::open::run_quiet;
 use crate::parse::{check, Reply};
@@ -87,17 +87,15 @@ pub fn run_case(case: &RunCase, quiet: bool) -> Outcome {
     let mut scratch = scratch_before.clone();
     let mut marks = marks_before.clone();
     let run = if quiet { run_quiet } else { run_full };
-    let report = run(
-        &case.source,
-        case.words,
-        case.names,
-        &case.shape,
-        &mut grid,
-        &mut scratch,
-        &mut marks,
-        case.start,
-        case.steps,
-    );
+    let lent = Lent {
+        source: &case.source,
+        words: case.words,
+        names: case.names,
+        shape: &case.shape,
+        start: case.start,
+        steps: case.steps,
+    };
+    let report = run(&lent, &mut grid, &mut scratch, &mut marks);
     let began = began(report.number);
     Outcome {
         report,

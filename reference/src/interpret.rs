@@ -301,33 +301,14 @@ pub fn admit(lent: &Lent, grid: &[i32], scratch: &[i32], marks: &[u8]) -> Result
 }
 
 /// The full run.
-#[allow(clippy::too_many_arguments)]
-pub fn run_full(
-    source: &[u8],
-    words: usize,
-    names: usize,
-    shape: &[u32],
-    grid: &mut [i32],
-    scratch: &mut [i32],
-    marks: &mut [u8],
-    start: i64,
-    steps: i64,
-) -> Report {
-    let lent = Lent {
-        source,
-        words,
-        names,
-        shape,
-        start,
-        steps,
-    };
-    let program = match admit(&lent, grid, scratch, marks) {
+pub fn run_full(lent: &Lent, grid: &mut [i32], scratch: &mut [i32], marks: &mut [u8]) -> Report {
+    let program = match admit(lent, grid, scratch, marks) {
         Ok(program) => program,
         Err(report) => return report,
     };
     let mut report = Report::default();
-    for done in 0..steps {
-        match step(&program, shape, (start + done) as i32, grid, scratch) {
+    for time in lent.start..lent.start + lent.steps {
+        match step(&program, lent.shape, time as i32, grid, scratch) {
             Ok(()) => {
                 grid.copy_from_slice(scratch);
                 report.count += marks.len() as u64;

@@ -19,6 +19,6 @@ pub mod tree;
 pub mod vectors;
 pub mod written;
 
-pub use interpret::{run_full, Report};
+pub use interpret::{run_full, Lent, Report};
 pub use open::run_quiet;
 pub use parse::{check, Checked, Reply};

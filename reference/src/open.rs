@@ -37,27 +37,8 @@ fn closed_cells_keep(open: &[bool], fields: usize, old: &[i32], new: &[i32]) -> 
 }
 
 /// The quiet run.
-#[allow(clippy::too_many_arguments)]
-pub fn run_quiet(
-    source: &[u8],
-    words: usize,
-    names: usize,
-    shape: &[u32],
-    grid: &mut [i32],
-    scratch: &mut [i32],
-    marks: &mut [u8],
-    start: i64,
-    steps: i64,
-) -> Report {
-    let lent = Lent {
-        source,
-        words,
-        names,
-        shape,
-        start,
-        steps,
-    };
-    let program = match admit(&lent, grid, scratch, marks) {
+pub fn run_quiet(lent: &Lent, grid: &mut [i32], scratch: &mut [i32], marks: &mut [u8]) -> Report {
+    let program = match admit(lent, grid, scratch, marks) {
         Ok(program) => program,
         Err(report) => return report,
     };
@@ -65,8 +46,8 @@ pub fn run_quiet(
     let fields = program.fields.len();
     let mut open = vec![true; marks.len()];
     let mut report = Report::default();
-    for done in 0..steps {
-        match step(&program, shape, (start + done) as i32, grid, scratch) {
+    for time in lent.start..lent.start + lent.steps {
+        match step(&program, lent.shape, time as i32, grid, scratch) {
             Ok(()) => {
                 report.count += open.iter().filter(|&&is_open| is_open).count() as u64;
                 report.steps += 1;
@@ -77,7 +58,7 @@ pub fn run_quiet(
                         .zip(scratch.chunks(fields))
                         .map(|(old, new)| old != new)
                         .collect();
-                    open = open_cells(shape, &reach, &changed);
+                    open = open_cells(lent.shape, &reach, &changed);
                 }
                 grid.copy_from_slice(scratch);
             }

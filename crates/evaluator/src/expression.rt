@@ -193,7 +193,7 @@ pub fn expression(
 
 // The expression at a position, of operators of a level or tighter, worked out by every way that an expression can go. Operators of one level go
 // from left to right.
-fn chain(
+pub fn chain(
     leaves: &[u32; 32776],
     words: &[u32],
     sizes: &[u32],

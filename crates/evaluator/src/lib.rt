@@ -22,14 +22,14 @@ pub struct Rule {
     pub slots: u32,
 }
 
-// What stays the same while a cell is evaluated: the number of tokens, the position of the token that has the first field's range, the numbers of
-// fields and of slots, the cell's number, and the time.
+// What stays the same while a cell is evaluated: the position of the token that has the first field's range, the numbers of fields and of slots, the
+// cell's number, the number of tokens, and the time.
 pub struct Site {
-    pub tokens: usize,
     pub base: usize,
     pub fields: usize,
     pub slots: usize,
     pub cell: usize,
+    pub tokens: usize,
     pub time: u32,
 }
 

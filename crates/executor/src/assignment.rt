@@ -11,7 +11,7 @@ ghost use Rattle.executor.specs.Running.{field-range, Stores, AssignsOne
 use crate::Going;
 use evaluator::Site;
 use evaluator::Told;
-use evaluator::expression::expression;
+use evaluator::expression::chain;
 use evaluator::expression::quick;
 use evaluator::simple::simple;
 use evaluator::table::link_at;
@@ -133,7 +133,7 @@ fn long(
         1,
     );
     let Told::Found(v, next) = short else {
-        return expression(
+        return chain(
             leaves,
             words,
             sizes,

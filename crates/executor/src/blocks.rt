@@ -173,16 +173,20 @@ pub fn block(
                         top += 1;
                         here = m;
                     } else {
+                        // Copies, so that the loop's own need not be read from memory again.
+                        let same = site;
+                        let table = words;
+                        let old = grid;
                         let inner = block(
                             leaves,
-                            words,
+                            table,
                             sizes,
                             place,
-                            grid,
+                            old,
                             vars,
                             index,
                             next,
-                            site,
+                            same,
                             depth,
                             m,
                         );
@@ -312,16 +316,20 @@ fn forall(
     let mut k: u64 = 0;
     while k < count {
         set_index(index, depth, low, high, k);
+        // Copies, as in `block`.
+        let same = site;
+        let table = words;
+        let old = grid;
         let flow = block(
             leaves,
-            words,
+            table,
             sizes,
             place,
-            grid,
+            old,
             vars,
             index,
             next,
-            site,
+            same,
             depth + 1,
             body,
         );

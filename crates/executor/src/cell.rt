@@ -57,16 +57,17 @@ pub fn evaluate_cell(
     ensures { λ r. ⌜ Evaluates (now (words .entry)) rule (now (sizes .entry)) cell (now (grid .entry)) (now (next .exit)) time r ⌝ }
 {
     let slots = rule.slots as usize;
-    clear(vars, slots);
-    copy_fields(grid, cell, next);
+    let fields = rule.fields as usize;
     let site = Site {
-        tokens: rule.tokens,
         base: rule.base,
-        fields: rule.fields as usize,
+        fields: fields,
         slots: slots,
         cell: cell,
+        tokens: rule.tokens,
         time: time,
     };
+    clear(vars, slots);
+    copy_fields(grid, cell, next);
     let flow = block(
         leaves,
         words,

@@ -14,7 +14,7 @@ use Rattle.value.specs.Worked.{wrap-of}
 use Rattle.automaton.specs.Shape.{product, cell-number, coordinates, shift, neighbour, Bound, width, box-indices, reach-of, opens-of}
 use Rattle.automaton.specs.ShapeLaws.{Inside, Positive, Alike, Within, AllWithin, product-pos, wrap-mod, reach-opens, mem-box, box-alike, coordinates-inside}
 use Rattle.stepper.specs.Reach.{own-only}
-use Rattle.marking.specs.Noting.{note-all, rows, line, box-cells, opened-from, opened-count, cells-opened, Boxed}
+use Rattle.marking.specs.Noting.{note-all, rows, line, lines, box-cells, opened-from, opened-count, cells-opened, Boxed}
 use Rattle.marking.proofs.NotingLaws.{mem-rows, rows-same, Noted, noted-done}
 
 -- ---- one dimension
@@ -182,6 +182,28 @@ box-same (n ∷ ns) first first′ count count′ f g base =
     ∙ ap (λ (x : ℕ). box-cells ns (λ k. first′ (suc k)) (λ k. count′ (suc k)) (base * n + (x + e) % n)) (f 0 (omega arith)))
     ∙ ap (rows _) (g 0 (omega arith))
 
+-- ---- a line for each coordinate of the dimension before the last
+
+module _ (base n m cells : ℕ) (room : (base + 1) * (n * m) ≤ cells) where
+  -- the cells of one coordinate lie within the cells
+  pub line-room : (j : ℕ) → j < n → (base * n + j + 1) * m ≤ cells
+  line-room j l =
+      let a : base * n + j + 1 ≤ (base + 1) * n = omega arith in
+      let b : (base * n + j + 1) * m ≤ (base + 1) * n * m = mul-le-mul-right m a in
+      omega arith
+
+  pub line-base : 0 < m → (j : ℕ) → j < n → base * n + j + 1 ≤ cells
+  line-base h j l = omega (arith, line-room j l, mul-le-mul-left (base * n + j + 1) h)
+
+  pub line-count : 0 < m → (j : ℕ) → j < n → n ≤ cells
+  line-count h j l = let k : n - 1 < n = omega arith in omega (arith, line-base h (n - 1) k)
+
+-- the line of the coordinate that a loop has come to
+pub line-noted : (base n first m start width : ℕ) (marks₀ marks marks′ : List ℕ) (j e : ℕ) → Noted (lines base n first m start width) n first marks₀ marks j e
+    → marks′ ≡ note-all (rows (line ((base * n + j) * m) m start) width) marks → marks′ ≡ note-all (lines base n first m start width e) marks
+line-noted base n first m start width marks₀ marks marks′ j e s q =
+    q ∙ ap (λ (x : ℕ). note-all (rows (line ((base * n + x) * m) m start) width) marks) (s .at)
+
 -- ---- one dimension after the other
 
 abbrev pub entry : List ℕ → ℕ → ℕ
@@ -205,6 +227,21 @@ box-line [] firsts counts base h = absurd (omega arith)
 box-line (n ∷ []) firsts counts base h = refl
 box-line (n ∷ m ∷ ns) firsts counts base h = absurd (omega arith)
 
+pub box-lines : (ns firsts counts : List ℕ) (base : ℕ) → length ns ≡ 2
+    → box-cells ns (entry firsts) (entry counts) base
+    ≡ rows (lines base (entry ns 0) (entry firsts 0) (entry ns 1) (entry firsts 1) (entry counts 1)) (entry counts 0)
+unfolding box-cells
+box-lines [] firsts counts base h = absurd (omega arith)
+box-lines (n ∷ []) firsts counts base h = absurd (omega arith)
+box-lines (n ∷ m ∷ []) firsts counts base h = refl
+box-lines (n ∷ m ∷ l ∷ ns) firsts counts base h = absurd (omega arith)
+
+last-size : (ns : List ℕ) → length ns ≡ 2 → product (drop 1 ns) ≡ entry ns 1
+last-size [] h = absurd (omega arith)
+last-size (n ∷ []) h = absurd (omega arith)
+last-size (n ∷ m ∷ []) h = omega arith
+last-size (n ∷ m ∷ l ∷ ns) h = absurd (omega arith)
+
 room-split : (ns : List ℕ) → 0 < length ns → product ns ≡ entry ns 0 * product (drop 1 ns)
 room-split [] h = absurd (omega arith)
 room-split (n ∷ ns) h = refl
@@ -224,15 +261,6 @@ module _ (ns firsts counts : List ℕ) (base cells : ℕ) (s : Boxed ns firsts c
   whole : (base + 1) * (n * product (drop 1 ns)) ≤ cells
   whole = rw (en, ← room-split ns (s .some-dims)) (s .room)
 
-  -- the cells of one coordinate lie within the cells
-  room-rest : (j : ℕ) → j < n → (base * n + j + 1) * product (drop 1 ns) ≤ cells
-  room-rest j l =
-      let p = product (drop 1 ns) in
-      let a : base * n + j + 1 ≤ (base + 1) * n = omega arith in
-      let b : (base * n + j + 1) * p ≤ (base + 1) * n * p = mul-le-mul-right p a in
-      let e = whole in
-      omega arith
-
   pub boxed-room : base * n + n ≤ cells
   boxed-room = omega (arith, whole, mul-le-mul-left ((base + 1) * n) (product-pos (drop 1 ns) (rest-positive ns (s .positive))))
 
@@ -244,7 +272,7 @@ module _ (ns firsts counts : List ℕ) (base cells : ℕ) (s : Boxed ns firsts c
     firsts-fit = omega (arith, length-drop 1 ns, length-drop 1 firsts, s .firsts-fit);
     counts-fit = omega (arith, length-drop 1 ns, length-drop 1 counts, s .counts-fit);
     inside = λ k h. rw (getD-drop 1 firsts k 0, getD-drop 1 ns k 0) (s .inside (1 + k) (omega (arith, length-drop 1 ns)));
-    room = room-rest j l;
+    room = line-room base n (product (drop 1 ns)) cells whole j l;
     few = s .few;
   }
 
@@ -257,6 +285,18 @@ module _ (ns firsts counts : List ℕ) (base cells : ℕ) (s : Boxed ns firsts c
   line-done marks marks′ h q =
       q ∙ ap (λ (x : ℕ). note-all (rows (line (base * x) x (entry firsts 0)) (entry counts 0)) marks) en
       ∙ ap (λ (cs : List ℕ). note-all cs marks) (sym (box-line ns firsts counts base h))
+
+  -- the last two dimensions are some lines
+  pub boxed-lines : {m : ℕ} → length ns ≡ 2 → m ≡ entry ns 1 → (entry firsts 0 < n) × (entry firsts 1 < m) × ((base + 1) * (n * m) ≤ cells) × (cells ≤ 1048576)
+  boxed-lines h em = (boxed-first, rw em (s .inside 1 (omega arith)), rw (em, ← last-size ns h) whole, s .few)
+
+  pub lines-done : (marks marks′ : List ℕ) {m : ℕ} → length ns ≡ 2 → m ≡ entry ns 1
+      → marks′ ≡ note-all (rows (lines base n (entry firsts 0) m (entry firsts 1) (entry counts 1)) (entry counts 0)) marks
+      → marks′ ≡ note-all (box-cells ns (entry firsts) (entry counts) base) marks
+  lines-done marks marks′ {m} h em q =
+      q ∙ ap (λ (x : ℕ). note-all (rows (lines base x (entry firsts 0) m (entry firsts 1) (entry counts 1)) (entry counts 0)) marks) en
+      ∙ ap (λ (x : ℕ). note-all (rows (lines base (entry ns 0) (entry firsts 0) x (entry firsts 1) (entry counts 1)) (entry counts 0)) marks) em
+      ∙ ap (λ (cs : List ℕ). note-all cs marks) (sym (box-lines ns firsts counts base h))
 
   -- any other is one row after the other
   pub row-done : (marks₀ marks marks′ : List ℕ) (j e : ℕ) → Noted (box-row ns firsts counts base) n (entry firsts 0) marks₀ marks j e

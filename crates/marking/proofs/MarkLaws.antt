@@ -1,7 +1,7 @@
 -- The laws of marks, and of cells that changed.
 use Prim.Native.Nat.{ℕ, suc, _+_, _*_, _/_, _%_, _≤_, _<_}
 use native.Mathlib.Nat.{not-suc-le-zero}
-use native.Mathlib.Decide.{ℕ-discrete}
+use native.Mathlib.Decide.{ℕ-discrete, decLe}
 use native.Mathlib.Omega.{arith}
 use mathlib.Core.Path.{_≡_, refl, sym, ap, _∙_}
 use mathlib.Core.Bool.{Bool, true, false, not}
@@ -16,6 +16,7 @@ use Rattle.value.specs.Laws.{eqZ-true}
 use Rattle.automaton.specs.Listed.{getD-list-of, list-of-ext, last-or-below}
 use Rattle.automaton.specs.Grid.{cell-of, differ}
 use Rattle.automaton.specs.GridLaws.{differ-false}
+use Rattle.skipping.specs.Clear.{Clear}
 use Rattle.marking.specs.Noting.{NextOdd, Halved}
 
 -- ---- cells that changed
@@ -72,8 +73,13 @@ module _ (old grid : List ℤ) (fields c : ℕ) where
 pub next-start : (marks : List ℕ) (from : ℕ) → from ≤ length marks → NextOdd marks from from
 next-start marks from l = record { low = omega arith; end = l; passed = λ k p q. absurd (omega arith) }
 
-pub next-more : (marks : List ℕ) (from c : ℕ) → NextOdd marks from c → c < length marks → (getD marks c 0 % 2 ≡ 1 → ⊥) → NextOdd marks from (c + 1)
-next-more marks from c s l out = record { low = omega (arith, s .low); end = omega arith; passed = λ k p q. at k p (last-or-below (let w : k < suc c = omega arith in w)) }
+-- a cell with an even mark is passed over, and those without a mark behind it
+pub next-more : (marks : List ℕ) (from c : ℕ) {r : ℕ} → NextOdd marks from c → c < length marks → (getD marks c 0 % 2 ≡ 1 → ⊥) → Clear marks (c + 1) r → NextOdd marks from r
+next-more marks from c {r} s l out z = record {
+  low = omega (arith, s .low, z .onward);
+  end = z .within;
+  passed = λ k p q. at k p q (decLe k c);
+}
   where
     even : (x : ℕ) → (x % 2 ≡ 1 → ⊥) → x % 2 ≡ 0
     even x h = go (ℕ-discrete (x % 2) 1)
@@ -82,9 +88,13 @@ next-more marks from c s l out = record { low = omega (arith, s .low); end = ome
         go (yes e) = absurd (h e)
         go (no e) = omega arith
 
-    at : (k : ℕ) → from ≤ k → (k ≡ c) ⊎ (k < c) → getD marks k 0 % 2 ≡ 0
-    at k p (inl r) = rw r (even (getD marks c 0) out)
-    at k p (inr r) = s .passed k p r
+    known : (k : ℕ) → from ≤ k → (k ≡ c) ⊎ (k < c) → getD marks k 0 % 2 ≡ 0
+    known k p (inl e) = rw e (even (getD marks c 0) out)
+    known k p (inr e) = s .passed k p e
+
+    at : (k : ℕ) → from ≤ k → k < r → Dec (k ≤ c) → getD marks k 0 % 2 ≡ 0
+    at k p q (yes d) = known k p (last-or-below (let w : k < suc c = omega arith in w))
+    at k p q (no d) = ap (λ (x : ℕ). x % 2) (z .clear k (omega arith) q)
 
 -- ---- halving
 

@@ -72,8 +72,11 @@ module _ (ns : List ℕ) (reach : Reach) (s : Shaped ns reach) (k : ℕ) (l : k 
   pub clipped-ready : {back ahead : ℕ} → back ≡ bound-at reach k .back → ahead ≡ bound-at reach k .ahead → (back ≤ n) × (ahead ≤ n) × (n ≤ 1048576)
   clipped-ready eb ea = let near = s .near k l in (omega arith, omega arith, size-few)
 
-  pub first-ready : (rest : ℕ) {ahead : ℕ} → ahead ≡ bound-at reach k .ahead → (rest % n < n) × (ahead ≤ n) × (n ≤ 1048576)
-  first-ready rest ea = let near = s .near k l in (mod-lt rest size-some, omega arith, size-few)
+  pub first-ready : (rest : ℕ) {own ahead : ℕ} → own ≡ rest % getD ns k 0 → ahead ≡ bound-at reach k .ahead → (own < n) × (ahead ≤ n) × (n ≤ 1048576)
+  first-ready rest eo ea =
+      let near = s .near k l in
+      let below = mod-lt rest (size-positive ns (s .positive) k l) in
+      (omega arith, omega arith, size-few)
 
 -- ---- the counts
 
@@ -125,10 +128,11 @@ module _ (ns : List ℕ) (reach : Reach) (x : ℕ) where
     each = λ m l. absurd (not-suc-le-zero l);
   }
 
-  pub placing-more : (firsts : List ℕ) (rest k j : ℕ) {n ahead v : ℕ} → Positive ns → Placing ns reach x firsts rest k → k ≡ suc j → j < 3 → n ≡ getD ns j 0
-      → ahead ≡ bound-at reach j .ahead → v ≡ (rest % n + (n - ahead)) % n → Placing ns reach x (set firsts j v) (rest / n) j
-  placing-more firsts rest k j {n} {ahead} {v} positive s ek l en ea ev = record {
-    place = rest % n ∷ s .place;
+  pub placing-more : (firsts : List ℕ) (rest k j : ℕ) {own size ahead v : ℕ} → Positive ns → Placing ns reach x firsts rest k → k ≡ suc j → j < 3
+      → own ≡ rest % getD ns j 0 → size ≡ getD ns j 0 → ahead ≡ bound-at reach j .ahead → v ≡ (own + (size - ahead)) % size
+      → Placing ns reach x (set firsts j v) (rest / getD ns j 0) j
+  placing-more firsts rest k j {own} {size} {ahead} {v} positive s ek l eo es ea ev = record {
+    place = rest % getD ns j 0 ∷ s .place;
     len = length-set firsts j v ∙ s .len;
     turn = omega (arith, s .turn);
     inside = rw cons (mod-lt rest some, rw ek at (s .inside));
@@ -136,14 +140,17 @@ module _ (ns : List ℕ) (reach : Reach) (x : ℕ) where
     each = at;
   }
     where
+      n : ℕ
+      n = getD ns j 0
+
       below : j < length ns
       below = omega (arith, s .turn)
 
       some : 0 < n
-      some = rw en (size-positive ns positive j below)
+      some = size-positive ns positive j below
 
       cons : drop j ns ≡ n ∷ drop (suc j) ns
-      cons = drop-cons ns j 0 below ∙ ap (λ (y : ℕ). y ∷ drop (suc j) ns) (sym en)
+      cons = drop-cons ns j 0 below
 
       split : (r n p y : ℕ) → r / n * n + r % n ≡ r → r * p + y ≡ r / n * (n * p) + (r % n * p + y)
       split r n p y e = ap (λ (z : ℕ). z * p + y) (sym e) ∙ regroup (r / n) n (r % n) p y
@@ -152,7 +159,7 @@ module _ (ns : List ℕ) (reach : Reach) (x : ℕ) where
       number′ = s .number ∙ rw (ek, cons) (split rest n (product (drop (suc j) ns)) (cell-number (drop (suc j) ns) (s .place)) (div-add-mod' rest n))
 
       at : (m : ℕ) → m < suc (length (s .place)) → getD (set firsts j v) (j + m) 0 ≡ opened-from (getD ns (j + m) 0) (bound-at reach (j + m)) (getD (rest % n ∷ s .place) m 0)
-      at zero h = rw (add-zero j) (getD-set-same firsts j v 0 (omega (arith, s .len)) ∙ ev ∙ simp (en, ea))
+      at zero h = rw (add-zero j) (getD-set-same firsts j v 0 (omega (arith, s .len)) ∙ ev ∙ simp (eo, es, ea))
       at (suc m) h =
           let e : j + suc m ≡ k + m = omega arith in
           let d : k + m ≡ j → ⊥ = λ r. absurd (let w = r in omega arith) in

@@ -29,6 +29,10 @@ rows f (suc k) = rows f k ++ f k
 abbrev pub line : ℕ → ℕ → ℕ → ℕ → List ℕ
 line base n first e = (base + (first + e) % n) ∷ []
 
+-- the e-th of some lines: that of the cells with j in the dimension before, for the e-th coordinate j from a first one on, wrapped
+abbrev pub lines : ℕ → ℕ → ℕ → ℕ → ℕ → ℕ → ℕ → List ℕ
+lines base n first m start width e = rows (line ((base * n + (first + e) % n) * m) m start) width
+
 -- the cells of a box: in each dimension the coordinates from a first one on, as many as a count, wrapped.
 -- `base` is the number that the coordinates of the dimensions before give.
 unfoldable pub box-cells : List ℕ → (ℕ → ℕ) → (ℕ → ℕ) → ℕ → List ℕ

@@ -7,6 +7,7 @@ ghost use lib.IntN.{pos};
 ghost use Rattle.value.specs.Number.{eqZ};
 ghost use Rattle.automaton.specs.Grid.{cell-of, differ};
 ghost use Rattle.marking.specs.Noting.{NextOdd, Halved};
+use skipping::skip_clear;
 
 // Whether two grids differ in an entry.
 fn entry_differs(old: &[i32], grid: &[i32], i: usize) -> bool
@@ -45,7 +46,7 @@ pub fn next_odd(marks: &[u8], from: usize) -> usize
         if marks[c] % 2 == 1 {
             return c;
         }
-        c += 1;
+        c = skip_clear(marks, c + 1);
     }
     c
 }

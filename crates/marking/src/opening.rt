@@ -4,7 +4,7 @@ ghost use Prim.Native.Nat.{suc, _+_, _-_, _*_, _%_, _<_, _≤_, min};
 ghost use lib.ListN.{length, getD};
 ghost use Rattle.automaton.specs.Shape.{product};
 ghost use Rattle.stepper.specs.Fitting.{bound-at};
-ghost use Rattle.marking.specs.Noting.{note-all, rows, line, box-cells, opened-from, opened-count, cells-opened, Boxed, Shaped, Firsts, Counts};
+ghost use Rattle.marking.specs.Noting.{note-all, rows, line, lines, box-cells, opened-from, opened-count, cells-opened, Boxed, Shaped, Firsts, Counts};
 use stepper::Reach;
 
 fn wide(x: u32) -> usize
@@ -88,21 +88,19 @@ pub fn counts_of(sizes: &[u32], reach: Reach) -> [usize; 3]
     counts
 }
 
-// For each dimension, the first coordinate that a change of the cell x opens.
-fn firsts_of(sizes: &[u32], reach: Reach, x: usize) -> [usize; 3]
-    requires { ⌜ Shaped (now sizes) reach × (x < product (now sizes)) ⌝ }
-    ensures { λ r. ⌜ Firsts (now (sizes .entry)) reach x r ⌝ }
+// Sets, for each dimension, the first coordinate that a change of the cell x opens.
+fn set_firsts(sizes: &[u32], reach: Reach, x: u32, firsts: &mut [usize])
+    requires { ⌜ Shaped (now sizes) reach × (x < product (now sizes)) × (length (now firsts) ≡ 3) ⌝ }
+    ensures { λ _. ⌜ Firsts (now (sizes .entry)) reach x (now (firsts .exit)) ⌝ }
 {
-    let mut firsts = [0; 3];
     let mut rest = x;
     let mut k = sizes.len();
     while 0 < k {
         k -= 1;
-        let n = wide(sizes[k]);
-        firsts[k] = first_coordinate(rest % n, ahead_at(reach, k), n);
+        let n = sizes[k];
+        firsts[k] = first_coordinate(wide(rest % n), ahead_at(reach, k), wide(n));
         rest = rest / n;
     }
-    firsts
 }
 
 // Notes the cells base + j for the coordinates j from a first one on, as many as `count`, wrapped in a dimension of n coordinates.
@@ -115,6 +113,30 @@ fn note_line(base: usize, n: usize, first: usize, count: usize, marks: &mut [u8]
     while e < count {
         let c = base + j;
         marks[c] = marks[c] % 2 + 2;
+        j = next_coordinate(j, n);
+        e += 1;
+    }
+}
+
+// Notes a line in the last dimension, of m coordinates, for each coordinate j of the one before it, of n: those from a first one on, as many as
+// `count`, wrapped. `base` is the number that the coordinates of the dimensions before give; the lines begin at `start` and are of `width` cells.
+fn note_lines(
+    base: usize,
+    n: usize,
+    first: usize,
+    count: usize,
+    m: usize,
+    start: usize,
+    width: usize,
+    marks: &mut [u8],
+)
+    requires { ⌜ (first < n) × (start < m) × ((base + 1) * (n * m) ≤ length (now marks)) × (length (now marks) ≤ 1048576) ⌝ }
+    ensures { λ _. ⌜ now (marks .exit) ≡ note-all (rows (lines base n first m start width) count) (now (marks .entry)) ⌝ }
+{
+    let mut j = first;
+    let mut e = 0;
+    while e < count {
+        note_line((base * n + j) * m, m, start, width, marks);
         j = next_coordinate(j, n);
         e += 1;
     }
@@ -133,6 +155,19 @@ fn note_box(sizes: &[u32], firsts: &[usize], counts: &[usize], base: usize, mark
         note_line(base * n, n, j, count, marks);
         return;
     }
+    if sizes.len() == 2 {
+        note_lines(
+            base,
+            n,
+            j,
+            count,
+            wide(sizes[1]),
+            firsts[1],
+            counts[1],
+            marks,
+        );
+        return;
+    }
     let mut e = 0;
     while e < count {
         note_box(&sizes[1..], &firsts[1..], &counts[1..], base * n + j, marks);
@@ -146,6 +181,7 @@ pub fn open_from(sizes: &[u32], reach: Reach, counts: &[usize; 3], x: usize, mar
     requires { ⌜ Shaped (now sizes) reach × Counts (now sizes) reach (now counts) × (length (now marks) ≡ product (now sizes)) × (x < product (now sizes)) ⌝ }
     ensures { λ _. ⌜ now (marks .exit) ≡ note-all (cells-opened (now (sizes .entry)) (bound-at reach) x) (now (marks .entry)) ⌝ }
 {
-    let firsts = firsts_of(sizes, reach, x);
+    let mut firsts = [0; 3];
+    set_firsts(sizes, reach, x as u32, &mut firsts);
     note_box(sizes, &firsts, counts, 0, marks);
 }

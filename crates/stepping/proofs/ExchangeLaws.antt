@@ -1,7 +1,7 @@
 -- The exchange of the marked cells.
 use Prim.Native.Nat.{ℕ, _+_, _*_, _≤_, _<_}
 use native.Mathlib.Omega.{arith}
-use native.Mathlib.Nat.{mul-le-mul}
+use native.Mathlib.Nat.{mul-le-mul, mul-le-mul-right}
 use mathlib.Core.Path.{_≡_, refl, sym, ap, _∙_}
 use mathlib.Core.Logic.{_⊎_, inl, inr}
 use mathlib.Core.Bool.{true, cond}
@@ -14,8 +14,7 @@ use Rattle.automaton.specs.Step.{marked}
 use Rattle.automaton.specs.Grid.{cell-of}
 use Rattle.stepping.specs.Turns.{NextMarked, Swapping, Swapped, Exchanging, Exchanged}
 use Rattle.stepping.proofs.ScanLaws.{below-or}
-use Rattle.stepping.proofs.TurnLaws.{cell-room}
-use Rattle.stepping.proofs.PartLaws.{cell-kept, cell-same}
+use Rattle.stepping.proofs.PartLaws.{entry-before, cell-same}
 
 -- ---- entries
 
@@ -49,14 +48,19 @@ pub record Half (fields : ℕ) (marks : List ℕ) (a b a′ : List ℤ) (i : ℕ
   pub done : (c : ℕ) → c < i → cell-of fields a′ c ≡ cond (marked marks c) (cell-of fields b c) (cell-of fields a c)
   pub rest : (c : ℕ) → i ≤ c → cell-of fields a′ c ≡ cell-of fields a c
 
--- room for a cell's fields, and not too much
-pub exchange-room : {a b marks fields : ℕ} (cell : ℕ) → Exchanging a b marks fields → cell < marks → (cell * fields + fields ≤ a) × (a ≤ 8388608)
-exchange-room {a} {b} {marks} {fields} cell x l =
+-- the fields of the cells up to one are entries of the grid, of which there are not too many
+pub exchange-room : {a b marks fields : ℕ} (past : ℕ) → Exchanging a b marks fields → past ≤ marks → (past * fields ≤ a) × (a ≤ 8388608)
+exchange-room {a} {b} {marks} {fields} past x l =
     let e = x .entries in
-    (omega (arith, cell-room marks fields cell l), omega (arith, mul-le-mul {n₁ = marks} {m₁ = fields} {n₂ = 1048576} {m₂ = 8} (x .few) (x .most)))
+    (omega (arith, mul-le-mul-right {m = past} {n = marks} fields l), omega (arith, mul-le-mul {n₁ = marks} {m₁ = fields} {n₂ = 1048576} {m₂ = 8} (x .few) (x .most)))
 
-pub swapping : {a b marks fields a′ b′ : ℕ} (cell : ℕ) → Exchanging a b marks fields → cell < marks → a′ ≡ a → b′ ≡ b → Swapping a′ b′ (cell * fields) (cell * fields + fields)
-swapping cell x l e e′ = record { alike = e′ ∙ x .alike ∙ sym e; order = omega arith; within = let r = exchange-room cell x l .0 in omega arith }
+pub swapping : {a b marks fields a′ b′ : ℕ} (cell past : ℕ) → Exchanging a b marks fields → cell < past → past ≤ marks → a′ ≡ a → b′ ≡ b
+    → Swapping a′ b′ (cell * fields) (past * fields)
+swapping {fields} cell past x o l e e′ = record {
+  alike = e′ ∙ x .alike ∙ sym e;
+  order = mul-le-mul-right {m = cell} {n = past} fields (omega arith);
+  within = let r = exchange-room past x l .0 in omega arith;
+}
 
 module _ (fields : ℕ) (marks : List ℕ) (a b : List ℤ) where
   pub half-start : Half fields marks a b a 0
@@ -74,21 +78,21 @@ module _ (fields : ℕ) (marks : List ℕ) (a b : List ℤ) where
       by c l (inl m) = h .done c m
       by c l (inr m) = rw (n .skipped c m l) (h .rest c m)
 
-  -- a marked cell is exchanged
-  pub half-turn : (a′ b′ a″ : List ℤ) (i : ℕ) → Half fields marks a b a′ i → cell-of fields b′ i ≡ cell-of fields b i → marked marks i ≡ true
-      → Swapped a′ b′ a″ (i * fields) (i * fields + fields) → Half fields marks a b a″ (i + 1)
-  half-turn a′ b′ a″ i h own m s = record {
+  -- a run of marked cells is exchanged
+  pub half-run : (a′ b′ a″ : List ℤ) (i r : ℕ) → Half fields marks a b a′ i → Half fields marks b a b′ i → i < r → ((c : ℕ) → i ≤ c → c < r → marked marks c ≡ true)
+      → Swapped a′ b′ a″ (i * fields) (r * fields) → Half fields marks a b a″ r
+  half-run a′ b′ a″ i r h h′ o m s = record {
     size = s .size ∙ h .size;
-    done = λ c l. by c (last-or-below (omega arith));
-    rest = λ c l. kept c (λ q. absurd (let w = q in omega arith)) ∙ h .rest c (omega arith);
+    done = λ c l. by c l (below-or c i);
+    rest = λ c l. cell-same fields c a′ a″ (λ k n. s .above _ (omega (arith, mul-le-mul-right {m = r} {n = c} fields l))) ∙ h .rest c (omega arith);
   }
     where
-      kept : (c : ℕ) → (c ≡ i → ⊥) → cell-of fields a″ c ≡ cell-of fields a′ c
-      kept = cell-kept fields i a′ a″ (s .below) (s .above)
-
-      by : (c : ℕ) → (c ≡ i) ⊎ (c < i) → cell-of fields a″ c ≡ cond (marked marks c) (cell-of fields b c) (cell-of fields a c)
-      by c (inl q) = rw (q, m) (cell-same fields i b′ a″ (s .inside) ∙ own)
-      by c (inr q) = kept c (λ w. absurd (let u = w in omega arith)) ∙ h .done c q
+      by : (c : ℕ) → c < r → (c < i) ⊎ (i ≤ c) → cell-of fields a″ c ≡ cond (marked marks c) (cell-of fields b c) (cell-of fields a c)
+      by c l (inl q) = cell-same fields c a′ a″ (λ k n. s .below _ (entry-before fields c i k q n)) ∙ h .done c q
+      by c l (inr q) =
+          rw (m c q l)
+          (cell-same fields c b′ a″ (λ k n. s .inside _ (omega (arith, mul-le-mul-right {m = i} {n = c} fields q)) (entry-before fields c r k l n))
+          ∙ h′ .rest c q)
 
   pub half-end : (a′ : List ℤ) (i : ℕ) → Half fields marks a b a′ i → length marks ≤ i → Exchanged fields marks a b a′
   half-end a′ i h l = record { size = h .size; cells = λ c m. h .done c (omega arith) }

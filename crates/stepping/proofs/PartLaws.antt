@@ -13,12 +13,16 @@ use Rattle.automaton.specs.Grid.{cell-of, grid-of}
 use Rattle.automaton.specs.GridLaws.{some-field}
 use Rattle.stepping.proofs.ScanLaws.{below-or}
 
+-- an entry of a cell lies before the fields of a later one
+pub entry-before : (fields c cell k : ℕ) → c < cell → k < fields → c * fields + k < cell * fields
+entry-before fields c cell k l m = omega (arith, mul-le-mul-right {m = suc c} {n = cell} fields l)
+
 -- an entry of another cell lies before a cell's fields, or past them
 apart : (fields cell c k : ℕ) → (c ≡ cell → ⊥) → k < fields → (c * fields + k < cell * fields) ⊎ (cell * fields + fields ≤ c * fields + k)
 apart fields cell c k d l = go (below-or c cell) (below-or cell c)
   where
     go : (c < cell) ⊎ (cell ≤ c) → (cell < c) ⊎ (c ≤ cell) → (c * fields + k < cell * fields) ⊎ (cell * fields + fields ≤ c * fields + k)
-    go (inl m) n = inl (omega (arith, mul-le-mul-right {m = suc c} {n = cell} fields m))
+    go (inl m) n = inl (entry-before fields c cell k m l)
     go (inr m) (inl n) = inr (omega (arith, mul-le-mul-right {m = suc cell} {n = c} fields n))
     go (inr m) (inr n) = absurd (d (omega arith))
 
@@ -32,11 +36,11 @@ cell-kept fields cell a a′ below above c d = list-of-ext _ _ fields (λ k l. a
     at k (inl q) = below _ q
     at k (inr q) = above _ q
 
--- a cell whose part is that of another list has its fields from there
-pub cell-same : (fields cell : ℕ) (b a′ : List ℤ) → ((e : ℕ) → cell * fields ≤ e → e < cell * fields + fields → getD a′ e (pos 0) ≡ getD b e (pos 0))
+-- a cell whose entries are those of another list has its fields from there
+pub cell-same : (fields cell : ℕ) (b a′ : List ℤ) → ((k : ℕ) → k < fields → getD a′ (cell * fields + k) (pos 0) ≡ getD b (cell * fields + k) (pos 0))
     → cell-of fields a′ cell ≡ cell-of fields b cell
 unfolding cell-of
-cell-same fields cell b a′ inside = list-of-ext _ _ fields (λ k l. inside (cell * fields + k) (omega arith) (omega arith))
+cell-same fields cell b a′ same = list-of-ext _ _ fields same
 
 -- ---- a list in which a part is put in place of another
 

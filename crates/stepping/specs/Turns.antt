@@ -31,6 +31,12 @@ pub record NextMarked (marks : List ℕ) (from r : ℕ) : Type 0 where
   pub skipped : (c : ℕ) → from ≤ c → c < r → marked marks c ≡ false
   pub found : r < length marks → marked marks r ≡ true
 
+-- r is past a cell, and the cells between them are marked
+pub record MarkedUpTo (marks : List ℕ) (from r : ℕ) : Type 0 where
+  pub onward : from < r
+  pub within : r ≤ length marks
+  pub between : (c : ℕ) → from < c → c < r → marked marks c ≡ true
+
 -- ---- a cell's coordinates
 
 -- what is asked for coordinates, with room for so many

@@ -2,6 +2,7 @@
 ghost use lib.ListN.{length};
 ghost use Rattle.stepping.specs.Turns.{Swapping, Swapped, Exchanging, Exchanged};
 use crate::scan::next_marked;
+use crate::scan::run_end;
 
 // Exchanges the entries of two grids from a position up to an end.
 fn exchange_part(a: &mut [i32], b: &mut [i32], from: usize, end: usize)
@@ -18,16 +19,15 @@ fn exchange_part(a: &mut [i32], b: &mut [i32], from: usize, end: usize)
     }
 }
 
-// Exchanges the fields of the marked cells of two grids.
+// Exchanges the fields of the marked cells of two grids, those of neighbouring marked cells together.
 pub fn exchange_marked(a: &mut [i32], b: &mut [i32], marks: &[u8], fields: usize)
     requires { ⌜ Exchanging (length (now a)) (length (now b)) (length (now marks)) fields ⌝ }
     ensures { λ r. ⌜ Exchanged fields (now (marks .entry)) (now (a .entry)) (now (b .entry)) (now (a .exit)) × Exchanged fields (now (marks .entry)) (now (b .entry)) (now (a .entry)) (now (b .exit)) ⌝ }
 {
     let mut cell = next_marked(marks, 0);
     while cell < marks.len() {
-        let from = cell * fields;
-        let end = from + fields;
-        exchange_part(a, b, from, end);
-        cell = next_marked(marks, cell + 1);
+        let past = run_end(marks, cell);
+        exchange_part(a, b, cell * fields, past * fields);
+        cell = next_marked(marks, past);
     }
 }

@@ -33,7 +33,9 @@ returns-2 c =
     (c .before .before .if1 .left) (c .before .cells .ensures) (c .if2 .taken)
 
 good-rooms-requires : tie.Need-good-rooms-requires
-good-rooms-requires c κs = (omega (arith, c .before .cells .ensures, cells-small (c .before .before .before .before .before .args .sizes .now)), search needs)
+good-rooms-requires c κs =
+    let args = c .before .before .before .before .before .args in
+    (omega (arith, c .before .cells .ensures, cells-small (args .sizes .now)), search needs)
 
 returns-3 : tie.Need-returns-3
 returns-3 c =

@@ -27,13 +27,21 @@ loop-less : tie.Need-loop-less Inv-loop μ-loop
 loop-less c = search needs
 
 loop-again : tie.Need-loop-again Inv-loop μ-loop
-loop-again c = let s = c .before .before .before .before .before .before in filled-more _ _ _ _ _ (s .pre .2) (c .before .before .before .loop .inv) (c .before .before .loop-test .taken) (c .write-leaf .ensures)
+loop-again c =
+    let before-known = c .before .before .before .before .before .before in
+    let s = before-known in
+    filled-more _ _ _ _ _ (s .pre .2) (c .before .before .before .loop .inv) (c .before .before .loop-test .taken) (c .write-leaf .ensures)
 
 write-shapes-requires : tie.Need-write-shapes-requires Inv-loop μ-loop
-write-shapes-requires c κs = ((c .before .before .before .before .before .pre .1), filled-linked _ _ _ _ _ (c .before .before .loop .inv) (omega (arith, (c .before .loop-test .left))))
+write-shapes-requires c κs =
+    let pre = c .before .before .before .before .before .pre in
+    (pre .1, filled-linked _ _ _ _ _ (c .before .before .loop .inv) (omega (arith, c .before .loop-test .left)))
 
 returns : tie.Need-returns Inv-loop μ-loop
-returns c = filled-leaves _ _ _ _ _ (c .before .before .before .loop .inv) (omega (arith, (c .before .before .loop-test .left))) (c .before .before .before .before .before .before .pre .2) (c .write-shapes .ensures)
+returns c =
+    let pre = c .before .before .before .before .before .before .pre in
+    filled-leaves _ _ _ _ _ (c .before .before .before .loop .inv) (omega (arith, c .before .before .loop-test .left)) (pre .2)
+    (c .write-shapes .ensures)
 
 pub fill-leaves-spec : {M : Type 1} → statement M
 fill-leaves-spec =

@@ -50,13 +50,19 @@ put-digits-cast-put-byte-2 : (t : ℕ) → put-digits-lts.Need-cast-put-byte-2 (
 put-digits-cast-put-byte-2 t c = omega arith
 
 put-digits-put-byte-requires-2 : (t : ℕ) → put-digits-lts.Need-put-byte-requires-2 (put-digits-calls t) (put-digits-at t) put-digits.Post
-put-digits-put-byte-requires-2 t c κs = omega (arith, c .before .before .before .put-digits .ensures 8 (omega arith) .end, digits-length 8 (c .before .before .before .before .before .before .before .args .n / 10), c .before .before .before .put-digits .kept .0)
+put-digits-put-byte-requires-2 t c κs =
+    let args = c .before .before .before .before .before .before .before .args in
+    omega
+    (arith, c .before .before .before .put-digits .ensures 8 (omega arith) .end, digits-length 8 (args .n / 10), c .before .before .before .put-digits .kept .0)
 
 put-digits-same-length-2 : (t : ℕ) → put-digits-lts.Need-same-length-2 (put-digits-calls t) (put-digits-at t) put-digits.Post
 put-digits-same-length-2 t c = c .before .before .put-byte2 .kept .0 ∙ c .before .before .before .before .before .before .put-digits .kept .0
 
 put-digits-returns-2 : (t : ℕ) → put-digits-lts.Need-returns-2 (put-digits-calls t) (put-digits-at t) put-digits.Post
-put-digits-returns-2 t c = wrote-last (c .before .before .before .before .before .before .before .before .if1 .left) (c .before .before .before .before .before .before .put-digits .ensures) (c .before .before .put-byte2 .ensures)
+put-digits-returns-2 t c =
+    let if1-left = c .before .before .before .before .before .before .before .before .if1 .left in
+    let put-digits-ensures = c .before .before .before .before .before .before .put-digits .ensures in
+    wrote-last if1-left put-digits-ensures (c .before .before .put-byte2 .ensures)
 
 pub +put-digits-spec : {M : Type 1} → statement M
 +put-digits-spec = close μ-put-digits λ t. put-digits-lts.spec (put-digits-calls t)

@@ -101,7 +101,9 @@ bracket-add-expression : (t : ℕ) → bracket-lts.Need-add-expression (bracket-
 bracket-add-expression t c = search needs
 
 bracket-expression-requires : (t : ℕ) → bracket-lts.Need-expression-requires (bracket-calls t) (bracket-at t) bracket.Post
-bracket-expression-requires t c κs = (omega (arith, (c .before .before .before .pre .0)), ((c .before .before .before .pre .1 .0), omega arith, omega arith))
+bracket-expression-requires t c κs =
+    let pre = c .before .before .before .pre in
+    (omega (arith, pre .0), (pre .1 .0, omega arith, omega arith))
 
 bracket-enum-known-inner : (t : ℕ) → bracket-lts.Need-enum-known-inner (bracket-calls t) (bracket-at t) bracket.Post
 bracket-enum-known-inner t c = search needs
@@ -116,13 +118,21 @@ bracket-word-at-requires : (t : ℕ) → bracket-lts.Need-word-at-requires (brac
 bracket-word-at-requires t c κs = search needs
 
 bracket-add-t18 : (t : ℕ) → bracket-lts.Need-add-t18 (bracket-calls t) (bracket-at t) bracket.Post
-bracket-add-t18 t c = omega (arith, token _ _ _ (c .before .word-at .ensures) (omega arith), (c .before .before .before .before .before .before .before .before .before .pre .1 .0 .tokens))
+bracket-add-t18 t c =
+    let pre = c .before .before .before .before .before .before .before .before .before .pre in
+    omega (arith, token _ _ _ (c .before .word-at .ensures) (omega arith), pre .1 .0 .tokens)
 
 bracket-returns-2 : (t : ℕ) → bracket-lts.Need-returns-2 (bracket-calls t) (bracket-at t) bracket.Post
-bracket-returns-2 t c = bracket-closed _ _ _ _ _ _ _ (c .before .before .before .before .before .expression .ensures) (c .before .before .before .inner .given .1) (c .before .word-at .ensures) (c .if1 .taken) (token _ _ _ (c .before .word-at .ensures) (omega arith))
+bracket-returns-2 t c =
+    let expression-ensures = c .before .before .before .before .before .expression .ensures in
+    let word-at-ensures = c .before .word-at .ensures in
+    bracket-closed _ _ _ _ _ _ _ expression-ensures (c .before .before .before .inner .given .1) word-at-ensures (c .if1 .taken)
+    (token _ _ _ word-at-ensures (omega arith))
 
 bracket-returns-3 : (t : ℕ) → bracket-lts.Need-returns-3 (bracket-calls t) (bracket-at t) bracket.Post
-bracket-returns-3 t c = bracket-open _ _ _ _ _ _ _ (c .before .before .before .before .before .expression .ensures) (c .before .before .before .inner .given .1) (c .before .word-at .ensures) (c .if1 .left)
+bracket-returns-3 t c =
+    let expression-ensures = c .before .before .before .before .before .expression .ensures in
+    bracket-open _ _ _ _ _ _ _ expression-ensures (c .before .before .before .inner .given .1) (c .before .word-at .ensures) (c .if1 .left)
 
 abbrev chain-Inv-loop : chain-lts.InvT-loop
 chain-Inv-loop leaves words sizes place grid vars index site depth at level n past left₀ here₀ left here = Chain (site-table words sizes site) (env-of words sizes grid site) (take (site .slots) vars) (take depth index) (site .tokens) at level left here
@@ -131,7 +141,9 @@ abbrev chain-μ-loop : chain-lts.MeasureT-loop
 chain-μ-loop leaves words sizes place grid vars index site depth at level n past left₀ here₀ left here = site .tokens - here
 
 chain-operand-requires : (t : ℕ) → chain-lts.Need-operand-requires (chain-calls t) (chain-at t) chain.Post chain-Inv-loop chain-μ-loop
-chain-operand-requires t c κs = (omega (arith, (c .before .before .before .pre .0)), ((c .before .before .before .pre .1 .0), (c .before .before .before .pre .1 .2)))
+chain-operand-requires t c κs =
+    let pre = c .before .before .before .pre in
+    (omega (arith, pre .0), (pre .1 .0, pre .1 .2))
 
 chain-enum-known-first : (t : ℕ) → chain-lts.Need-enum-known-first (chain-calls t) (chain-at t) chain.Post chain-Inv-loop chain-μ-loop
 chain-enum-known-first t c = search needs
@@ -161,7 +173,10 @@ chain-add-expression-2 : (t : ℕ) → chain-lts.Need-add-expression-2 (chain-ca
 chain-add-expression-2 t c = omega (arith, level-few (c .before .before .word-at .result))
 
 chain-expression-requires : (t : ℕ) → chain-lts.Need-expression-requires (chain-calls t) (chain-at t) chain.Post chain-Inv-loop chain-μ-loop
-chain-expression-requires t c κs = let l = token _ _ _ (c .before .before .word-at .ensures) (level-some _ (c .before .level-of .ensures) (c .before .before .before .before .before .before .before .before .before .before .before .pre .1 .1) (c .if1 .left)) in (omega (arith, (c .before .before .before .before .before .before .before .before .before .before .before .pre .0), (c .before .before .before .loop .inv .past)), ((c .before .before .before .before .before .before .before .before .before .before .before .pre .1 .0), omega arith, omega arith))
+chain-expression-requires t c κs =
+    let pre = c .before .before .before .before .before .before .before .before .before .before .before .pre in
+    let l = token _ _ _ (c .before .before .word-at .ensures) (level-some _ (c .before .level-of .ensures) (pre .1 .1) (c .if1 .left)) in
+    (omega (arith, pre .0, c .before .before .before .loop .inv .past), (pre .1 .0, omega arith, omega arith))
 
 chain-enum-known-right : (t : ℕ) → chain-lts.Need-enum-known-right (chain-calls t) (chain-at t) chain.Post chain-Inv-loop chain-μ-loop
 chain-enum-known-right t c = search needs
@@ -170,10 +185,16 @@ chain-enum-told-2 : (t : ℕ) → chain-lts.Need-enum-told-2 (chain-calls t) (ch
 chain-enum-told-2 t c = search needs
 
 chain-returns-3 : (t : ℕ) → chain-lts.Need-returns-3 (chain-calls t) (chain-at t) chain.Post chain-Inv-loop chain-μ-loop
-chain-returns-3 t c = right-fault _ _ _ _ _ _ _ (c .before .before .before .before .before .before .loop .inv) (c .before .before .before .before .before .word-at .ensures) (c .before .before .before .before .level-of .ensures) (c .before .before .before .if1 .left) (c .before .before .expression .ensures) (c .enum-told2 .given .1)
+chain-returns-3 t c =
+    let inv = c .before .before .before .before .before .before .loop .inv in
+    let word-at-ensures = c .before .before .before .before .before .word-at .ensures in
+    right-fault _ _ _ _ _ _ _ inv word-at-ensures (c .before .before .before .before .level-of .ensures) (c .before .before .before .if1 .left)
+    (c .before .before .expression .ensures) (c .enum-told2 .given .1)
 
 chain-operate-requires : (t : ℕ) → chain-lts.Need-operate-requires (chain-calls t) (chain-at t) chain.Post chain-Inv-loop chain-μ-loop
-chain-operate-requires t c κs = ((c .before .before .before .before .before .before .before .before .before .before .before .before .before .before .before .pre .1 .0 .table), (c .before .before .before .before .before .before .before .before .before .before .before .before .before .before .before .pre .1 .0 .tokens))
+chain-operate-requires t c κs =
+    let pre = c .before .before .before .before .before .before .before .before .before .before .before .before .before .before .before .pre in
+    (pre .1 .0 .table, pre .1 .0 .tokens)
 
 chain-enum-known-done : (t : ℕ) → chain-lts.Need-enum-known-done (chain-calls t) (chain-at t) chain.Post chain-Inv-loop chain-μ-loop
 chain-enum-known-done t c = search needs
@@ -182,13 +203,37 @@ chain-enum-told-3 : (t : ℕ) → chain-lts.Need-enum-told-3 (chain-calls t) (ch
 chain-enum-told-3 t c = search needs
 
 chain-returns-4 : (t : ℕ) → chain-lts.Need-returns-4 (chain-calls t) (chain-at t) chain.Post chain-Inv-loop chain-μ-loop
-chain-returns-4 t c = operator-fault _ _ _ _ _ _ _ (c .before .before .before .before .before .before .before .before .before .before .loop .inv) (c .before .before .before .before .before .before .before .before .before .word-at .ensures) (c .before .before .before .before .before .before .before .before .level-of .ensures) (c .before .before .before .before .before .before .before .if1 .left) (c .before .before .before .before .before .before .expression .ensures) (c .before .before .before .before .right .given .1) (c .before .before .operate .ensures) (c .enum-told3 .given .1)
+chain-returns-4 t c =
+    let inv = c .before .before .before .before .before .before .before .before .before .before .loop .inv in
+    let word-at-ensures = c .before .before .before .before .before .before .before .before .before .word-at .ensures in
+    let level-of-ensures = c .before .before .before .before .before .before .before .before .level-of .ensures in
+    let if1-left = c .before .before .before .before .before .before .before .if1 .left in
+    let expression-ensures = c .before .before .before .before .before .before .expression .ensures in
+    operator-fault _ _ _ _ _ _ _ inv word-at-ensures level-of-ensures if1-left expression-ensures (c .before .before .before .before .right .given .1)
+    (c .before .before .operate .ensures) (c .enum-told3 .given .1)
 
 chain-loop-less : (t : ℕ) → chain-lts.Need-loop-less (chain-calls t) (chain-at t) chain.Post chain-Inv-loop chain-μ-loop
-chain-loop-less t c = let l = chain-less _ _ _ _ _ _ _ (c .before .before .before .before .before .before .before .before .before .before .before .loop .inv) (c .before .before .before .before .before .before .before .before .before .before .word-at .ensures) (c .before .before .before .before .before .before .before .before .before .level-of .ensures) (c .before .before .before .before .before .before .before .before .if1 .left) (c .before .before .before .before .before .before .before .expression .ensures) (c .before .before .before .before .before .right .given .1) (c .before .before .before .operate .ensures) (c .before .done .given .1) in omega arith
+chain-loop-less t c =
+    let inv = c .before .before .before .before .before .before .before .before .before .before .before .loop .inv in
+    let word-at-ensures = c .before .before .before .before .before .before .before .before .before .before .word-at .ensures in
+    let level-of-ensures = c .before .before .before .before .before .before .before .before .before .level-of .ensures in
+    let if1-left = c .before .before .before .before .before .before .before .before .if1 .left in
+    let expression-ensures = c .before .before .before .before .before .before .before .expression .ensures in
+    let right-given = c .before .before .before .before .before .right .given in
+    let l = chain-less _ _ _ _ _ _ _ inv word-at-ensures level-of-ensures if1-left expression-ensures (right-given .1)
+    (c .before .before .before .operate .ensures) (c .before .done .given .1) in
+    omega arith
 
 chain-loop-again : (t : ℕ) → chain-lts.Need-loop-again (chain-calls t) (chain-at t) chain.Post chain-Inv-loop chain-μ-loop
-chain-loop-again t c = chain-more _ _ _ _ _ _ _ (c .before .before .before .before .before .before .before .before .before .before .before .loop .inv) (c .before .before .before .before .before .before .before .before .before .before .word-at .ensures) (c .before .before .before .before .before .before .before .before .before .level-of .ensures) (c .before .before .before .before .before .before .before .before .if1 .left) (c .before .before .before .before .before .before .before .expression .ensures) (c .before .before .before .before .before .right .given .1) (c .before .before .before .operate .ensures) (c .before .done .given .1)
+chain-loop-again t c =
+    let inv = c .before .before .before .before .before .before .before .before .before .before .before .loop .inv in
+    let word-at-ensures = c .before .before .before .before .before .before .before .before .before .before .word-at .ensures in
+    let level-of-ensures = c .before .before .before .before .before .before .before .before .before .level-of .ensures in
+    let if1-left = c .before .before .before .before .before .before .before .before .if1 .left in
+    let expression-ensures = c .before .before .before .before .before .before .before .expression .ensures in
+    let right-given = c .before .before .before .before .before .right .given in
+    chain-more _ _ _ _ _ _ _ inv word-at-ensures level-of-ensures if1-left expression-ensures (right-given .1)
+    (c .before .before .before .operate .ensures) (c .before .done .given .1)
 
 expression-quick-requires : (t : ℕ) → expression-lts.Need-quick-requires (expression-calls t) (expression-at t) expression.Post
 expression-quick-requires t c κs = (c .before .before .before .pre .1)
@@ -200,22 +245,32 @@ expression-enum-told : (t : ℕ) → expression-lts.Need-enum-told (expression-c
 expression-enum-told t c = search needs
 
 expression-chain-requires : (t : ℕ) → expression-lts.Need-chain-requires (expression-calls t) (expression-at t) expression.Post
-expression-chain-requires t c κs = (omega (arith, (c .before .before .before .before .before .before .pre .0)), (c .before .before .before .before .before .before .pre .1))
+expression-chain-requires t c κs =
+    let pre = c .before .before .before .before .before .before .pre in
+    (omega (arith, pre .0), pre .1)
 
 expression-returns : (t : ℕ) → expression-lts.Need-returns (expression-calls t) (expression-at t) expression.Post
 expression-returns t c = (c .chain .ensures)
 
 expression-returns-2 : (t : ℕ) → expression-lts.Need-returns-2 (expression-calls t) (expression-at t) expression.Post
-expression-returns-2 t c = subst (EvalsExpression _ _ _ _ _ _ _) (c .before .short .given .1) ((c .before .before .before .quick .ensures .found) _ _ (c .before .short .given .1))
+expression-returns-2 t c =
+    let short-given = c .before .short .given in
+    subst (EvalsExpression _ _ _ _ _ _ _) (short-given .1) ((c .before .before .before .quick .ensures .found) _ _ (short-given .1))
 
 operand-word-at-requires : (t : ℕ) → operand-lts.Need-word-at-requires (operand-calls t) (operand-at t) operand.Post
 operand-word-at-requires t c κs = search needs
 
 operand-primary-from-requires : (t : ℕ) → operand-lts.Need-primary-from-requires (operand-calls t) (operand-at t) operand.Post
-operand-primary-from-requires t c κs = omega (arith, (c .before .before .before .before .pre .1 .1), (c .before .before .before .before .pre .1 .0 .tokens))
+operand-primary-from-requires t c κs =
+    let pre = c .before .before .before .before .pre in
+    omega (arith, pre .1 .1, pre .1 .0 .tokens)
 
 operand-primary-requires : (t : ℕ) → operand-lts.Need-primary-requires (operand-calls t) (operand-at t) operand.Post
-operand-primary-requires t c κs = let l = from-within _ _ (c .before .before .before .before .before .args .site .tokens) _ (c .primary-from .ensures) (c .before .before .before .before .before .pre .1 .1) (token _ _ _ (c .before .word-at .ensures)) in (omega (arith, (c .before .before .before .before .before .pre .0)), ((c .before .before .before .before .before .pre .1 .0), omega arith))
+operand-primary-requires t c κs =
+    let args = c .before .before .before .before .before .args in
+    let pre = c .before .before .before .before .before .pre in
+    let l = from-within _ _ (args .site .tokens) _ (c .primary-from .ensures) (pre .1 .1) (token _ _ _ (c .before .word-at .ensures)) in
+    (omega (arith, pre .0), (pre .1 .0, omega arith))
 
 operand-enum-known-inner : (t : ℕ) → operand-lts.Need-enum-known-inner (operand-calls t) (operand-at t) operand.Post
 operand-enum-known-inner t c = search needs
@@ -230,19 +285,34 @@ operand-is-unary-requires : (t : ℕ) → operand-lts.Need-is-unary-requires (op
 operand-is-unary-requires t c κs = search needs
 
 operand-operate-unary-requires : (t : ℕ) → operand-lts.Need-operate-unary-requires (operand-calls t) (operand-at t) operand.Post
-operand-operate-unary-requires t c κs = ((c .before .before .before .before .before .before .before .before .before .before .before .pre .1 .0 .table), (c .before .before .before .before .before .before .before .before .before .before .before .pre .1 .0 .tokens))
+operand-operate-unary-requires t c κs =
+    let pre = c .before .before .before .before .before .before .before .before .before .before .before .pre in
+    (pre .1 .0 .table, pre .1 .0 .tokens)
 
 operand-returns-2 : (t : ℕ) → operand-lts.Need-returns-2 (operand-calls t) (operand-at t) operand.Post
-operand-returns-2 t c = operand-unary _ _ _ _ _ _ (c .before .before .before .before .before .before .before .before .word-at .ensures) (c .before .before .before .before .before .before .before .primary-from .ensures) (c .before .before .before .before .before .before .primary .ensures) (c .before .before .is-unary .ensures) (c .before .if1 .taken) (c .before .before .before .before .inner .given .1) (c .operate-unary .ensures)
+operand-returns-2 t c =
+    let word-at-ensures = c .before .before .before .before .before .before .before .before .word-at .ensures in
+    let primary-from-ensures = c .before .before .before .before .before .before .before .primary-from .ensures in
+    let primary-ensures = c .before .before .before .before .before .before .primary .ensures in
+    operand-unary _ _ _ _ _ _ word-at-ensures primary-from-ensures primary-ensures (c .before .before .is-unary .ensures) (c .before .if1 .taken)
+    (c .before .before .before .before .inner .given .1) (c .operate-unary .ensures)
 
 operand-returns-3 : (t : ℕ) → operand-lts.Need-returns-3 (operand-calls t) (operand-at t) operand.Post
-operand-returns-3 t c = operand-bare _ _ _ _ _ _ (c .before .before .before .before .before .before .before .word-at .ensures) (c .before .before .before .before .before .before .primary-from .ensures) (c .before .before .before .before .before .primary .ensures) (c .before .is-unary .ensures) (c .if1 .left) (c .before .before .before .inner .given .1)
+operand-returns-3 t c =
+    let word-at-ensures = c .before .before .before .before .before .before .before .word-at .ensures in
+    let primary-from-ensures = c .before .before .before .before .before .before .primary-from .ensures in
+    let primary-ensures = c .before .before .before .before .before .primary .ensures in
+    operand-bare _ _ _ _ _ _ word-at-ensures primary-from-ensures primary-ensures (c .before .is-unary .ensures) (c .if1 .left)
+    (c .before .before .before .inner .given .1)
 
 primary-word-at-requires : (t : ℕ) → primary-lts.Need-word-at-requires (primary-calls t) (primary-at t) primary.Post
 primary-word-at-requires t c κs = search needs
 
 primary-bracket-requires : (t : ℕ) → primary-lts.Need-bracket-requires (primary-calls t) (primary-at t) primary.Post
-primary-bracket-requires t c κs = let l = token _ _ _ (c .before .word-at .ensures) (omega arith) in (omega (arith, (c .before .before .before .before .before .pre .0)), ((c .before .before .before .before .before .pre .1 .0), l, omega arith))
+primary-bracket-requires t c κs =
+    let pre = c .before .before .before .before .before .pre in
+    let l = token _ _ _ (c .before .word-at .ensures) (omega arith) in
+    (omega (arith, pre .0), (pre .1 .0, l, omega arith))
 
 primary-returns : (t : ℕ) → primary-lts.Need-returns (primary-calls t) (primary-at t) primary.Post
 primary-returns t c = primary-paren _ _ _ _ _ _ (c .before .before .word-at .ensures) (c .before .if1 .taken) (c .bracket .ensures)
@@ -260,7 +330,10 @@ primary-add-bracket : (t : ℕ) → primary-lts.Need-add-bracket (primary-calls 
 primary-add-bracket t c = search needs
 
 primary-bracket-requires-2 : (t : ℕ) → primary-lts.Need-bracket-requires-2 (primary-calls t) (primary-at t) primary.Post
-primary-bracket-requires-2 t c κs = let l = token _ _ _ (c .before .word-at3 .ensures) (omega arith) in (omega (arith, (c .before .before .before .before .before .before .before .before .before .before .pre .0)), ((c .before .before .before .before .before .before .before .before .before .before .pre .1 .0), l, omega arith))
+primary-bracket-requires-2 t c κs =
+    let pre = c .before .before .before .before .before .before .before .before .before .before .pre in
+    let l = token _ _ _ (c .before .word-at3 .ensures) (omega arith) in
+    (omega (arith, pre .0), (pre .1 .0, l, omega arith))
 
 primary-enum-known-inner : (t : ℕ) → primary-lts.Need-enum-known-inner (primary-calls t) (primary-at t) primary.Post
 primary-enum-known-inner t c = search needs
@@ -269,22 +342,43 @@ primary-enum-told : (t : ℕ) → primary-lts.Need-enum-told (primary-calls t) (
 primary-enum-told t c = search needs
 
 primary-returns-2 : (t : ℕ) → primary-lts.Need-returns-2 (primary-calls t) (primary-at t) primary.Post
-primary-returns-2 t c = primary-element-fault _ _ _ _ _ _ (c .before .before .before .before .before .before .before .before .before .word-at .ensures) (c .before .before .before .before .before .before .before .if2 .taken) (c .before .before .before .before .before .before .word-at2 .ensures) (c .before .before .before .before .before .if3 .taken) (c .before .before .bracket2 .ensures) (c .enum-told .given .1)
+primary-returns-2 t c =
+    let word-at-ensures = c .before .before .before .before .before .before .before .before .before .word-at .ensures in
+    let if2-taken = c .before .before .before .before .before .before .before .if2 .taken in
+    let word-at2-ensures = c .before .before .before .before .before .before .word-at2 .ensures in
+    let if3-taken = c .before .before .before .before .before .if3 .taken in
+    primary-element-fault _ _ _ _ _ _ word-at-ensures if2-taken word-at2-ensures if3-taken (c .before .before .bracket2 .ensures)
+    (c .enum-told .given .1)
 
 primary-element-requires : (t : ℕ) → primary-lts.Need-element-requires (primary-calls t) (primary-at t) primary.Post
-primary-element-requires t c κs = ((c .before .before .before .before .before .before .before .before .before .before .before .before .before .before .pre .1 .0 .table), (c .before .before .before .before .before .before .before .before .before .before .before .before .before .before .pre .1 .0 .tokens), token _ _ _ (c .before .before .before .before .before .before .before .before .before .before .word-at .ensures) (omega arith))
+primary-element-requires t c κs =
+    let pre = c .before .before .before .before .before .before .before .before .before .before .before .before .before .before .pre in
+    let word-at-ensures = c .before .before .before .before .before .before .before .before .before .before .word-at .ensures in
+    (pre .1 .0 .table, pre .1 .0 .tokens, token _ _ _ word-at-ensures (omega arith))
 
 primary-returns-3 : (t : ℕ) → primary-lts.Need-returns-3 (primary-calls t) (primary-at t) primary.Post
-primary-returns-3 t c = primary-element _ _ _ _ _ _ (c .before .before .before .before .before .before .before .before .before .before .before .word-at .ensures) (c .before .before .before .before .before .before .before .before .before .if2 .taken) (c .before .before .before .before .before .before .before .before .word-at2 .ensures) (c .before .before .before .before .before .before .before .if3 .taken) (c .before .before .before .before .bracket2 .ensures) (c .before .before .inner .given .1) (c .element .ensures)
+primary-returns-3 t c =
+    let word-at-ensures = c .before .before .before .before .before .before .before .before .before .before .before .word-at .ensures in
+    let if2-taken = c .before .before .before .before .before .before .before .before .before .if2 .taken in
+    let word-at2-ensures = c .before .before .before .before .before .before .before .before .word-at2 .ensures in
+    let if3-taken = c .before .before .before .before .before .before .before .if3 .taken in
+    primary-element _ _ _ _ _ _ word-at-ensures if2-taken word-at2-ensures if3-taken (c .before .before .before .before .bracket2 .ensures)
+    (c .before .before .inner .given .1) (c .element .ensures)
 
 primary-returns-4 : (t : ℕ) → primary-lts.Need-returns-4 (primary-calls t) (primary-at t) primary.Post
-primary-returns-4 t c = primary-bare _ _ _ _ _ _ (c .before .before .before .before .before .before .word-at .ensures) (c .before .before .before .before .if2 .taken) (c .before .before .before .word-at2 .ensures) (c .before .before .if3 .taken) (c .before .word-at3 .ensures) (c .if4 .left)
+primary-returns-4 t c =
+    let word-at-ensures = c .before .before .before .before .before .before .word-at .ensures in
+    primary-bare _ _ _ _ _ _ word-at-ensures (c .before .before .before .before .if2 .taken) (c .before .before .before .word-at2 .ensures)
+    (c .before .before .if3 .taken) (c .before .word-at3 .ensures) (c .if4 .left)
 
 primary-quick-requires : (t : ℕ) → primary-lts.Need-quick-requires (primary-calls t) (primary-at t) primary.Post
 primary-quick-requires t c κs = let p = c .before .before .before .before .before .before .before .before .pre .1 in (p .0, omega arith, p .1)
 
 primary-returns-5 : (t : ℕ) → primary-lts.Need-returns-5 (primary-calls t) (primary-at t) primary.Post
-primary-returns-5 t c = primary-quick _ _ _ _ _ _ (c .before .before .before .before .before .word-at .ensures) (c .before .before .before .before .if1 .left) (λ kn wa. (c .before .if3 .left) ((c .before .before .word-at2 .ensures) ∙ wa)) (c .quick .ensures)
+primary-returns-5 t c =
+    let word-at-ensures = c .before .before .before .before .before .word-at .ensures in
+    primary-quick _ _ _ _ _ _ word-at-ensures (c .before .before .before .before .if1 .left)
+    (λ kn wa. (c .before .if3 .left) ((c .before .before .word-at2 .ensures) ∙ wa)) (c .quick .ensures)
 
 primary-quick-requires-2 : (t : ℕ) → primary-lts.Need-quick-requires-2 (primary-calls t) (primary-at t) primary.Post
 primary-quick-requires-2 t c κs = let p = c .before .before .before .before .before .before .pre .1 in (p .0, omega arith, p .1)

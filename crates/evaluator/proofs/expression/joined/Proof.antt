@@ -14,7 +14,10 @@ enum-known-sum : tie.Need-enum-known-sum
 enum-known-sum c = search needs
 
 returns-2 : tie.Need-returns-2
-returns-2 c = joined-some _ _ _ _ _ (c .before .before .before .before .before .if1 .left) (told-plus _ _ _ _ _ (c .before .before .before .before .if2 .taken) (c .before .before .before .add .ensures) (c .before .sum .given .1))
+returns-2 c =
+    let if1-left = c .before .before .before .before .before .if1 .left in
+    joined-some _ _ _ _ _ if1-left
+    (told-plus _ _ _ _ _ (c .before .before .before .before .if2 .taken) (c .before .before .before .add .ensures) (c .before .sum .given .1))
 
 equal-requires : tie.Need-equal-requires
 equal-requires c κs = search needs

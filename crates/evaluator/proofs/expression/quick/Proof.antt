@@ -31,16 +31,30 @@ enum-told : tie.Need-enum-told Inv-loop μ-loop
 enum-told c = search needs
 
 returns : tie.Need-returns Inv-loop μ-loop
-returns c = quick-none _ _ _ _ _ _ _ (c .before .before .before .before .before .before .before .pre .1) (c .before .before .before .loop .inv) (c .before .before .short-operand .ensures) (c .enum-told .given .1)
+returns c =
+    let pre = c .before .before .before .before .before .before .before .pre in
+    quick-none _ _ _ _ _ _ _ (pre .1) (c .before .before .before .loop .inv) (c .before .before .short-operand .ensures) (c .enum-told .given .1)
 
 leaf-word-requires : tie.Need-leaf-word-requires Inv-loop μ-loop
-leaf-word-requires c κs = (omega (arith, leaf-within _ _ _ _ _ _ (c .before .before .before .short-operand .ensures) (c .before .part .given .1) .1, (c .before .before .before .before .before .before .before .before .pre .0 .tokens)), omega arith)
+leaf-word-requires c κs =
+    let pre = c .before .before .before .before .before .before .before .before .pre in (
+      omega (arith, leaf-within _ _ _ _ _ _ (c .before .before .before .short-operand .ensures) (c .before .part .given .1) .1, pre .0 .tokens),
+      omega arith,
+    )
 
 returns-2 : tie.Need-returns-2 Inv-loop μ-loop
-returns-2 c = quick-tighter _ _ _ _ _ _ _ (c .before .before .before .before .before .before .before .before .before .before .pre .1) (c .before .before .before .before .before .before .loop .inv) (c .before .before .before .before .before .short-operand .ensures) (c .before .before .before .part .given .1) refl (level-at (c .before .before .before .before .before .before .before .before .before .before .pre .0) _ (leaf-within _ _ _ _ _ _ (c .before .before .before .before .before .short-operand .ensures) (c .before .before .before .part .given .1) .1) (c .before .leaf-word .ensures)) (c .if1 .taken)
+returns-2 c =
+    let pre = c .before .before .before .before .before .before .before .before .before .before .pre in
+    let inv = c .before .before .before .before .before .before .loop .inv in
+    let short-operand-ensures = c .before .before .before .before .before .short-operand .ensures in
+    let part-given = c .before .before .before .part .given in
+    quick-tighter _ _ _ _ _ _ _ (pre .1) inv short-operand-ensures (part-given .1) refl
+    (level-at (pre .0) _ (leaf-within _ _ _ _ _ _ short-operand-ensures (part-given .1) .1) (c .before .leaf-word .ensures)) (c .if1 .taken)
 
 joined-requires : tie.Need-joined-requires Inv-loop μ-loop
-joined-requires c κs = ((c .before .before .before .before .before .before .before .before .before .before .pre .0 .table), (c .before .before .before .before .before .before .before .before .before .before .pre .0 .tokens))
+joined-requires c κs =
+    let pre = c .before .before .before .before .before .before .before .before .before .before .pre in
+    (pre .0 .table, pre .0 .tokens)
 
 enum-known-done : tie.Need-enum-known-done Inv-loop μ-loop
 enum-known-done c = search needs
@@ -49,22 +63,87 @@ enum-told-2 : tie.Need-enum-told-2 Inv-loop μ-loop
 enum-told-2 c = search needs
 
 returns-3 : tie.Need-returns-3 Inv-loop μ-loop
-returns-3 c = quick-fault _ _ _ _ _ _ _ (c .before .before .before .before .before .before .before .before .before .before .before .before .before .pre .1) (c .before .before .before .before .before .before .before .before .before .loop .inv) (c .before .before .before .before .before .before .before .before .short-operand .ensures) (c .before .before .before .before .before .before .part .given .1) refl (level-at (c .before .before .before .before .before .before .before .before .before .before .before .before .before .pre .0) _ (leaf-within _ _ _ _ _ _ (c .before .before .before .before .before .before .before .before .short-operand .ensures) (c .before .before .before .before .before .before .part .given .1) .1) (c .before .before .before .before .leaf-word .ensures)) (c .before .before .before .if1 .left) (c .before .before .joined .ensures) (c .enum-told2 .given .1)
+returns-3 c =
+    let pre = c .before .before .before .before .before .before .before .before .before .before .before .before .before .pre in
+    let inv = c .before .before .before .before .before .before .before .before .before .loop .inv in
+    let short-operand-ensures = c .before .before .before .before .before .before .before .before .short-operand .ensures in
+    let part-given = c .before .before .before .before .before .before .part .given in
+    quick-fault _ _ _ _ _ _ _ (pre .1) inv short-operand-ensures (part-given .1) refl
+    (level-at (pre .0) _ (leaf-within _ _ _ _ _ _ short-operand-ensures (part-given .1) .1) (c .before .before .before .before .leaf-word .ensures))
+    (c .before .before .before .if1 .left) (c .before .before .joined .ensures) (c .enum-told2 .given .1)
 
 returns-4 : tie.Need-returns-4 Inv-loop μ-loop
-returns-4 c = quick-end _ _ _ _ _ _ _ (c .before .before .before .before .before .before .before .before .before .before .before .before .before .before .before .pre .1) (c .before .before .before .before .before .before .before .before .before .before .before .loop .inv) (c .before .before .before .before .before .before .before .before .before .before .short-operand .ensures) (c .before .before .before .before .before .before .before .before .part .given .1) refl (level-at (c .before .before .before .before .before .before .before .before .before .before .before .before .before .before .before .pre .0) _ (leaf-within _ _ _ _ _ _ (c .before .before .before .before .before .before .before .before .before .before .short-operand .ensures) (c .before .before .before .before .before .before .before .before .part .given .1) .1) (c .before .before .before .before .before .before .leaf-word .ensures)) (c .before .before .before .before .before .if1 .left) (c .before .before .before .before .joined .ensures) (c .before .before .done .given .1) (c .if2 .taken)
+returns-4 c =
+    let pre = c .before .before .before .before .before .before .before .before .before .before .before .before .before .before .before .pre in
+    let inv = c .before .before .before .before .before .before .before .before .before .before .before .loop .inv in
+    let short-operand-ensures = c .before .before .before .before .before .before .before .before .before .before .short-operand .ensures in
+    let part-given = c .before .before .before .before .before .before .before .before .part .given in
+    let leaf-word-ensures = c .before .before .before .before .before .before .leaf-word .ensures in
+    let if1-left = c .before .before .before .before .before .if1 .left in
+    quick-end _ _ _ _ _ _ _ (pre .1) inv short-operand-ensures (part-given .1) refl
+    (level-at (pre .0) _ (leaf-within _ _ _ _ _ _ short-operand-ensures (part-given .1) .1) leaf-word-ensures) if1-left
+    (c .before .before .before .before .joined .ensures) (c .before .before .done .given .1) (c .if2 .taken)
 
 leaf-word-requires-2 : tie.Need-leaf-word-requires-2 Inv-loop μ-loop
-leaf-word-requires-2 c κs = (omega (arith, leaf-within _ _ _ _ _ _ (c .before .before .before .before .before .before .before .before .before .before .short-operand .ensures) (c .before .before .before .before .before .before .before .before .part .given .1) .1, (c .before .before .before .before .before .before .before .before .before .before .before .before .before .before .before .pre .0 .tokens)), omega arith)
+leaf-word-requires-2 c κs =
+    let pre = c .before .before .before .before .before .before .before .before .before .before .before .before .before .before .before .pre in
+    let short-operand-ensures = c .before .before .before .before .before .before .before .before .before .before .short-operand .ensures in
+    let part-given = c .before .before .before .before .before .before .before .before .part .given in
+    (omega (arith, leaf-within _ _ _ _ _ _ short-operand-ensures (part-given .1) .1, pre .0 .tokens), omega arith)
 
 add-here : tie.Need-add-here Inv-loop μ-loop
-add-here c = let l = quick-within _ _ _ _ _ _ _ (c .before .before .before .before .before .before .before .before .before .before .before .before .before .before .before .before .pre .1) (c .before .before .before .before .before .before .before .before .before .before .before .before .loop .inv) (c .before .before .before .before .before .before .before .before .before .before .before .short-operand .ensures) (c .before .before .before .before .before .before .before .before .before .part .given .1) refl (level-at (c .before .before .before .before .before .before .before .before .before .before .before .before .before .before .before .before .pre .0) _ (leaf-within _ _ _ _ _ _ (c .before .before .before .before .before .before .before .before .before .before .before .short-operand .ensures) (c .before .before .before .before .before .before .before .before .before .part .given .1) .1) (c .before .before .before .before .before .before .before .leaf-word .ensures)) (c .before .before .before .before .before .before .if1 .left) (c .before .before .before .before .before .joined .ensures) (c .before .before .before .done .given .1) in omega (arith, (c .before .before .before .before .before .before .before .before .before .before .before .before .before .before .before .before .pre .0 .tokens))
+add-here c =
+    let pre = c .before .before .before .before .before .before .before .before .before .before .before .before .before .before .before .before .pre in
+    let inv = c .before .before .before .before .before .before .before .before .before .before .before .before .loop .inv in
+    let short-operand-ensures = c .before .before .before .before .before .before .before .before .before .before .before .short-operand .ensures in
+    let part-given = c .before .before .before .before .before .before .before .before .before .part .given in
+    let leaf-word-ensures = c .before .before .before .before .before .before .before .leaf-word .ensures in
+    let if1-left = c .before .before .before .before .before .before .if1 .left in
+    let joined-ensures = c .before .before .before .before .before .joined .ensures in
+    let l = quick-within _ _ _ _ _ _ _ (pre .1) inv short-operand-ensures (part-given .1) refl
+    (level-at (pre .0) _ (leaf-within _ _ _ _ _ _ short-operand-ensures (part-given .1) .1) leaf-word-ensures) if1-left joined-ensures
+    (c .before .before .before .done .given .1) in
+    omega (arith, pre .0 .tokens)
 
 loop-less : tie.Need-loop-less Inv-loop μ-loop
-loop-less c = let within = leaf-within _ _ _ _ _ _ (c .before .before .before .before .before .before .before .before .before .before .before .short-operand .ensures) (c .before .before .before .before .before .before .before .before .before .part .given .1) .1 in let some : 1 ≤ c .before .before .before .before .before .before .before .leaf-word .result = omega (arith, (c .before .before .before .before .before .before .before .before .before .before .before .before .before .before .before .before .pre .1), (c .before .if2 .left)) in let op = operator-at (c .before .before .before .before .before .before .before .before .before .before .before .before .before .before .before .before .pre .0) _ within (c .before .before .before .before .before .before .before .leaf-word .ensures) some (c .leaf-word2 .ensures) in let l = quick-within _ _ _ _ _ _ _ (c .before .before .before .before .before .before .before .before .before .before .before .before .before .before .before .before .pre .1) (c .before .before .before .before .before .before .before .before .before .before .before .before .loop .inv) (c .before .before .before .before .before .before .before .before .before .before .before .short-operand .ensures) (c .before .before .before .before .before .before .before .before .before .part .given .1) refl (level-at (c .before .before .before .before .before .before .before .before .before .before .before .before .before .before .before .before .pre .0) _ within (c .before .before .before .before .before .before .before .leaf-word .ensures)) (c .before .before .before .before .before .before .if1 .left) (c .before .before .before .before .before .joined .ensures) (c .before .before .before .done .given .1) in let k = quick-again _ _ _ _ _ _ _ (c .before .before .before .before .before .before .before .before .before .before .before .before .before .before .before .before .pre .1) (c .before .before .before .before .before .before .before .before .before .before .before .before .loop .inv) (c .before .before .before .before .before .before .before .before .before .before .before .short-operand .ensures) (c .before .before .before .before .before .before .before .before .before .part .given .1) op (level-at (c .before .before .before .before .before .before .before .before .before .before .before .before .before .before .before .before .pre .0) _ within (c .before .before .before .before .before .before .before .leaf-word .ensures) ∙ ap level-of (sym op)) (c .before .before .before .before .before .before .if1 .left) (c .before .before .before .before .before .joined .ensures) (c .before .before .before .done .given .1) (c .before .if2 .left) (operator-within (c .before .before .before .before .before .before .before .before .before .before .before .before .before .before .before .before .pre .0) _ within (c .before .before .before .before .before .before .before .leaf-word .ensures) some) .within in omega arith
+loop-less c =
+    let pre = c .before .before .before .before .before .before .before .before .before .before .before .before .before .before .before .before .pre in
+    let inv = c .before .before .before .before .before .before .before .before .before .before .before .before .loop .inv in
+    let short-operand-ensures = c .before .before .before .before .before .before .before .before .before .before .before .short-operand .ensures in
+    let part-given = c .before .before .before .before .before .before .before .before .before .part .given in
+    let leaf-word-known = c .before .before .before .before .before .before .before .leaf-word in
+    let leaf-word-ensures = c .before .before .before .before .before .before .before .leaf-word .ensures in
+    let if1-left = c .before .before .before .before .before .before .if1 .left in
+    let joined-ensures = c .before .before .before .before .before .joined .ensures in
+    let done-given = c .before .before .before .done .given in
+    let if2-left = c .before .if2 .left in
+    let within = leaf-within _ _ _ _ _ _ short-operand-ensures (part-given .1) .1 in
+    let some : 1 ≤ leaf-word-known .result = omega (arith, (pre .1), if2-left) in
+    let op = operator-at (pre .0) _ within leaf-word-ensures some (c .leaf-word2 .ensures) in
+    let l = quick-within _ _ _ _ _ _ _ (pre .1) inv short-operand-ensures (part-given .1) refl (level-at (pre .0) _ within leaf-word-ensures) if1-left
+    joined-ensures (done-given .1) in
+    let k = quick-again _ _ _ _ _ _ _ (pre .1) inv short-operand-ensures (part-given .1) op
+    (level-at (pre .0) _ within leaf-word-ensures ∙ ap level-of (sym op)) if1-left joined-ensures (done-given .1) if2-left
+    (operator-within (pre .0) _ within leaf-word-ensures some) .within in
+    omega arith
 
 loop-again : tie.Need-loop-again Inv-loop μ-loop
-loop-again c = let within = leaf-within _ _ _ _ _ _ (c .before .before .before .before .before .before .before .before .before .before .before .short-operand .ensures) (c .before .before .before .before .before .before .before .before .before .part .given .1) .1 in let some : 1 ≤ c .before .before .before .before .before .before .before .leaf-word .result = omega (arith, (c .before .before .before .before .before .before .before .before .before .before .before .before .before .before .before .before .pre .1), (c .before .if2 .left)) in let op = operator-at (c .before .before .before .before .before .before .before .before .before .before .before .before .before .before .before .before .pre .0) _ within (c .before .before .before .before .before .before .before .leaf-word .ensures) some (c .leaf-word2 .ensures) in quick-again _ _ _ _ _ _ _ (c .before .before .before .before .before .before .before .before .before .before .before .before .before .before .before .before .pre .1) (c .before .before .before .before .before .before .before .before .before .before .before .before .loop .inv) (c .before .before .before .before .before .before .before .before .before .before .before .short-operand .ensures) (c .before .before .before .before .before .before .before .before .before .part .given .1) op (level-at (c .before .before .before .before .before .before .before .before .before .before .before .before .before .before .before .before .pre .0) _ within (c .before .before .before .before .before .before .before .leaf-word .ensures) ∙ ap level-of (sym op)) (c .before .before .before .before .before .before .if1 .left) (c .before .before .before .before .before .joined .ensures) (c .before .before .before .done .given .1) (c .before .if2 .left) (operator-within (c .before .before .before .before .before .before .before .before .before .before .before .before .before .before .before .before .pre .0) _ within (c .before .before .before .before .before .before .before .leaf-word .ensures) some)
+loop-again c =
+    let pre = c .before .before .before .before .before .before .before .before .before .before .before .before .before .before .before .before .pre in
+    let inv = c .before .before .before .before .before .before .before .before .before .before .before .before .loop .inv in
+    let short-operand-ensures = c .before .before .before .before .before .before .before .before .before .before .before .short-operand .ensures in
+    let part-given = c .before .before .before .before .before .before .before .before .before .part .given in
+    let leaf-word-known = c .before .before .before .before .before .before .before .leaf-word in
+    let leaf-word-ensures = c .before .before .before .before .before .before .before .leaf-word .ensures in
+    let if1-left = c .before .before .before .before .before .before .if1 .left in
+    let joined-ensures = c .before .before .before .before .before .joined .ensures in
+    let if2-left = c .before .if2 .left in
+    let within = leaf-within _ _ _ _ _ _ short-operand-ensures (part-given .1) .1 in
+    let some : 1 ≤ leaf-word-known .result = omega (arith, (pre .1), if2-left) in
+    let op = operator-at (pre .0) _ within leaf-word-ensures some (c .leaf-word2 .ensures) in
+    quick-again _ _ _ _ _ _ _ (pre .1) inv short-operand-ensures (part-given .1) op
+    (level-at (pre .0) _ within leaf-word-ensures ∙ ap level-of (sym op)) if1-left joined-ensures (c .before .before .before .done .given .1) if2-left
+    (operator-within (pre .0) _ within leaf-word-ensures some)
 
 pub quick-spec : {M : Type 1} → statement M
 quick-spec = tie.close (tie.spec Inv-loop μ-loop loop-holds short-operand-requires enum-known-part enum-told returns leaf-word-requires returns-2 joined-requires enum-known-done enum-told-2 returns-3 returns-4 leaf-word-requires-2 add-here loop-less loop-again)

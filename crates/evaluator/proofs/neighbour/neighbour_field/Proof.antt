@@ -13,7 +13,10 @@ add-neighbour-number : tie.Need-add-neighbour-number
 add-neighbour-number c = search needs
 
 neighbour-number-requires : tie.Need-neighbour-number-requires
-neighbour-number-requires c κs = let r = (c .before .before .before .pre .0) in (r .table, r .tokens, r .loops, omega (arith, (c .before .before .before .pre .1)), r .dims, r .cells, ready-inside r)
+neighbour-number-requires c κs =
+    let pre = c .before .before .before .pre in
+    let r = (pre .0) in
+    (r .table, r .tokens, r .loops, omega (arith, pre .1), r .dims, r .cells, ready-inside r)
 
 word-at-requires : tie.Need-word-at-requires
 word-at-requires c κs = search needs
@@ -22,10 +25,19 @@ cast-field-of : tie.Need-cast-field-of
 cast-field-of c = search needs
 
 field-of-requires : tie.Need-field-of-requires
-field-of-requires c κs = let r = (c .before .before .before .before .before .pre .0) in let l : (c .before .neighbour-number .result) < product (c .before .before .before .before .before .args .sizes .now) = rw (c .before .neighbour-number .ensures) (total-small (site-table (c .before .before .before .before .before .args .words .now) (c .before .before .before .before .before .args .sizes .now) (c .before .before .before .before .before .args .site)) (take (c .before .before .before .before .before .args .depth) (c .before .before .before .before .before .args .index .now)) (c .before .before .before .before .before .args .sizes .now) (c .before .before .before .before .before .args .place .now) (ready-inside r) ((c .before .before .before .before .before .args .at) + 1)) in room _ _ _ _ l (r .entries)
+field-of-requires c κs =
+    let pre = c .before .before .before .before .before .pre in
+    let args = c .before .before .before .before .before .args in
+    let r = (pre .0) in
+    let l : (c .before .neighbour-number .result) < product (args .sizes .now) = rw (c .before .neighbour-number .ensures)
+    (total-small (site-table (args .words .now) (args .sizes .now) (args .site)) (take (args .depth) (args .index .now)) (args .sizes .now) (args .place .now) (ready-inside r) ((args .at) + 1))
+    in
+    room _ _ _ _ l (r .entries)
 
 returns : tie.Need-returns
-returns c = rw (← (c .before .word-at .ensures)) (neighbour-is (c .before .before .before .before .before .before .pre .0) _ _ _ (c .before .before .neighbour-number .ensures) (c .field-of .ensures))
+returns c =
+    let pre = c .before .before .before .before .before .before .pre in
+    rw (← (c .before .word-at .ensures)) (neighbour-is (pre .0) _ _ _ (c .before .before .neighbour-number .ensures) (c .field-of .ensures))
 
 pub neighbour-field-spec : {M : Type 1} → statement M
 neighbour-field-spec =

@@ -27,25 +27,41 @@ mul-own : tie.Need-mul-own Inv-loop μ-loop
 mul-own c = search needs
 
 shared-slice-read-own : tie.Need-shared-slice-read-own Inv-loop μ-loop
-shared-slice-read-own c = omega (arith, inside-length (c .before .before .before .before .before .before .before .args .sizes .now) (c .before .before .before .before .before .before .before .args .place .now) (c .before .before .before .before .before .before .before .pre .6))
+shared-slice-read-own c =
+    let args = c .before .before .before .before .before .before .before .args in
+    let pre = c .before .before .before .before .before .before .before .pre in
+    omega (arith, inside-length (args .sizes .now) (args .place .now) (pre .6))
 
 element-value-requires : tie.Need-element-value-requires Inv-loop μ-loop
 element-value-requires c κs = search needs
 
 wrapped-requires : tie.Need-wrapped-requires Inv-loop μ-loop
-wrapped-requires c κs = inside-at (c .before .before .before .before .before .before .before .before .args .sizes .now) (c .before .before .before .before .before .before .before .before .args .place .now) (c .before .before .before .before .before .before .before .before .pre .6) _ (c .before .before .before .loop-test .taken)
+wrapped-requires c κs =
+    let args = c .before .before .before .before .before .before .before .before .args in
+    let pre = c .before .before .before .before .before .before .before .before .pre in
+    inside-at (args .sizes .now) (args .place .now) (pre .6) _ (c .before .before .before .loop-test .taken)
 
 cast-number : tie.Need-cast-number Inv-loop μ-loop
-cast-number c = record { fits = omega (arith, (c .before .before .before .shared-slice-known4 .given) (c .before .before .before .before .before .loop .k)) }
+cast-number c =
+    let turn = c .before .before .before .before .before .loop in
+    record { fits = omega (arith, (c .before .before .before .shared-slice-known4 .given) (turn .k)) }
 
 mul-number : tie.Need-mul-number Inv-loop μ-loop
-mul-number c = record { fits = omega (arith, (c .before .before .before .before .before .before .before .before .before .pre .5), number-small _ _ _ _ (c .before .before .before .before .before .before .before .before .before .pre .6) _ _ _ _ (c .before .before .before .before .before .loop .inv .0) (c .before .before .before .before .loop-test .taken) _ (c .before .element-value .ensures) _ (c .wrapped .ensures)) }
+mul-number c =
+    let pre = c .before .before .before .before .before .before .before .before .before .pre in
+    let inv = c .before .before .before .before .before .loop .inv in
+    record
+    { fits = omega (arith, pre .5, number-small _ _ _ _ (pre .6) _ _ _ _ (inv .0) (c .before .before .before .before .loop-test .taken) _ (c .before .element-value .ensures) _ (c .wrapped .ensures)) }
 
 cast-number-2 : tie.Need-cast-number-2 Inv-loop μ-loop
 cast-number-2 c = search needs
 
 add-number : tie.Need-add-number Inv-loop μ-loop
-add-number c = record { fits = omega (arith, (c .before .before .before .before .before .before .before .before .before .pre .5), number-small _ _ _ _ (c .before .before .before .before .before .before .before .before .before .pre .6) _ _ _ _ (c .before .before .before .before .before .loop .inv .0) (c .before .before .before .before .loop-test .taken) _ (c .before .element-value .ensures) _ (c .wrapped .ensures)) }
+add-number c =
+    let pre = c .before .before .before .before .before .before .before .before .before .pre in
+    let inv = c .before .before .before .before .before .loop .inv in
+    record
+    { fits = omega (arith, pre .5, number-small _ _ _ _ (pre .6) _ _ _ _ (inv .0) (c .before .before .before .before .loop-test .taken) _ (c .before .element-value .ensures) _ (c .wrapped .ensures)) }
 
 element-after-requires : tie.Need-element-after-requires Inv-loop μ-loop
 element-after-requires c κs = search needs
@@ -57,7 +73,14 @@ loop-less : tie.Need-loop-less Inv-loop μ-loop
 loop-less c = search needs
 
 loop-again : tie.Need-loop-again Inv-loop μ-loop
-loop-again c = (steps-more _ _ _ _ (c .before .before .before .before .before .before .before .before .before .before .pre .6) _ _ _ _ (c .before .before .before .before .before .before .loop .inv .0) (c .before .before .before .before .before .loop-test .taken) _ (c .before .before .element-value .ensures) _ (c .before .wrapped .ensures) _ (c .element-after .ensures), (c .before .before .before .before .before .before .loop .inv .1))
+loop-again c =
+    let pre = c .before .before .before .before .before .before .before .before .before .before .pre in
+    let inv = c .before .before .before .before .before .before .loop .inv in
+    let going = c .before .before .before .before .before .loop-test .taken in (
+      steps-more _ _ _ _ (pre .6) _ _ _ _ (inv .0) going _ (c .before .before .element-value .ensures) _ (c .before .wrapped .ensures) _
+          (c .element-after .ensures),
+      inv .1,
+    )
 
 returns : tie.Need-returns Inv-loop μ-loop
 returns c = steps-done _ _ _ _ (c .before .before .before .before .before .pre .6) _ _ _ _ (c .before .loop .inv .0) (c .loop-test .left)

@@ -23,7 +23,10 @@ reduced-requires : tie.Need-reduced-requires
 reduced-requires c κs = search needs
 
 cast-result : tie.Need-cast-result
-cast-result c = let m : (c .before .before .before .args .own + c .before .before .encode .result) % c .before .before .before .args .size < c .before .before .before .args .size = mod-lt _ (omega arith) in record { fits = omega (arith, c .reduced .ensures) }
+cast-result c =
+    let args = c .before .before .before .args in
+    let m : (args .own + c .before .before .encode .result) % args .size < args .size = mod-lt _ (omega arith) in
+    record { fits = omega (arith, c .reduced .ensures) }
 
 returns : tie.Need-returns
 returns c = wrap-ahead _ (c .before .before .before .args .index .n) _ _ (c .before .before .encode .ensures) (search needs) (c .before .if1 .taken) (c .reduced .ensures)
@@ -50,7 +53,10 @@ reduced-requires-2 : tie.Need-reduced-requires-2
 reduced-requires-2 c κs = search needs
 
 sub-result-2 : tie.Need-sub-result-2
-sub-result-2 c = let m : (4294967296 - c .before .before .before .encode .result - c .before .before .before .before .args .own - 1) % c .before .before .before .before .args .size < c .before .before .before .before .args .size = mod-lt _ (omega arith) in omega (arith, c .reduced2 .ensures)
+sub-result-2 c =
+    let args = c .before .before .before .before .args in
+    let m : (4294967296 - c .before .before .before .encode .result - args .own - 1) % args .size < args .size = mod-lt _ (omega arith) in
+    omega (arith, c .reduced2 .ensures)
 
 cast-result-3 : tie.Need-cast-result-3
 cast-result-3 c = search needs

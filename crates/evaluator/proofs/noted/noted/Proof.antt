@@ -15,7 +15,9 @@ cast-next : tie.Need-cast-next
 cast-next c = search needs
 
 near-value-requires : tie.Need-near-value-requires
-near-value-requires c κs = ((c .before .before .before .before .before .before .pre .0), (c .before .before .before .before .before .before .pre .1), sym (c .before .before .leaf-word .ensures) ∙ (c .if1 .taken))
+near-value-requires c κs =
+    let pre = c .before .before .before .before .before .before .pre in
+    (pre .0, pre .1, sym (c .before .before .leaf-word .ensures) ∙ (c .if1 .taken))
 
 returns : tie.Need-returns
 returns c = noted-found _ _ _ _ _ _ (c .before .before .leaf-word2 .ensures) (c .near-value .ensures)
@@ -24,7 +26,11 @@ is-simple-requires : tie.Need-is-simple-requires
 is-simple-requires c κs = search needs
 
 simple-value-requires : tie.Need-simple-value-requires
-simple-value-requires c κs = let h = (c .before .is-simple .ensures) (c .if2 .taken) in ((c .before .before .before .before .before .before .before .before .pre .0), (c .before .before .before .before .before .before .before .before .pre .1), omega (arith, h .0, (c .before .before .before .before .leaf-word .ensures)), omega (arith, h .1, (c .before .before .before .before .leaf-word .ensures)))
+simple-value-requires c κs =
+    let pre = c .before .before .before .before .before .before .before .before .pre in
+    let leaf-word-ensures = c .before .before .before .before .leaf-word .ensures in
+    let h = (c .before .is-simple .ensures) (c .if2 .taken) in
+    (pre .0, pre .1, omega (arith, h .0, leaf-word-ensures), omega (arith, h .1, leaf-word-ensures))
 
 returns-2 : tie.Need-returns-2
 returns-2 c = noted-found _ _ _ _ _ _ (c .before .before .before .before .leaf-word2 .ensures) (c .simple-value .ensures)

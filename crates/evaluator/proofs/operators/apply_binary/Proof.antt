@@ -46,7 +46,11 @@ compare-requires c κs = search needs
 
 returns-6 : tie.Need-returns-6
 unfolding apply-binary
-returns-6 c = simp (ne-eqb _ _ (c .before .before .before .before .before .if1 .left), ne-eqb _ _ (c .before .before .before .before .if2 .left), ne-eqb _ _ (c .before .before .before .if3 .left), ne-eqb _ _ (c .before .before .if4 .left), ne-eqb _ _ (c .before .if5 .left)) (ap Number (c .compare .ensures))
+returns-6 c =
+    let if1-left = c .before .before .before .before .before .if1 .left in
+    simp
+    (ne-eqb _ _ if1-left, ne-eqb _ _ (c .before .before .before .before .if2 .left), ne-eqb _ _ (c .before .before .before .if3 .left), ne-eqb _ _ (c .before .before .if4 .left), ne-eqb _ _ (c .before .if5 .left))
+    (ap Number (c .compare .ensures))
 
 pub apply-binary-spec : {M : Type 1} → statement M
 apply-binary-spec =

@@ -58,7 +58,13 @@ or-requires c κs = search needs
 
 returns-8 : tie.Need-returns-8
 unfolding compare
-returns-8 c = simp (ne-eqb _ _ (c .before .before .before .before .before .before .before .if1 .left), ne-eqb _ _ (c .before .before .before .before .before .before .if2 .left), ne-eqb _ _ (c .before .before .before .before .before .if3 .left), ne-eqb _ _ (c .before .before .before .before .if4 .left), ne-eqb _ _ (c .before .before .before .if5 .left), ne-eqb _ _ (c .before .before .if6 .left), ne-eqb _ _ (c .before .if7 .left)) (c .or .ensures)
+returns-8 c =
+    let if1-left = c .before .before .before .before .before .before .before .if1 .left in
+    let if2-left = c .before .before .before .before .before .before .if2 .left in
+    let if3-left = c .before .before .before .before .before .if3 .left in
+    simp
+    (ne-eqb _ _ if1-left, ne-eqb _ _ if2-left, ne-eqb _ _ if3-left, ne-eqb _ _ (c .before .before .before .before .if4 .left), ne-eqb _ _ (c .before .before .before .if5 .left), ne-eqb _ _ (c .before .before .if6 .left), ne-eqb _ _ (c .before .if7 .left))
+    (c .or .ensures)
 
 pub compare-spec : {M : Type 1} → statement M
 compare-spec =

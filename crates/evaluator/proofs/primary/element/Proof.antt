@@ -35,7 +35,13 @@ decode-requires : tie.Need-decode-requires
 decode-requires c κs = search needs
 
 returns : tie.Need-returns
-returns c = rw (← (c .before .before .before .before .before .before .before .word-at .ensures)) (element-inside (table-of (c .before .before .before .before .before .before .before .before .before .args .words .now) (c .before .before .before .before .before .before .before .before .before .args .n) (c .before .before .before .before .before .before .before .before .before .args .dims)) _ _ (c .before .before .before .before .before .before .before .before .before .args .i .n) _ _ (c .before .before .before .before .before .before .encode .ensures) (search needs) (c .before .before .before .before .before .if1 .taken) (c .before .before .before .before .word-at2 .ensures) (c .before .before .before .if2 .taken) (c .before .before .word-at3 .ensures) (c .before .word-at4 .ensures) (c .decode .ensures))
+returns c =
+    let args = c .before .before .before .before .before .before .before .before .before .args in
+    let word-at-ensures = c .before .before .before .before .before .before .before .word-at .ensures in
+    let encode-ensures = c .before .before .before .before .before .before .encode .ensures in
+    let if1-taken = c .before .before .before .before .before .if1 .taken in
+    rw (← word-at-ensures)
+    (element-inside (table-of (args .words .now) (args .n) (args .dims)) _ _ (args .i .n) _ _ encode-ensures (search needs) if1-taken (c .before .before .before .before .word-at2 .ensures) (c .before .before .before .if2 .taken) (c .before .before .word-at3 .ensures) (c .before .word-at4 .ensures) (c .decode .ensures))
 
 add-place-at : tie.Need-add-place-at
 add-place-at c = search needs
@@ -44,7 +50,11 @@ place-at-requires : tie.Need-place-at-requires
 place-at-requires c κs = search needs
 
 returns-2 : tie.Need-returns-2
-returns-2 c = rw (← (c .before .before .before .before .before .word-at .ensures)) (element-past (table-of (c .before .before .before .before .before .before .before .args .words .now) (c .before .before .before .before .before .before .before .args .n) (c .before .before .before .before .before .before .before .args .dims)) _ _ (c .before .before .before .before .before .before .before .args .i .n) _ _ (c .before .before .before .before .encode .ensures) (search needs) (c .before .before .before .if1 .taken) (c .before .before .word-at2 .ensures) (c .before .if2 .left) (c .place-at .ensures))
+returns-2 c =
+    let args = c .before .before .before .before .before .before .before .args in
+    let word-at-ensures = c .before .before .before .before .before .word-at .ensures in
+    rw (← word-at-ensures)
+    (element-past (table-of (args .words .now) (args .n) (args .dims)) _ _ (args .i .n) _ _ (c .before .before .before .before .encode .ensures) (search needs) (c .before .before .before .if1 .taken) (c .before .before .word-at2 .ensures) (c .before .if2 .left) (c .place-at .ensures))
 
 add-place-at-2 : tie.Need-add-place-at-2
 add-place-at-2 c = search needs
@@ -53,7 +63,10 @@ place-at-requires-2 : tie.Need-place-at-requires-2
 place-at-requires-2 c κs = search needs
 
 returns-3 : tie.Need-returns-3
-returns-3 c = rw (← (c .before .before .before .word-at .ensures)) (element-negative (table-of (c .before .before .before .before .before .args .words .now) (c .before .before .before .before .before .args .n) (c .before .before .before .before .before .args .dims)) _ _ (c .before .before .before .before .before .args .i .n) _ _ (c .before .before .encode .ensures) (search needs) (c .before .if1 .left) (c .place-at2 .ensures))
+returns-3 c =
+    let args = c .before .before .before .before .before .args in
+    rw (← (c .before .before .before .word-at .ensures))
+    (element-negative (table-of (args .words .now) (args .n) (args .dims)) _ _ (args .i .n) _ _ (c .before .before .encode .ensures) (search needs) (c .before .if1 .left) (c .place-at2 .ensures))
 
 pub element-spec : {M : Type 1} → statement M
 element-spec =

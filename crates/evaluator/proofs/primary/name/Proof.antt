@@ -19,7 +19,10 @@ add-t17 : tie.Need-add-t17
 add-t17 c = search needs
 
 returns : tie.Need-returns
-returns c = name-variable _ _ _ _ _ _ _ _ (c .before .before .before .word-at .ensures) (c .before .before .word-at2 .ensures) (c .before .before .before .before .before .before .before .pre .1) (c .before .if1 .taken) (c .variable-value .ensures)
+returns c =
+    let pre = c .before .before .before .before .before .before .before .pre in
+    name-variable _ _ _ _ _ _ _ _ (c .before .before .before .word-at .ensures) (c .before .before .word-at2 .ensures) (pre .1)
+    (c .before .if1 .taken) (c .variable-value .ensures)
 
 decode-requires : tie.Need-decode-requires
 decode-requires c κs = search needs
@@ -28,7 +31,10 @@ add-t19 : tie.Need-add-t19
 add-t19 c = search needs
 
 returns-2 : tie.Need-returns-2
-returns-2 c = name-constant _ _ _ _ _ _ _ _ (c .before .before .before .before .word-at .ensures) (c .before .before .before .word-at2 .ensures) (c .before .before .before .before .before .before .before .before .pre .1) (c .before .if2 .taken) (c .decode .ensures)
+returns-2 c =
+    let pre = c .before .before .before .before .before .before .before .before .pre in
+    name-constant _ _ _ _ _ _ _ _ (c .before .before .before .before .word-at .ensures) (c .before .before .before .word-at2 .ensures) (pre .1)
+    (c .before .if2 .taken) (c .decode .ensures)
 
 cast-index-value : tie.Need-cast-index-value
 cast-index-value c = search needs
@@ -40,7 +46,11 @@ add-t22 : tie.Need-add-t22
 add-t22 c = search needs
 
 returns-3 : tie.Need-returns-3
-returns-3 c = name-index _ _ _ _ _ _ _ _ (c .before .before .before .before .before .word-at .ensures) (c .before .before .before .before .word-at2 .ensures) (c .before .before .before .before .before .before .before .before .before .pre .1) (c .before .if3 .taken) (c .index-value .ensures)
+returns-3 c =
+    let pre = c .before .before .before .before .before .before .before .before .before .pre in
+    let word-at-ensures = c .before .before .before .before .before .word-at .ensures in
+    name-index _ _ _ _ _ _ _ _ word-at-ensures (c .before .before .before .before .word-at2 .ensures) (pre .1) (c .before .if3 .taken)
+    (c .index-value .ensures)
 
 returns-4 : tie.Need-returns-4
 returns-4 c = name-other _ _ _ _ _ _ _ _ (c .before .before .before .before .word-at .ensures) (c .before .before .before .word-at2 .ensures) (c .before .before .if1 .left) (c .before .if2 .left) (c .if3 .left)

@@ -25,7 +25,10 @@ same-length : tie.Need-same-length
 same-length c = search needs
 
 returns : tie.Need-returns
-returns c = one-stored _ _ _ _ _ _ _ (c .before .before .before .before .before .before .before .settled .ensures) (c .before .before .before .before .before .told .given .1) (c .before .put .ensures)
+returns c =
+    let settled-ensures = c .before .before .before .before .before .before .before .settled .ensures in
+    let told-given = c .before .before .before .before .before .told .given in
+    one-stored _ _ _ _ _ _ _ settled-ensures (told-given .1) (c .before .put .ensures)
 
 returns-2 : tie.Need-returns-2
 returns-2 c = one-fault _ _ _ _ _ _ _ (c .before .before .before .settled .ensures) (c .before .told2 .given .1)

@@ -25,19 +25,31 @@ word-at-requires : tie.Need-word-at-requires Inv-loop μ-loop
 word-at-requires c κs = search needs
 
 guard-requires : tie.Need-guard-requires Inv-loop μ-loop
-guard-requires c κs = ((c .before .before .before .before .before .before .before .before .pre .0), token _ _ _ (c .before .before .word-at .ensures) (omega arith))
+guard-requires c κs =
+    let pre = c .before .before .before .before .before .before .before .before .pre in
+    (pre .0, token _ _ _ (c .before .before .word-at .ensures) (omega arith))
 
 enum-told : tie.Need-enum-told Inv-loop μ-loop
 enum-told c = search needs
 
 assign-one-requires : tie.Need-assign-one-requires Inv-loop μ-loop
-assign-one-requires c κs = ((c .before .before .before .before .before .before .before .before .before .before .before .before .before .pre .0), token _ _ _ (c .before .before .before .before .before .before .before .word-at .ensures) (omega arith))
+assign-one-requires c κs =
+    let pre = c .before .before .before .before .before .before .before .before .before .before .before .before .before .pre in
+    let word-at-ensures = c .before .before .before .before .before .before .before .word-at .ensures in
+    (pre .0, token _ _ _ word-at-ensures (omega arith))
 
 same-length : tie.Need-same-length Inv-loop μ-loop
 same-length c = search needs
 
 returns : tie.Need-returns Inv-loop μ-loop
-returns c = assigns-from (ap (take (c .before .before .before .before .before .before .before .before .before .before .before .before .before .before .before .args .site .slots)) (c .before .before .before .before .before .before .before .before .before .before .loop .inv .1)) (c .before .before .before .before .before .before .before .before .before .before .loop .inv .2) (assigns-chosen _ _ _ _ _ _ (c .before .before .before .before .before .before .before .before .before .before .loop .inv .0) (c .before .before .before .before .before .before .before .before .before .word-at .ensures) (c .before .before .before .before .before .before .before .before .if1 .taken) (c .before .before .before .before .before .before .guard .ensures) (c .before .before .before .before .enum-told .given .1) (c .before .assign-one .ensures))
+returns c =
+    let args = c .before .before .before .before .before .before .before .before .before .before .before .before .before .before .before .args in
+    let inv = c .before .before .before .before .before .before .before .before .before .before .loop .inv in
+    let word-at-ensures = c .before .before .before .before .before .before .before .before .before .word-at .ensures in
+    let if1-taken = c .before .before .before .before .before .before .before .before .if1 .taken in
+    let guard-ensures = c .before .before .before .before .before .before .guard .ensures in
+    assigns-from (ap (take (args .site .slots)) (inv .1)) (inv .2)
+    (assigns-chosen _ _ _ _ _ _ (inv .0) word-at-ensures if1-taken guard-ensures (c .before .before .before .before .enum-told .given .1) (c .before .assign-one .ensures))
 
 enum-told-2 : tie.Need-enum-told-2 Inv-loop μ-loop
 enum-told-2 c = search needs
@@ -46,10 +58,21 @@ link-at-requires : tie.Need-link-at-requires Inv-loop μ-loop
 link-at-requires c κs = search needs
 
 loop-less : tie.Need-loop-less Inv-loop μ-loop
-loop-less c = omega (arith, link-bounds _ _ _ (c .link-at .ensures) (token _ _ _ (c .before .before .before .before .before .before .word-at .ensures) (omega arith)))
+loop-less c =
+    let word-at-ensures = c .before .before .before .before .before .before .word-at .ensures in
+    omega (arith, link-bounds _ _ _ (c .link-at .ensures) (token _ _ _ word-at-ensures (omega arith)))
 
 loop-again : tie.Need-loop-again Inv-loop μ-loop
-loop-again c = (tried-more _ _ _ _ _ _ (c .before .before .before .before .before .before .before .loop .inv .0) (c .before .before .before .before .before .before .word-at .ensures) (c .before .before .before .before .before .if1 .taken) (c .before .before .before .guard .ensures) (c .before .enum-told2 .given .1) (c .link-at .ensures), (c .before .before .before .before .before .before .before .loop .inv .1), (c .before .before .before .before .before .before .before .loop .inv .2), (c .before .before .before .before .before .before .before .loop .inv .3))
+loop-again c =
+    let inv = c .before .before .before .before .before .before .before .loop .inv in
+    let word-at-ensures = c .before .before .before .before .before .before .word-at .ensures in
+    let if1-taken = c .before .before .before .before .before .if1 .taken in (
+      tried-more _ _ _ _ _ _ (inv .0) word-at-ensures if1-taken (c .before .before .before .guard .ensures) (c .before .enum-told2 .given .1)
+          (c .link-at .ensures),
+      inv .1,
+      inv .2,
+      inv .3,
+    )
 
 enum-known-chosen : tie.Need-enum-known-chosen Inv-loop μ-loop
 enum-known-chosen c = search needs
@@ -58,13 +81,22 @@ same-length-2 : tie.Need-same-length-2 Inv-loop μ-loop
 same-length-2 c = search needs
 
 returns-2 : tie.Need-returns-2 Inv-loop μ-loop
-returns-2 c = assigns-from (ap (take (c .before .before .before .before .before .before .before .before .before .before .before .before .args .site .slots)) (c .before .before .before .before .before .before .before .loop .inv .1)) (c .before .before .before .before .before .before .before .loop .inv .2) (assigns-fault _ _ _ _ _ _ (c .before .before .before .before .before .before .before .loop .inv .0) (c .before .before .before .before .before .before .word-at .ensures) (c .before .before .before .before .before .if1 .taken) (c .before .before .before .guard .ensures) (c .before .chosen .given .1))
+returns-2 c =
+    let args = c .before .before .before .before .before .before .before .before .before .before .before .before .args in
+    let inv = c .before .before .before .before .before .before .before .loop .inv in
+    let word-at-ensures = c .before .before .before .before .before .before .word-at .ensures in
+    let if1-taken = c .before .before .before .before .before .if1 .taken in
+    assigns-from (ap (take (args .site .slots)) (inv .1)) (inv .2)
+    (assigns-fault _ _ _ _ _ _ (inv .0) word-at-ensures if1-taken (c .before .before .before .guard .ensures) (c .before .chosen .given .1))
 
 same-length-3 : tie.Need-same-length-3 Inv-loop μ-loop
 same-length-3 c = search needs
 
 returns-3 : tie.Need-returns-3 Inv-loop μ-loop
-returns-3 c = assigns-from (ap (take (c .before .before .before .before .before .before .before .args .site .slots)) (c .before .before .loop .inv .1)) (c .before .before .loop .inv .2) (assigns-none _ _ _ _ _ _ (c .before .before .loop .inv .0) (c .before .word-at .ensures) (c .if1 .left))
+returns-3 c =
+    let args = c .before .before .before .before .before .before .before .args in
+    let inv = c .before .before .loop .inv in
+    assigns-from (ap (take (args .site .slots)) (inv .1)) (inv .2) (assigns-none _ _ _ _ _ _ (inv .0) (c .before .word-at .ensures) (c .if1 .left))
 
 pub assignment-spec : {M : Type 1} → statement M
 assignment-spec =

@@ -23,13 +23,21 @@ within-requires : tie.Need-within-requires
 within-requires c κs = search needs
 
 returns : tie.Need-returns
-returns c = fits-known (site-table (c .before .before .before .before .before .before .before .before .before .before .before .args .words .now) (c .before .before .before .before .before .before .before .before .before .before .before .args .sizes .now) (c .before .before .before .before .before .before .before .before .before .before .before .args .site)) (c .before .before .before .before .before .before .before .before .before .before .before .args .site .base) (c .before .before .before .before .before .before .before .before .before .before .before .args .site .fields) (c .before .before .before .before .before .before .before .before .before .before .before .args .which) (c .before .before .before .before .before .before .before .before .before .before .before .args .v .n) (c .before .before .before .before .before .before .if1 .taken) (c .before .before .before .before .word-at .ensures) (c .before .before .before .decode .ensures) (c .before .before .word-at2 .ensures) (c .before .decode2 .ensures) (c .within .ensures)
+returns c =
+    let args = c .before .before .before .before .before .before .before .before .before .before .before .args in
+    let if1-taken = c .before .before .before .before .before .before .if1 .taken in
+    fits-known (site-table (args .words .now) (args .sizes .now) (args .site)) (args .site .base) (args .site .fields) (args .which) (args .v .n)
+    if1-taken (c .before .before .before .before .word-at .ensures) (c .before .before .before .decode .ensures)
+    (c .before .before .word-at2 .ensures) (c .before .decode2 .ensures) (c .within .ensures)
 
 within-requires-2 : tie.Need-within-requires-2
 within-requires-2 c κs = search needs
 
 returns-2 : tie.Need-returns-2
-returns-2 c = fits-none (site-table (c .before .before .before .before .before .before .args .words .now) (c .before .before .before .before .before .before .args .sizes .now) (c .before .before .before .before .before .before .args .site)) (c .before .before .before .before .before .before .args .site .base) (c .before .before .before .before .before .before .args .site .fields) (c .before .before .before .before .before .before .args .which) (c .before .before .before .before .before .before .args .v .n) (c .before .if1 .left) (c .within2 .ensures)
+returns-2 c =
+    let args = c .before .before .before .before .before .before .args in
+    fits-none (site-table (args .words .now) (args .sizes .now) (args .site)) (args .site .base) (args .site .fields) (args .which) (args .v .n)
+    (c .before .if1 .left) (c .within2 .ensures)
 
 pub fits-field-spec : {M : Type 1} → statement M
 fits-field-spec =

@@ -14,10 +14,14 @@ link-at-requires : tie.Need-link-at-requires
 link-at-requires c κs = search needs
 
 simple-requires : tie.Need-simple-requires
-simple-requires c κs = (c .before .before .before .before .before .before .pre .0, link-bounds _ _ _ (c .link-at .ensures) (c .before .before .before .before .before .before .pre .1) .1)
+simple-requires c κs =
+    let pre = c .before .before .before .before .before .before .pre in
+    (pre .0, link-bounds _ _ _ (c .link-at .ensures) (pre .1) .1)
 
 settled-requires : tie.Need-settled-requires
-settled-requires c κs = (c .before .before .before .before .before .before .before .pre .0, link-bounds _ _ _ (c .before .link-at .ensures) (c .before .before .before .before .before .before .before .pre .1) .1, c .simple .ensures)
+settled-requires c κs =
+    let pre = c .before .before .before .before .before .before .before .pre in
+    (pre .0, link-bounds _ _ _ (c .before .link-at .ensures) (pre .1) .1, c .simple .ensures)
 
 enum-known-told : tie.Need-enum-known-told
 enum-known-told c = search needs
@@ -26,16 +30,32 @@ is-true-requires : tie.Need-is-true-requires
 is-true-requires c κs = search needs
 
 returns-2 : tie.Need-returns-2
-returns-2 c = guard-holds _ _ _ _ _ (c .before .before .before .before .before .before .before .before .before .word-at .ensures) (c .before .before .before .before .before .before .before .before .if1 .left) (c .before .before .before .before .before .before .before .link-at .ensures) (c .before .before .before .before .before .settled .ensures) (c .before .before .before .told .given .1) (c .before .is-true .ensures) (c .if2 .taken)
+returns-2 c =
+    let word-at-ensures = c .before .before .before .before .before .before .before .before .before .word-at .ensures in
+    let if1-left = c .before .before .before .before .before .before .before .before .if1 .left in
+    let link-at-ensures = c .before .before .before .before .before .before .before .link-at .ensures in
+    let settled-ensures = c .before .before .before .before .before .settled .ensures in
+    guard-holds _ _ _ _ _ word-at-ensures if1-left link-at-ensures settled-ensures (c .before .before .before .told .given .1)
+    (c .before .is-true .ensures) (c .if2 .taken)
 
 enum-known-told-2 : tie.Need-enum-known-told-2
 enum-known-told-2 c = search needs
 
 returns-3 : tie.Need-returns-3
-returns-3 c = guard-fails _ _ _ _ _ (c .before .before .before .before .before .before .before .before .before .word-at .ensures) (c .before .before .before .before .before .before .before .before .if1 .left) (c .before .before .before .before .before .before .before .link-at .ensures) (c .before .before .before .before .before .settled .ensures) (c .before .before .before .told .given .1) (c .before .is-true .ensures) (c .if2 .left)
+returns-3 c =
+    let word-at-ensures = c .before .before .before .before .before .before .before .before .before .word-at .ensures in
+    let if1-left = c .before .before .before .before .before .before .before .before .if1 .left in
+    let link-at-ensures = c .before .before .before .before .before .before .before .link-at .ensures in
+    let settled-ensures = c .before .before .before .before .before .settled .ensures in
+    guard-fails _ _ _ _ _ word-at-ensures if1-left link-at-ensures settled-ensures (c .before .before .before .told .given .1)
+    (c .before .is-true .ensures) (c .if2 .left)
 
 returns-4 : tie.Need-returns-4
-returns-4 c = guard-fault _ _ _ _ _ (c .before .before .before .before .before .before .before .word-at .ensures) (c .before .before .before .before .before .before .if1 .left) (c .before .before .before .before .before .link-at .ensures) (c .before .before .before .settled .ensures) (c .before .told2 .given .1)
+returns-4 c =
+    let word-at-ensures = c .before .before .before .before .before .before .before .word-at .ensures in
+    let if1-left = c .before .before .before .before .before .before .if1 .left in
+    let link-at-ensures = c .before .before .before .before .before .link-at .ensures in
+    guard-fault _ _ _ _ _ word-at-ensures if1-left link-at-ensures (c .before .before .before .settled .ensures) (c .before .told2 .given .1)
 
 pub guard-spec : {M : Type 1} → statement M
 guard-spec =

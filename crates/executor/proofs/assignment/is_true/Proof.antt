@@ -9,7 +9,10 @@ use Rattle.executor.proofs.assignment.is_true.Statement.{statement}
 use Rattle.executor.proofs.assignment.is_true.Tie as tie
 
 returns : tie.Need-returns
-returns c = let h : mag (c .before .before .args .v .n) < 2 ^ 31 = search needs in ap not (zero-test w32 (c .before .before .args .v .n) (record { sfits = h }))
+returns c =
+    let args = c .before .before .args in
+    let h : mag (args .v .n) < 2 ^ 31 = search needs in
+    ap not (zero-test w32 (args .v .n) (record { sfits = h }))
 
 pub is-true-spec : {M : Type 1} → statement M
 is-true-spec = tie.close (tie.spec returns)

@@ -12,8 +12,8 @@ enum-known-short c = search needs
 enum-told : tie.Need-enum-told
 enum-told c = search needs
 
-expression-requires : tie.Need-expression-requires
-expression-requires c κs = search needs
+chain-requires : tie.Need-chain-requires
+chain-requires c κs = search needs
 
 returns : tie.Need-returns
 returns c = search needs
@@ -24,4 +24,4 @@ returns-2 c = quick-found (c .before .before .before .quick .ensures) (c .before
 pub long-spec : {M : Type 1} → statement M
 long-spec =
     tie.close
-    (tie.spec quick-requires enum-known-short enum-told expression-requires returns returns-2)
+    (tie.spec quick-requires enum-known-short enum-told chain-requires returns returns-2)

@@ -22,13 +22,21 @@ same-length : tie.Need-same-length
 same-length c = search needs
 
 returns : tie.Need-returns
-returns c = stores-field _ _ _ _ _ _ _ (c .before .before .before .before .before .before .before .word-at .ensures) (c .before .before .before .before .before .before .word-at2 .ensures) (c .before .before .before .before .before .if1 .taken) (c .before .before .before .before .fits-field .ensures) (c .before .before .before .if2 .taken) (c .before .put-field .ensures)
+returns c =
+    let word-at-ensures = c .before .before .before .before .before .before .before .word-at .ensures in
+    let word-at2-ensures = c .before .before .before .before .before .before .word-at2 .ensures in
+    let if1-taken = c .before .before .before .before .before .if1 .taken in
+    stores-field _ _ _ _ _ _ _ word-at-ensures word-at2-ensures if1-taken (c .before .before .before .before .fits-field .ensures)
+    (c .before .before .before .if2 .taken) (c .before .put-field .ensures)
 
 place-at-requires : tie.Need-place-at-requires
 place-at-requires c κs = search needs
 
 returns-2 : tie.Need-returns-2
-returns-2 c = stores-fault _ _ _ _ _ _ _ (c .before .before .before .before .before .word-at .ensures) (c .before .before .before .before .word-at2 .ensures) (c .before .before .before .if1 .taken) (c .before .before .fits-field .ensures) (c .before .if2 .left) (c .place-at .ensures)
+returns-2 c =
+    let word-at-ensures = c .before .before .before .before .before .word-at .ensures in
+    stores-fault _ _ _ _ _ _ _ word-at-ensures (c .before .before .before .before .word-at2 .ensures) (c .before .before .before .if1 .taken)
+    (c .before .before .fits-field .ensures) (c .before .if2 .left) (c .place-at .ensures)
 
 put-variable-requires : tie.Need-put-variable-requires
 put-variable-requires c κs = search needs

@@ -13,7 +13,10 @@ element-set-from-n : tie.Need-element-set-from-n
 element-set-from-n c = search needs
 
 returns : tie.Need-returns
-returns c = let e : toZ w32 (ofZ w32 (c .before .before .args .v .n)) ≡ (c .before .before .args .v .n) = search needs in rw e (front-set (c .before .before .args .slots) (c .before .before .args .vars .now) _ _ (c .before .if1 .taken))
+returns c =
+    let args = c .before .before .args in
+    let e : toZ w32 (ofZ w32 (args .v .n)) ≡ (args .v .n) = search needs in
+    rw e (front-set (args .slots) (args .vars .now) _ _ (c .before .if1 .taken))
 
 returns-2 : tie.Need-returns-2
 returns-2 c = front-same (c .before .args .slots) (c .before .args .vars .now) _ _ (c .if1 .left)

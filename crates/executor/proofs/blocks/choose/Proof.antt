@@ -35,40 +35,82 @@ is-true-requires : tie.Need-is-true-requires Inv-loop μ-loop
 is-true-requires c κs = search needs
 
 add-t24 : tie.Need-add-t24 Inv-loop μ-loop
-add-t24 c = omega (arith, (c .if2 .taken), (c .before .before .before .before .before .before .before .before .before .before .before .before .pre .0 .tokens))
+add-t24 c =
+    let pre = c .before .before .before .before .before .before .before .before .before .before .before .before .pre in
+    omega (arith, c .if2 .taken, pre .0 .tokens)
 
 returns : tie.Need-returns Inv-loop μ-loop
-returns c = choice-then _ _ _ _ _ _ _ (c .before .before .before .before .before .before .before .before .loop .inv) (c .before .before .before .before .before .before .settled .ensures) (c .before .before .before .before .told .given .1) (c .before .before .is-true .ensures) (c .before .if1 .taken) (c .if2 .taken)
+returns c =
+    let inv = c .before .before .before .before .before .before .before .before .loop .inv in
+    let settled-ensures = c .before .before .before .before .before .before .settled .ensures in
+    choice-then _ _ _ _ _ _ _ inv settled-ensures (c .before .before .before .before .told .given .1) (c .before .before .is-true .ensures)
+    (c .before .if1 .taken) (c .if2 .taken)
 
 returns-2 : tie.Need-returns-2 Inv-loop μ-loop
-returns-2 c = choice-wrong _ _ _ _ _ _ _ (c .before .before .before .before .before .before .before .before .loop .inv) (c .before .before .before .before .before .before .settled .ensures) (c .before .before .before .before .told .given .1) (c .before .before .is-true .ensures) (λ i e. token _ _ i (sym e) (omega arith)) (c .if2 .left)
+returns-2 c =
+    let inv = c .before .before .before .before .before .before .before .before .loop .inv in
+    let settled-ensures = c .before .before .before .before .before .before .settled .ensures in
+    choice-wrong _ _ _ _ _ _ _ inv settled-ensures (c .before .before .before .before .told .given .1) (c .before .before .is-true .ensures)
+    (λ i e. token _ _ i (sym e) (omega arith)) (c .if2 .left)
 
 link-at-requires : tie.Need-link-at-requires Inv-loop μ-loop
-link-at-requires c κs = ((c .before .before .before .before .before .before .before .before .before .before .before .pre .0 .table), (c .before .before .before .before .before .before .before .before .before .before .before .pre .0 .tokens), omega arith)
+link-at-requires c κs =
+    let pre = c .before .before .before .before .before .before .before .before .before .before .before .pre in
+    (pre .0 .table, pre .0 .tokens, omega arith)
 
 word-at-requires : tie.Need-word-at-requires Inv-loop μ-loop
-word-at-requires c κs = ((c .before .before .before .before .before .before .before .before .before .before .before .before .pre .0 .table), (c .before .before .before .before .before .before .before .before .before .before .before .before .pre .0 .tokens), omega arith)
+word-at-requires c κs =
+    let pre = c .before .before .before .before .before .before .before .before .before .before .before .before .pre in
+    (pre .0 .table, pre .0 .tokens, omega arith)
 
 add-t26 : tie.Need-add-t26 Inv-loop μ-loop
-add-t26 c = omega (arith, token _ _ _ (c .before .word-at .ensures) (omega arith), (c .before .before .before .before .before .before .before .before .before .before .before .before .before .before .pre .0 .tokens))
+add-t26 c =
+    let pre = c .before .before .before .before .before .before .before .before .before .before .before .before .before .before .pre in
+    omega (arith, token _ _ _ (c .before .word-at .ensures) (omega arith), pre .0 .tokens)
 
 returns-3 : tie.Need-returns-3 Inv-loop μ-loop
-returns-3 c = choice-else _ _ _ _ _ _ _ (c .before .before .before .before .before .before .before .before .before .before .loop .inv) (c .before .before .before .before .before .before .before .before .settled .ensures) (c .before .before .before .before .before .before .told .given .1) (c .before .before .before .before .is-true .ensures) (c .before .before .before .if1 .left) (c .before .before .link-at .ensures) (c .before .word-at .ensures) (c .if3 .taken) (link-bounds _ _ _ (c .before .before .link-at .ensures) (c .before .before .before .before .before .before .before .before .before .before .loop .inv .within) .0) (token _ _ _ (c .before .word-at .ensures) (omega arith))
+returns-3 c =
+    let inv = c .before .before .before .before .before .before .before .before .before .before .loop .inv in
+    let settled-ensures = c .before .before .before .before .before .before .before .before .settled .ensures in
+    let told-given = c .before .before .before .before .before .before .told .given in
+    let link-at-ensures = c .before .before .link-at .ensures in
+    let word-at-ensures = c .before .word-at .ensures in
+    choice-else _ _ _ _ _ _ _ inv settled-ensures (told-given .1) (c .before .before .before .before .is-true .ensures)
+    (c .before .before .before .if1 .left) link-at-ensures word-at-ensures (c .if3 .taken) (link-bounds _ _ _ link-at-ensures (inv .within) .0)
+    (token _ _ _ word-at-ensures (omega arith))
 
 returns-4 : tie.Need-returns-4 Inv-loop μ-loop
-returns-4 c = choice-end _ _ _ _ _ _ _ (c .before .before .before .before .before .before .before .before .before .before .before .loop .inv) (c .before .before .before .before .before .before .before .before .before .settled .ensures) (c .before .before .before .before .before .before .before .told .given .1) (c .before .before .before .before .before .is-true .ensures) (c .before .before .before .before .if1 .left) (c .before .before .before .link-at .ensures) (c .before .before .word-at .ensures) (c .before .if3 .left) (c .if4 .taken)
+returns-4 c =
+    let inv = c .before .before .before .before .before .before .before .before .before .before .before .loop .inv in
+    let settled-ensures = c .before .before .before .before .before .before .before .before .before .settled .ensures in
+    let told-given = c .before .before .before .before .before .before .before .told .given in
+    let is-true-ensures = c .before .before .before .before .before .is-true .ensures in
+    choice-end _ _ _ _ _ _ _ inv settled-ensures (told-given .1) is-true-ensures (c .before .before .before .before .if1 .left)
+    (c .before .before .before .link-at .ensures) (c .before .before .word-at .ensures) (c .before .if3 .left) (c .if4 .taken)
 
 loop-less : tie.Need-loop-less Inv-loop μ-loop
-loop-less c = omega (arith, link-bounds _ _ _ (c .before .before .before .link-at .ensures) (c .before .before .before .before .before .before .before .before .before .before .before .loop .inv .within), (c .before .before .before .before .before .before .before .before .before .before .before .loop .inv .within))
+loop-less c =
+    let inv = c .before .before .before .before .before .before .before .before .before .before .before .loop .inv in
+    omega (arith, link-bounds _ _ _ (c .before .before .before .link-at .ensures) (inv .within), inv .within)
 
 loop-again : tie.Need-loop-again Inv-loop μ-loop
-loop-again c = arms-more _ _ _ _ _ _ _ (c .before .before .before .before .before .before .before .before .before .before .before .loop .inv) (c .before .before .before .before .before .before .before .before .before .settled .ensures) (c .before .before .before .before .before .before .before .told .given .1) (c .before .before .before .before .before .is-true .ensures) (c .before .before .before .before .if1 .left) (c .before .before .before .link-at .ensures) (c .before .before .word-at .ensures) (c .if4 .left) (link-bounds _ _ _ (c .before .before .before .link-at .ensures) (c .before .before .before .before .before .before .before .before .before .before .before .loop .inv .within) .0) (token _ _ _ (c .before .before .word-at .ensures) (omega arith))
+loop-again c =
+    let inv = c .before .before .before .before .before .before .before .before .before .before .before .loop .inv in
+    let settled-ensures = c .before .before .before .before .before .before .before .before .before .settled .ensures in
+    let told-given = c .before .before .before .before .before .before .before .told .given in
+    let is-true-ensures = c .before .before .before .before .before .is-true .ensures in
+    let link-at-ensures = c .before .before .before .link-at .ensures in
+    let word-at-ensures = c .before .before .word-at .ensures in
+    arms-more _ _ _ _ _ _ _ inv settled-ensures (told-given .1) is-true-ensures (c .before .before .before .before .if1 .left) link-at-ensures
+    word-at-ensures (c .if4 .left) (link-bounds _ _ _ link-at-ensures (inv .within) .0) (token _ _ _ word-at-ensures (omega arith))
 
 enum-known-told-2 : tie.Need-enum-known-told-2 Inv-loop μ-loop
 enum-known-told-2 c = search needs
 
 returns-5 : tie.Need-returns-5 Inv-loop μ-loop
-returns-5 c = choice-fault _ _ _ _ _ _ _ (c .before .before .before .before .before .loop .inv) (c .before .before .before .settled .ensures) (c .before .told2 .given .1)
+returns-5 c =
+    let inv = c .before .before .before .before .before .loop .inv in
+    choice-fault _ _ _ _ _ _ _ inv (c .before .before .before .settled .ensures) (c .before .told2 .given .1)
 
 pub choose-spec : {M : Type 1} → statement M
 choose-spec =

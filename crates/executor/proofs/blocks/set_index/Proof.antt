@@ -26,7 +26,11 @@ same-length : tie.Need-same-length
 same-length c = search needs
 
 returns : tie.Need-returns
-returns c = let e : toZ w32 (ofZ w32 ((c .before .offset .result) .n)) ≡ (c .before .offset .result) .n = search needs in (rw e (ap (λ (v : Value). set (c .before .before .args .index .now) (c .before .before .args .depth) (v .n)) (c .before .offset .ensures)), (c .before .before .pre .0))
+returns c =
+    let args = c .before .before .args in
+    let offset-known = c .before .offset in
+    let e : toZ w32 (ofZ w32 ((offset-known .result) .n)) ≡ (offset-known .result) .n = search needs in
+    (rw e (ap (λ (v : Value). set (args .index .now) (args .depth) (v .n)) (c .before .offset .ensures)), c .before .before .pre .0)
 
 pub set-index-spec : {M : Type 1} → statement M
 set-index-spec =

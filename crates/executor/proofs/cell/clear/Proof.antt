@@ -30,7 +30,10 @@ loop-less : tie.Need-loop-less Inv-loop μ-loop
 loop-less c = search needs
 
 loop-again : tie.Need-loop-again Inv-loop μ-loop
-loop-again c = (omega arith, cleared (c .before .loop .vars) (c .before .loop .k) (c .before .loop .inv .1) (omega arith) refl, length-set (c .before .loop .vars) _ _ ∙ (c .before .loop .inv .2))
+loop-again c =
+    let turn = c .before .loop in
+    let inv = c .before .loop .inv in
+    (omega arith, cleared (turn .vars) (turn .k) (inv .1) (omega arith) refl, length-set (turn .vars) _ _ ∙ (inv .2))
 
 same-length : tie.Need-same-length Inv-loop μ-loop
 same-length c = search needs

@@ -50,14 +50,31 @@ loop-less : tie.Need-loop-less Inv-loop μ-loop
 loop-less c = search needs
 
 loop-again : tie.Need-loop-again Inv-loop μ-loop
-loop-again c = let s : (c .before .before .loop .k) + 1 ≡ suc (c .before .before .loop .k) = omega arith in let e : toZ w32 (ofZ w32 (getD (c .before .before .before .args .grid .now) ((c .before .before .before .args .cell) * length (c .before .before .before .args .next .now) + (c .before .before .loop .k)) (pos 0))) ≡ getD (c .before .before .before .args .grid .now) ((c .before .before .before .args .cell) * length (c .before .before .before .args .next .now) + (c .before .before .loop .k)) (pos 0) = search needs in (omega arith, rw s (made-go (λ i. getD (c .before .before .before .args .grid .now) ((c .before .before .before .args .cell) * length (c .before .before .before .args .next .now) + i) (pos 0)) (pos 0) (length (c .before .before .before .args .next .now)) (c .before .before .loop .next) _ (c .before .before .loop .k) (c .before .before .loop .inv .1) (omega arith) (ap (set (c .before .before .loop .next) (c .before .before .loop .k)) e)), (c .before .before .loop .inv .2), (c .before .before .loop .inv .3))
+loop-again c =
+    let args = c .before .before .before .args in
+    let turn = c .before .before .loop in
+    let inv = c .before .before .loop .inv in
+    let s : (turn .k) + 1 ≡ suc (turn .k) = omega arith in
+    let e : toZ w32 (ofZ w32 (getD (args .grid .now) ((args .cell) * length (args .next .now) + (turn .k)) (pos 0))) ≡ getD (args .grid .now)
+    ((args .cell) * length (args .next .now) + (turn .k)) (pos 0) = search needs in (
+      omega arith,
+      rw s
+          (made-go (λ i. getD (args .grid .now) ((args .cell) * length (args .next .now) + i) (pos 0)) (pos 0) (length (args .next .now)) (turn .next) _ (turn .k) (inv .1) (omega arith) (ap (set (turn .next) (turn .k)) e)),
+      inv .2,
+      inv .3,
+    )
 
 same-length : tie.Need-same-length Inv-loop μ-loop
 same-length c = search needs
 
 returns : tie.Need-returns Inv-loop μ-loop
 unfolding cell-of
-returns c = let e : (c .before .loop .k) ≡ length (c .before .before .args .next .now) = omega arith in made-done (λ i. getD (c .before .before .args .grid .now) ((c .before .before .args .cell) * length (c .before .before .args .next .now) + i) (pos 0)) (pos 0) (length (c .before .before .args .next .now)) (c .before .loop .next) (subst (λ (i : ℕ). Made (λ i. getD (c .before .before .args .grid .now) ((c .before .before .args .cell) * length (c .before .before .args .next .now) + i) (pos 0)) (pos 0) (length (c .before .before .args .next .now)) (c .before .loop .next) i) e (c .before .loop .inv .1))
+returns c =
+    let args = c .before .before .args in
+    let turn = c .before .loop in
+    let e : (turn .k) ≡ length (args .next .now) = omega arith in
+    made-done (λ i. getD (args .grid .now) ((args .cell) * length (args .next .now) + i) (pos 0)) (pos 0) (length (args .next .now)) (turn .next)
+    (subst (λ (i : ℕ). Made (λ i. getD (args .grid .now) ((args .cell) * length (args .next .now) + i) (pos 0)) (pos 0) (length (args .next .now)) (turn .next) i) e (c .before .loop .inv .1))
 
 pub copy-fields-spec : {M : Type 1} → statement M
 copy-fields-spec =

@@ -7,17 +7,21 @@ use Rattle.executor.proofs.cell.evaluate_cell.Tie as tie
 cast-slots : tie.Need-cast-slots
 cast-slots c = search needs
 
+cast-fields : tie.Need-cast-fields
+cast-fields c = search needs
+
 clear-requires : tie.Need-clear-requires
 clear-requires c κs = search needs
 
 copy-fields-requires : tie.Need-copy-fields-requires
-copy-fields-requires c κs = rw (c .before .before .before .before .before .before .before .pre .lent) at (room _ _ _ _ (c .before .before .before .before .before .before .before .pre .inside) (c .before .before .before .before .before .before .before .pre .entries))
-
-cast-t22 : tie.Need-cast-t22
-cast-t22 c = search needs
+copy-fields-requires c κs =
+    let s = c .before .before .before .before .before .before .before .before in
+    rw (s .pre .lent) at (room _ _ _ _ (s .pre .inside) (s .pre .entries))
 
 block-requires : tie.Need-block-requires
-block-requires c κs = (ready (c .before .before .before .before .before .before .before .before .before .before .before .before .before .pre), (c .before .before .before .before .before .before .before .before .before .before .before .before .before .pre .body))
+block-requires c κs =
+    let s = c .before .before .before .before .before .before .before .before .before .before .before .before .before in
+    (ready (s .pre), s .pre .body)
 
 enum-told : tie.Need-enum-told
 enum-told c = search needs
@@ -32,28 +36,34 @@ same-length : tie.Need-same-length
 same-length c = search needs
 
 returns : tie.Need-returns
-returns c = cell-on (c .before .before .before .before .before .before .before .before .before .before .before .before .before .before .before .before .before .pre) (c .before .before .before .before .before .before .before .before .before .before .before .clear .ensures) (c .before .before .before .before .before .before .before .before .before .copy-fields .ensures) (c .before .before .before .block .ensures) (c .enum-told .given .1)
+returns c =
+    cell-on (c .before .before .before .before .before .before .before .before .before .before .before .before .before .before .before .before .before .pre) (c .before .before .before .before .before .before .before .before .before .before .clear .ensures) (c .before .before .before .before .before .before .before .before .copy-fields .ensures)
+    (c .before .before .before .block .ensures) (c .enum-told .given .1)
 
 same-length-2 : tie.Need-same-length-2
 same-length-2 c = search needs
 
 returns-2 : tie.Need-returns-2
-returns-2 c = cell-leaving (c .before .before .before .before .before .before .before .before .before .before .before .before .before .before .before .before .before .pre) (c .before .before .before .before .before .before .before .before .before .before .before .clear .ensures) (c .before .before .before .before .before .before .before .before .before .copy-fields .ensures) (c .before .before .before .block .ensures) (c .enum-told2 .given .1)
+returns-2 c =
+    cell-leaving (c .before .before .before .before .before .before .before .before .before .before .before .before .before .before .before .before .before .pre) (c .before .before .before .before .before .before .before .before .before .before .clear .ensures) (c .before .before .before .before .before .before .before .before .copy-fields .ensures)
+    (c .before .before .before .block .ensures) (c .enum-told2 .given .1)
 
 same-length-3 : tie.Need-same-length-3
 same-length-3 c = search needs
 
 returns-3 : tie.Need-returns-3
-returns-3 c = cell-fault (c .before .before .before .before .before .before .before .before .before .before .before .before .before .before .before .before .before .before .pre) (c .before .before .before .before .before .before .before .before .before .before .before .before .clear .ensures) (c .before .before .before .before .before .before .before .before .before .before .copy-fields .ensures) (c .before .before .before .before .block .ensures) (c .before .flow .given .1)
+returns-3 c =
+    cell-fault (c .before .before .before .before .before .before .before .before .before .before .before .before .before .before .before .before .before .before .pre) (c .before .before .before .before .before .before .before .before .before .before .before .clear .ensures) (c .before .before .before .before .before .before .before .before .before .copy-fields .ensures)
+    (c .before .before .before .before .block .ensures) (c .before .flow .given .1)
 
 pub evaluate-cell-spec : {M : Type 1} → statement M
 evaluate-cell-spec =
     tie.close
     (tie.spec
     cast-slots
+    cast-fields
     clear-requires
     copy-fields-requires
-    cast-t22
     block-requires
     enum-told
     enum-told-2

@@ -7,7 +7,9 @@ exceeds-requires : tie.Need-exceeds-requires
 exceeds-requires c κs = search needs
 
 returns : tie.Need-returns
-returns c = past-low (c .before .before .args .low) (c .before .before .args .high) (c .before .before .args .size) (c .before .exceeds .ensures) (c .if1 .taken)
+returns c =
+    let args = c .before .before .args in
+    past-low (args .low) (args .high) (args .size) (c .before .exceeds .ensures) (c .if1 .taken)
 
 exceeds-requires-2 : tie.Need-exceeds-requires-2
 exceeds-requires-2 c κs = search needs

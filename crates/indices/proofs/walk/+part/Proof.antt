@@ -62,13 +62,21 @@ part-loop-holds : (t : ℕ) → part-lts.Need-loop-holds (part-calls t) (part-at
 part-loop-holds t c = going-start _ _ _ _ _ _ _
 
 part-opens-requires : (t : ℕ) → part-lts.Need-opens-requires (part-calls t) (part-at t) part.Post part-Inv-loop part-μ-loop
-part-opens-requires t c κs = (c .before .before .before .before .before .pre .1 .0 .sized .table, c .before .before .before .before .before .pre .1 .0 .sized .tokens)
+part-opens-requires t c κs =
+    let pre = c .before .before .before .before .before .pre in
+    (pre .1 .0 .sized .table, pre .1 .0 .sized .tokens)
 
 part-add-word-at : (t : ℕ) → part-lts.Need-add-word-at (part-calls t) (part-at t) part.Post part-Inv-loop part-μ-loop
-part-add-word-at t c = let p = c .before .before .before .before .before .before .before .before .pre in omega (arith, p .1 .1, p .1 .0 .sized .tokens)
+part-add-word-at t c =
+    let pre = c .before .before .before .before .before .before .before .before .pre in
+    let p = pre in
+    omega (arith, p .1 .1, p .1 .0 .sized .tokens)
 
 part-word-at-requires : (t : ℕ) → part-lts.Need-word-at-requires (part-calls t) (part-at t) part.Post part-Inv-loop part-μ-loop
-part-word-at-requires t c κs = let p = c .before .before .before .before .before .before .before .before .pre in (p .1 .0 .sized .table, p .1 .0 .sized .tokens, omega arith)
+part-word-at-requires t c κs =
+    let pre = c .before .before .before .before .before .before .before .before .pre in
+    let p = pre in
+    (p .1 .0 .sized .table, p .1 .0 .sized .tokens, omega arith)
 
 part-opened-requires : (t : ℕ) → part-lts.Need-opened-requires (part-calls t) (part-at t) part.Post part-Inv-loop part-μ-loop
 part-opened-requires t c κs =
@@ -126,7 +134,10 @@ part-part-requires t c κs =
     (omega (arith, p .0, inner .0, inner .1, l .inv .onward), (record { sized = p .1 .0 .sized; dims = p .1 .0 .dims; deep = omega arith }, past .1))
 
 part-index-at-requires : (t : ℕ) → part-lts.Need-index-at-requires (part-calls t) (part-at t) part.Post part-Inv-loop part-μ-loop
-part-index-at-requires t c κs = let p = c .before .before .before .before .before .before .before .pre in (p .1 .0, omega (arith, p .1 .1, c .before .before .loop-test .taken))
+part-index-at-requires t c κs =
+    let pre = c .before .before .before .before .before .before .before .pre in
+    let p = pre in
+    (p .1 .0, omega (arith, p .1 .1, c .before .before .loop-test .taken))
 
 part-behind-requires : (t : ℕ) → part-lts.Need-behind-requires (part-calls t) (part-at t) part.Post part-Inv-loop part-μ-loop
 part-behind-requires t c κs =

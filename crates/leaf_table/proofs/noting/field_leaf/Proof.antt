@@ -15,10 +15,17 @@ cast-if1 : tie.Need-cast-if1
 cast-if1 c = search needs
 
 cast-t12 : tie.Need-cast-t12
-cast-t12 c = let b = link-bounds _ _ _ (c .before .link-at .ensures) (c .before .before .before .before .pre .2) in record { fits = omega (arith, c .before .before .before .before .pre .1) }
+cast-t12 c =
+    let pre = c .before .before .before .before .pre in
+    let b = link-bounds _ _ _ (c .before .link-at .ensures) (pre .2) in
+    record { fits = omega (arith, pre .1) }
 
 returns : tie.Need-returns
-returns c = let s = c .before .before .before .before in field-leaf _ _ _ _ _ (s .pre .3) (c .before .before .word-at .ensures) (c .if1 .taken) (c .before .link-at .ensures) (link-bounds _ _ _ (c .before .link-at .ensures) (s .pre .2))
+returns c =
+    let link-at-ensures = c .before .link-at .ensures in
+    let s = c .before .before .before .before in
+    field-leaf _ _ _ _ _ (s .pre .3) (c .before .before .word-at .ensures) (c .if1 .taken) link-at-ensures
+    (link-bounds _ _ _ link-at-ensures (s .pre .2))
 
 returns-2 : tie.Need-returns-2
 returns-2 c = field-unnoted _ _ _ _ _ (c .before .before .before .before .pre .3)

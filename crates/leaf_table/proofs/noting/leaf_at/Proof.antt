@@ -20,7 +20,9 @@ add-t11 : tie.Need-add-t11
 add-t11 c = let l = token _ _ _ (c .before .before .word-at .ensures) (omega arith) in record { fits = omega (arith, c .before .before .before .before .pre .1) }
 
 returns : tie.Need-returns
-returns c = literal-leaf _ _ _ _ _ (c .before .before .word-at .ensures) (c .before .if1 .taken) (c .word-at2 .ensures) (token _ _ _ (c .before .before .word-at .ensures) (omega arith))
+returns c =
+    let word-at-ensures = c .before .before .word-at .ensures in
+    literal-leaf _ _ _ _ _ word-at-ensures (c .before .if1 .taken) (c .word-at2 .ensures) (token _ _ _ word-at-ensures (omega arith))
 
 name-leaf-requires : tie.Need-name-leaf-requires
 name-leaf-requires c κs = let e = c .before .before .word-at .ensures in let p = c .before .before .before .before .pre in (p .0, p .1, token _ _ _ e (omega arith), sym e ∙ c .if2 .taken)
@@ -29,13 +31,21 @@ returns-2 : tie.Need-returns-2
 returns-2 c = search needs
 
 field-leaf-requires : tie.Need-field-leaf-requires
-field-leaf-requires c κs = let e = c .before .before .before .word-at .ensures in let p = c .before .before .before .before .before .pre in (p .0, p .1, token _ _ _ e (omega arith), inl (sym e ∙ c .if3 .taken, refl))
+field-leaf-requires c κs =
+    let pre = c .before .before .before .before .before .pre in
+    let e = c .before .before .before .word-at .ensures in
+    let p = pre in
+    (p .0, p .1, token _ _ _ e (omega arith), inl (sym e ∙ c .if3 .taken, refl))
 
 returns-3 : tie.Need-returns-3
 returns-3 c = search needs
 
 field-leaf-requires-2 : tie.Need-field-leaf-requires-2
-field-leaf-requires-2 c κs = let e = c .before .before .before .before .word-at .ensures in let p = c .before .before .before .before .before .before .pre in (p .0, p .1, token _ _ _ e (omega arith), inr (sym e ∙ c .if4 .taken, refl))
+field-leaf-requires-2 c κs =
+    let pre = c .before .before .before .before .before .before .pre in
+    let e = c .before .before .before .before .word-at .ensures in
+    let p = pre in
+    (p .0, p .1, token _ _ _ e (omega arith), inr (sym e ∙ c .if4 .taken, refl))
 
 returns-4 : tie.Need-returns-4
 returns-4 c = search needs

@@ -22,7 +22,11 @@ cast-if3 : tie.Need-cast-if3
 cast-if3 c = search needs
 
 returns-2 : tie.Need-returns-2
-returns-2 c = let s = c .before .before .before .before .before .before in variable-leaf _ _ _ _ _ (s .pre .3) (s .pre .2) (c .before .before .before .before .word-at .ensures) (c .before .before .before .word-at2 .ensures) (c .before .if2 .taken) (c .if3 .taken)
+returns-2 c =
+    let before-known = c .before .before .before .before .before .before in
+    let s = before-known in
+    variable-leaf _ _ _ _ _ (s .pre .3) (s .pre .2) (c .before .before .before .before .word-at .ensures)
+    (c .before .before .before .word-at2 .ensures) (c .before .if2 .taken) (c .if3 .taken)
 
 returns-3 : tie.Need-returns-3
 returns-3 c = name-unnoted _ _ _ _ _ (c .before .before .before .before .before .before .pre .3)

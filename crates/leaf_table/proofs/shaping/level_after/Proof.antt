@@ -20,7 +20,11 @@ cast-leaf-word : tie.Need-cast-leaf-word
 cast-leaf-word c = search needs
 
 leaf-word-requires-3 : tie.Need-leaf-word-requires-3
-leaf-word-requires-3 c κs = let o = next-small (c .before .before .before .before .pre .1) (c .before .before .before .before .pre .2) (c .before .before .before .leaf-word .ensures) (c .before .before .if1 .left) (c .before .if2 .left) (c .leaf-word2 .ensures) in (omega (arith, (c .before .before .before .before .pre .0), o), omega arith)
+leaf-word-requires-3 c κs =
+    let pre = c .before .before .before .before .pre in
+    let o = next-small (pre .1) (pre .2) (c .before .before .before .leaf-word .ensures) (c .before .before .if1 .left) (c .before .if2 .left)
+    (c .leaf-word2 .ensures) in
+    (omega (arith, pre .0, o), omega arith)
 
 returns-3 : tie.Need-returns-3
 returns-3 c = level-behind _ _ (c .before .before .before .before .leaf-word .ensures) (c .before .before .before .if1 .left) (c .before .before .if2 .left) (c .before .leaf-word2 .ensures) (c .leaf-word3 .ensures)

@@ -23,10 +23,17 @@ add-level-after : tie.Need-add-level-after
 add-level-after c = search needs
 
 level-after-requires-2 : tie.Need-level-after-requires-2
-level-after-requires-2 c κs = let o = behind-small (c .before .before .before .before .pre .1) (c .before .before .before .before .pre .2) (c .before .before .before .level-after .ensures) (c .before .before .if1 .left) (c .before .if2 .left) (c .leaf-word .ensures) in ((c .before .before .before .before .pre .0), (c .before .before .before .before .pre .1), omega (arith, o))
+level-after-requires-2 c κs =
+    let pre = c .before .before .before .before .pre in
+    let o = behind-small (pre .1) (pre .2) (c .before .before .before .level-after .ensures) (c .before .before .if1 .left) (c .before .if2 .left)
+    (c .leaf-word .ensures) in
+    (pre .0, pre .1, omega (arith, o))
 
 returns-3 : tie.Need-returns-3
-returns-3 c = shape-two _ _ (c .before .before .before .before .before .level-after .ensures) (c .before .before .before .before .if1 .left) (c .before .before .before .if2 .left) (c .before .before .leaf-word .ensures) (c .before .level-after2 .ensures) (c .if3 .taken)
+returns-3 c =
+    let level-after-ensures = c .before .before .before .before .before .level-after .ensures in
+    shape-two _ _ level-after-ensures (c .before .before .before .before .if1 .left) (c .before .before .before .if2 .left)
+    (c .before .before .leaf-word .ensures) (c .before .level-after2 .ensures) (c .if3 .taken)
 
 returns-4 : tie.Need-returns-4
 returns-4 c = search needs

@@ -16,7 +16,9 @@ loop-holds : tie.Need-loop-holds Inv-loop μ-loop
 loop-holds c = (shaped-start _, omega arith)
 
 shape-at-requires : tie.Need-shape-at-requires Inv-loop μ-loop
-shape-at-requires c κs = ((c .before .before .before .pre .0), shaped-linked (c .before .before .loop .inv .0) (c .before .before .before .pre .1), (c .before .loop-test .taken))
+shape-at-requires c κs =
+    let pre = c .before .before .before .pre in
+    (pre .0, shaped-linked (c .before .before .loop .inv .0) (pre .1), c .before .loop-test .taken)
 
 write-shape-requires : tie.Need-write-shape-requires Inv-loop μ-loop
 write-shape-requires c κs = search needs
@@ -28,7 +30,11 @@ loop-less : tie.Need-loop-less Inv-loop μ-loop
 loop-less c = search needs
 
 loop-again : tie.Need-loop-again Inv-loop μ-loop
-loop-again c = (shaped-more (c .before .before .before .before .before .loop .inv .0) (c .write-shape .ensures) (c .before .before .shape-at .ensures), omega (arith, (c .before .before .before .before .loop-test .taken)))
+loop-again c =
+    let inv = c .before .before .before .before .before .loop .inv in (
+      shaped-more (inv .0) (c .write-shape .ensures) (c .before .before .shape-at .ensures),
+      omega (arith, c .before .before .before .before .loop-test .taken),
+    )
 
 returns : tie.Need-returns Inv-loop μ-loop
 returns c = shaped-done (c .before .loop .inv .0) (omega (arith, (c .loop-test .left)))

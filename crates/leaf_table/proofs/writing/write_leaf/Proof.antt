@@ -17,7 +17,11 @@ same-length : tie.Need-same-length
 same-length c = search needs
 
 returns : tie.Need-returns
-returns c = written-near _ _ _ _ _ _ (c .before .before .write-words .ensures) (c .before .before .before .before .before .before .before .write-offsets .ensures) (c .before .before .before .before .before .before .before .before .before .before .before .leaf-at .ensures) (c .before .before .before .before .if2 .taken)
+returns c =
+    let leaf-at-ensures = c .before .before .before .before .before .before .before .before .before .before .before .leaf-at .ensures in
+    let write-offsets-ensures = c .before .before .before .before .before .before .before .write-offsets .ensures in
+    written-near _ _ _ _ _ _ (c .before .before .write-words .ensures) write-offsets-ensures leaf-at-ensures
+    (c .before .before .before .before .if2 .taken)
 
 write-words-requires-2 : tie.Need-write-words-requires-2
 write-words-requires-2 c κs = search needs
@@ -26,7 +30,11 @@ same-length-2 : tie.Need-same-length-2
 same-length-2 c = search needs
 
 returns-2 : tie.Need-returns-2
-returns-2 c = let a = c .before .before .before .before .before .before .before .before .before .before .before .leaf-at .ensures in written-none _ _ _ _ _ _ (c .before .before .write-words2 .ensures) (c .before .before .before .before .before .before .before .write-offsets .ensures) refl (a .level) (a .operator)
+returns-2 c =
+    let leaf-at-ensures = c .before .before .before .before .before .before .before .before .before .before .before .leaf-at .ensures in
+    let write-offsets-ensures = c .before .before .before .before .before .before .before .write-offsets .ensures in
+    let a = leaf-at-ensures in
+    written-none _ _ _ _ _ _ (c .before .before .write-words2 .ensures) write-offsets-ensures refl (a .level) (a .operator)
 
 write-words-requires-3 : tie.Need-write-words-requires-3
 write-words-requires-3 c κs = search needs
@@ -35,7 +43,9 @@ same-length-3 : tie.Need-same-length-3
 same-length-3 c = search needs
 
 returns-3 : tie.Need-returns-3
-returns-3 c = written-plain _ _ _ _ _ _ (c .before .before .write-words3 .ensures) (c .before .before .before .before .before .before .leaf-at .ensures) (c .before .before .before .before .if1 .left)
+returns-3 c =
+    let leaf-at-ensures = c .before .before .before .before .before .before .leaf-at .ensures in
+    written-plain _ _ _ _ _ _ (c .before .before .write-words3 .ensures) leaf-at-ensures (c .before .before .before .before .if1 .left)
 
 pub write-leaf-spec : {M : Type 1} → statement M
 write-leaf-spec =

@@ -42,7 +42,11 @@ shared-slice-read-wrapped : tie.Need-shared-slice-read-wrapped Inv-loop μ-loop
 shared-slice-read-wrapped c = search needs
 
 wrapped-requires : tie.Need-wrapped-requires Inv-loop μ-loop
-wrapped-requires c κs = let s = c .before .before .before .before .before .before .before .before .before .before in some-size (s .args .sizes .now) _ (s .pre .3) (c .before .before .before .before .before .loop-test .taken)
+wrapped-requires c κs =
+    let before-known = c .before .before .before .before .before .before .before .before .before .before in
+    let going = c .before .before .before .before .before .loop-test .taken in
+    let s = before-known in
+    some-size (s .args .sizes .now) _ (s .pre .3) going
 
 mul-leaves : tie.Need-mul-leaves Inv-loop μ-loop
 mul-leaves c = search needs
@@ -57,7 +61,10 @@ mul-leaves-2 : tie.Need-mul-leaves-2 Inv-loop μ-loop
 mul-leaves-2 c = search needs
 
 slice-write-leaves : tie.Need-slice-write-leaves Inv-loop μ-loop
-slice-write-leaves c = omega (arith, c .before .before .before .before .before .before .before .loop .inv .size, c .before .before .before .before .before .before .before .before .before .before .before .pre .5)
+slice-write-leaves c =
+    let pre = c .before .before .before .before .before .before .before .before .before .before .before .pre in
+    let inv = c .before .before .before .before .before .before .before .loop .inv in
+    omega (arith, inv .size, pre .5)
 
 element-after-requires : tie.Need-element-after-requires Inv-loop μ-loop
 element-after-requires c κs = search needs
@@ -69,7 +76,15 @@ loop-less : tie.Need-loop-less Inv-loop μ-loop
 loop-less c = search needs
 
 loop-again : tie.Need-loop-again Inv-loop μ-loop
-loop-again c = let s = c .before .before .before .before .before .before .before .before .before .before .before .before in steps-more _ _ _ (c .before .before .before .before .before .before .before .before .loop .inv) (c .before .before .before .before .before .before .before .loop-test .taken) (s .pre .2) (s .pre .5) (c .before .before .before .before .before .before .is-moving .ensures) (c .before .before .before .before .before .if1 .left) (c .before .before .before .before .word-at .ensures) (c .before .before .before .decode .ensures) (c .before .wrapped .ensures) (c .element-after .ensures)
+loop-again c =
+    let before-known = c .before .before .before .before .before .before .before .before .before .before .before .before in
+    let inv = c .before .before .before .before .before .before .before .before .loop .inv in
+    let going = c .before .before .before .before .before .before .before .loop-test .taken in
+    let is-moving-ensures = c .before .before .before .before .before .before .is-moving .ensures in
+    let if1-left = c .before .before .before .before .before .if1 .left in
+    let s = before-known in
+    steps-more _ _ _ inv going (s .pre .2) (s .pre .5) is-moving-ensures if1-left (c .before .before .before .before .word-at .ensures)
+    (c .before .before .before .decode .ensures) (c .before .wrapped .ensures) (c .element-after .ensures)
 
 same-length-2 : tie.Need-same-length-2 Inv-loop μ-loop
 same-length-2 c = search needs

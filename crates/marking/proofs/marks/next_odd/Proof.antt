@@ -23,14 +23,20 @@ shared-slice-read-if1 c = search needs
 returns : tie.Need-returns Inv-loop μ-loop
 returns c = search needs
 
-add-c : tie.Need-add-c Inv-loop μ-loop
-add-c c = search needs
+add-skip-clear : tie.Need-add-skip-clear Inv-loop μ-loop
+add-skip-clear c = search needs
+
+skip-clear-requires : tie.Need-skip-clear-requires Inv-loop μ-loop
+skip-clear-requires c κs = search needs
 
 loop-less : tie.Need-loop-less Inv-loop μ-loop
-loop-less c = search needs
+loop-less c = omega (arith, c .skip-clear .ensures .onward)
 
 loop-again : tie.Need-loop-again Inv-loop μ-loop
-loop-again c = let l = c .before .before .before .loop in (omega arith, refl, next-more _ _ (l .c) (l .inv .2) (omega arith) (c .if1 .left))
+loop-again c =
+    let l = c .before .before .before .before .loop in
+    let k = c .skip-clear .ensures in
+    (omega (arith, k .within, l .inv .1), l .inv .1, next-more _ _ (l .c) (l .inv .2) (omega (arith, l .inv .1)) (c .before .if1 .left) k)
 
 returns-2 : tie.Need-returns-2 Inv-loop μ-loop
 returns-2 c = search needs
@@ -44,7 +50,8 @@ next-odd-spec =
     loop-holds
     shared-slice-read-if1
     returns
-    add-c
+    add-skip-clear
+    skip-clear-requires
     loop-less
     loop-again
     returns-2)

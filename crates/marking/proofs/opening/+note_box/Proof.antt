@@ -1,4 +1,4 @@
-use Rattle.marking.proofs.BoxLaws.{boxed-first, boxed-room, boxed-rest, line-done, row-done, rows-done, box-row}
+use Rattle.marking.proofs.BoxLaws.{boxed-first, boxed-room, boxed-lines, boxed-rest, line-done, lines-done, row-done, rows-done, box-row}
 use lib.ListN.{length-drop, length-take, length, getD, drop}
 use Prim.Native.Nat.{_≤_, _-_, ℕ, _<_}
 use mathlib.Core.Path.{_≡_, refl}
@@ -12,6 +12,7 @@ use Rattle.marking.proofs.opening.note_box.Kinds as note-box-kinds
 use Rattle.marking.proofs.opening.+note_box.Lts-note_box as note-box-lts
 use Rattle.marking.proofs.opening.next_coordinate.Reads as next-coordinate-reads
 use Rattle.marking.proofs.opening.note_line.Reads as note-line-reads
+use Rattle.marking.proofs.opening.note_lines.Reads as note-lines-reads
 use Rattle.marking.proofs.opening.wide.Reads as wide-reads
 use Rattle.marking.proofs.opening.+note_box.{statement}
 use Rattle.marking.proofs.opening.+note_box.Tie.{close}
@@ -28,7 +29,7 @@ note-box-below t =
 
 abbrev note-box-calls : ℕ → note-box-lts.Claims
 note-box-calls t =
-    (wide-reads.Asked, wide-reads.Learnt, note-line-reads.Asked, note-line-reads.Learnt, note-box-below t, note-box.Post, next-coordinate-reads.Asked, next-coordinate-reads.Learnt)
+    (wide-reads.Asked, wide-reads.Learnt, note-line-reads.Asked, note-line-reads.Learnt, note-lines-reads.Asked, note-lines-reads.Learnt, note-box-below t, note-box.Post, next-coordinate-reads.Asked, next-coordinate-reads.Learnt)
 
 abbrev note-box-Inv-loop : note-box-lts.InvT-loop
 note-box-Inv-loop sizes firsts counts base marks₀ n count j₀ e₀ marks j e =
@@ -69,11 +70,34 @@ note-box-returns t c =
     let w = c .before .before .before .before .before .before .before .wide .ensures in
     line-done _ _ _ _ _ (s .pre .1) w _ _ (c .before .before .before .before .if1 .taken) (c .before .before .note-line .ensures)
 
+note-box-shared-slice-read-wide-2 : (t : ℕ) → note-box-lts.Need-shared-slice-read-wide-2 (note-box-calls t) (note-box-at t) note-box.Post note-box-Inv-loop note-box-μ-loop
+note-box-shared-slice-read-wide-2 t c = search needs
+
+note-box-wide-requires-2 : (t : ℕ) → note-box-lts.Need-wide-requires-2 (note-box-calls t) (note-box-at t) note-box.Post note-box-Inv-loop note-box-μ-loop
+note-box-wide-requires-2 t c κs = search needs
+
+note-box-shared-slice-read-note-lines : (t : ℕ) → note-box-lts.Need-shared-slice-read-note-lines (note-box-calls t) (note-box-at t) note-box.Post note-box-Inv-loop note-box-μ-loop
+note-box-shared-slice-read-note-lines t c = search needs
+
+note-box-shared-slice-read-note-lines-2 : (t : ℕ) → note-box-lts.Need-shared-slice-read-note-lines-2 (note-box-calls t) (note-box-at t) note-box.Post note-box-Inv-loop note-box-μ-loop
+note-box-shared-slice-read-note-lines-2 t c = search needs
+
+note-box-note-lines-requires : (t : ℕ) → note-box-lts.Need-note-lines-requires (note-box-calls t) (note-box-at t) note-box.Post note-box-Inv-loop note-box-μ-loop
+note-box-note-lines-requires t c κs =
+    boxed-lines _ _ _ _ _ (c .before .before .before .before .before .before .before .before .before .before .before .before .before .before .before .pre .1) (c .before .before .before .before .before .before .before .before .before .wide .ensures) (c .before .before .before .before .before .if2 .taken) (c .before .before .before .wide2 .ensures)
+
+note-box-same-length-2 : (t : ℕ) → note-box-lts.Need-same-length-2 (note-box-calls t) (note-box-at t) note-box.Post note-box-Inv-loop note-box-μ-loop
+note-box-same-length-2 t c = search needs
+
+note-box-returns-2 : (t : ℕ) → note-box-lts.Need-returns-2 (note-box-calls t) (note-box-at t) note-box.Post note-box-Inv-loop note-box-μ-loop
+note-box-returns-2 t c =
+    lines-done _ _ _ _ _ (c .before .before .before .before .before .before .before .before .before .before .before .before .before .before .before .before .before .before .pre .1) (c .before .before .before .before .before .before .before .before .before .before .before .before .wide .ensures) _ _ (c .before .before .before .before .before .before .before .before .if2 .taken) (c .before .before .before .before .before .before .wide2 .ensures) (c .before .before .note-lines .ensures)
+
 note-box-loop-holds : (t : ℕ) → note-box-lts.Need-loop-holds (note-box-calls t) (note-box-at t) note-box.Post note-box-Inv-loop note-box-μ-loop
 note-box-loop-holds t c =
-    let s = c .before .before .before .before .before .before .before .before .before in
-    let w = c .before .before .before .wide .ensures in
-    (omega arith, noted-start _ _ _ _ (boxed-first _ _ _ _ _ (s .pre .1) w), w, refl, omega (arith, c .if1 .left, s .pre .1 .some-dims))
+    let s = c .before .before .before .before .before .before .before .before .before .before in
+    let w = c .before .before .before .before .wide .ensures in
+    (omega arith, noted-start _ _ _ _ (boxed-first _ _ _ _ _ (s .pre .1) w), w, refl, omega (arith, c .before .if1 .left, s .pre .1 .some-dims))
 
 note-box-sub-note-box : (t : ℕ) → note-box-lts.Need-sub-note-box (note-box-calls t) (note-box-at t) note-box.Post note-box-Inv-loop note-box-μ-loop
 note-box-sub-note-box t c = search needs
@@ -105,19 +129,19 @@ note-box-part-note-box-end-3 t c = search needs
 note-box-mul-note-box : (t : ℕ) → note-box-lts.Need-mul-note-box (note-box-calls t) (note-box-at t) note-box.Post note-box-Inv-loop note-box-μ-loop
 note-box-mul-note-box t c =
     let l = c .before .before .before .before .loop in
-    let s = c .before .before .before .before .before .before .before .before .before .before .before .before .before .before in
+    let s = c .before .before .before .before .before .before .before .before .before .before .before .before .before .before .before in
     omega (arith, boxed-room _ _ _ _ _ (s .pre .1) (l .inv .2), s .pre .1 .few)
 
 note-box-add-note-box : (t : ℕ) → note-box-lts.Need-add-note-box (note-box-calls t) (note-box-at t) note-box.Post note-box-Inv-loop note-box-μ-loop
 note-box-add-note-box t c =
     let l = c .before .before .before .before .loop in
-    let s = c .before .before .before .before .before .before .before .before .before .before .before .before .before .before in
+    let s = c .before .before .before .before .before .before .before .before .before .before .before .before .before .before .before in
     omega (arith, boxed-room _ _ _ _ _ (s .pre .1) (l .inv .2), s .pre .1 .few, l .inv .1 .inside)
 
 note-box-note-box-requires : (t : ℕ) → note-box-lts.Need-note-box-requires (note-box-calls t) (note-box-at t) note-box.Post note-box-Inv-loop note-box-μ-loop
 note-box-note-box-requires t c κs =
     let l = c .before .before .before .before .before .loop in
-    let s = c .before .before .before .before .before .before .before .before .before .before .before .before .before .before .before in (
+    let s = c .before .before .before .before .before .before .before .before .before .before .before .before .before .before .before .before in (
       omega (arith, s .pre .0, l .inv .4, length-take (length (s .args .sizes .now) - 1) (drop 1 (s .args .sizes .now)), length-drop 1 (s .args .sizes .now)),
       rw (l .inv .1 .len) (boxed-rest _ _ _ _ _ (s .pre .1) (l .inv .2) (l .inv .4) (l .j) (l .inv .1 .inside)),
     )
@@ -125,13 +149,13 @@ note-box-note-box-requires t c κs =
 note-box-next-coordinate-requires : (t : ℕ) → note-box-lts.Need-next-coordinate-requires (note-box-calls t) (note-box-at t) note-box.Post note-box-Inv-loop note-box-μ-loop
 note-box-next-coordinate-requires t c κs =
     let l = c .before .before .before .before .before .before .before .before .loop in
-    let s = c .before .before .before .before .before .before .before .before .before .before .before .before .before .before .before .before .before .before in
+    let s = c .before .before .before .before .before .before .before .before .before .before .before .before .before .before .before .before .before .before .before in
     (l .inv .1 .inside, omega (arith, boxed-room _ _ _ _ _ (s .pre .1) (l .inv .2), s .pre .1 .few))
 
 note-box-add-e : (t : ℕ) → note-box-lts.Need-add-e (note-box-calls t) (note-box-at t) note-box.Post note-box-Inv-loop note-box-μ-loop
 note-box-add-e t c =
     let test = c .before .before .before .before .before .before .before .before .loop-test .taken in
-    omega (arith, test, c .before .before .before .before .before .before .before .before .before .before .before .before .shared-slice-known5 .given 0)
+    omega (arith, test, c .before .before .before .before .before .before .before .before .before .before .before .before .before .shared-slice-known5 .given 0)
 
 note-box-loop-less : (t : ℕ) → note-box-lts.Need-loop-less (note-box-calls t) (note-box-at t) note-box.Post note-box-Inv-loop note-box-μ-loop
 note-box-loop-less t c = search needs
@@ -140,7 +164,7 @@ note-box-loop-again : (t : ℕ) → note-box-lts.Need-loop-again (note-box-calls
 note-box-loop-again t c =
     let l = c .before .before .before .before .before .before .before .before .before .loop in
     let r = c .before .before .before .note-box .ensures in
-    let s = c .before .before .before .before .before .before .before .before .before .before .before .before .before .before .before .before .before .before .before in (
+    let s = c .before .before .before .before .before .before .before .before .before .before .before .before .before .before .before .before .before .before .before .before in (
       omega (arith, c .before .before .before .before .before .before .before .before .loop-test .taken),
       noted-more _ _ _ _ (l .marks) _ (l .j) (l .e) (l .inv .1) (row-done _ _ _ _ _ (s .pre .1) (l .inv .2) _ (l .marks) _ (l .j) (l .e) (l .inv .1) r) (c .next-coordinate .ensures),
       l .inv .2,
@@ -148,12 +172,12 @@ note-box-loop-again t c =
       l .inv .4,
     )
 
-note-box-same-length-2 : (t : ℕ) → note-box-lts.Need-same-length-2 (note-box-calls t) (note-box-at t) note-box.Post note-box-Inv-loop note-box-μ-loop
-note-box-same-length-2 t c = search needs
+note-box-same-length-3 : (t : ℕ) → note-box-lts.Need-same-length-3 (note-box-calls t) (note-box-at t) note-box.Post note-box-Inv-loop note-box-μ-loop
+note-box-same-length-3 t c = search needs
 
-note-box-returns-2 : (t : ℕ) → note-box-lts.Need-returns-2 (note-box-calls t) (note-box-at t) note-box.Post note-box-Inv-loop note-box-μ-loop
-note-box-returns-2 t c =
-    let s = c .before .before .before .before .before .before .before .before .before .before .before in
+note-box-returns-3 : (t : ℕ) → note-box-lts.Need-returns-3 (note-box-calls t) (note-box-at t) note-box.Post note-box-Inv-loop note-box-μ-loop
+note-box-returns-3 t c =
+    let s = c .before .before .before .before .before .before .before .before .before .before .before .before in
     let l = c .before .loop in
     rows-done _ _ _ _ _ (s .pre .1) (l .inv .2) _ (l .marks) (l .j) (l .e) (l .inv .1) (omega (arith, l .inv .0, l .inv .3)) (omega (arith, c .loop-test .left, l .inv .3))
 
@@ -171,6 +195,13 @@ pub +note-box-spec : {M : Type 1} → statement M
     (note-box-note-line-requires t)
     (note-box-same-length t)
     (note-box-returns t)
+    (note-box-shared-slice-read-wide-2 t)
+    (note-box-wide-requires-2 t)
+    (note-box-shared-slice-read-note-lines t)
+    (note-box-shared-slice-read-note-lines-2 t)
+    (note-box-note-lines-requires t)
+    (note-box-same-length-2 t)
+    (note-box-returns-2 t)
     (note-box-loop-holds t)
     (note-box-sub-note-box t)
     (note-box-part-note-box-start t)
@@ -188,5 +219,5 @@ pub +note-box-spec : {M : Type 1} → statement M
     (note-box-add-e t)
     (note-box-loop-less t)
     (note-box-loop-again t)
-    (note-box-same-length-2 t)
-    (note-box-returns-2 t)
+    (note-box-same-length-3 t)
+    (note-box-returns-3 t)

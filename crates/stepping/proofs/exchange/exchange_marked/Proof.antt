@@ -1,11 +1,12 @@
 use Prim.Native.Nat.{_-_, _≤_, _<_}
-use mathlib.Core.Path.{_≡_}
+use mathlib.Core.Path.{_≡_, refl}
 use mathlib.Core.Bool.{true}
 use lib.ListN.{length}
 use native.Mathlib.Omega.{arith}
 use borrow.Author.Needs.{needs}
 use Rattle.automaton.specs.Step.{marked}
-use Rattle.stepping.proofs.ExchangeLaws.{Half, exchange-room, swapping, half-start, half-skip, half-turn, half-end}
+use Rattle.stepping.proofs.ScanLaws.{run-marked}
+use Rattle.stepping.proofs.ExchangeLaws.{Half, exchange-room, swapping, half-start, half-skip, half-run, half-end}
 use Rattle.stepping.proofs.exchange.exchange_marked.Statement.{statement}
 use Rattle.stepping.proofs.exchange.exchange_marked.Tie as tie
 
@@ -24,34 +25,45 @@ loop-holds c =
     let n = c .next-marked .ensures in
     (half-skip _ _ _ _ _ 0 _ (half-start _ _ _ _) n, half-skip _ _ _ _ _ 0 _ (half-start _ _ _ _) n, n .within, n .found)
 
-mul-from : tie.Need-mul-from Inv-loop μ-loop
-mul-from c = let r = exchange-room (c .before .loop .cell) (c .before .before .before .before .pre) (c .loop-test .taken) in search needs
+run-end-requires : tie.Need-run-end-requires Inv-loop μ-loop
+run-end-requires c κs = search needs
 
-add-end : tie.Need-add-end Inv-loop μ-loop
-add-end c = let r = exchange-room (c .before .loop .cell) (c .before .before .before .before .pre) (c .loop-test .taken) in search needs
+mul-exchange-part : tie.Need-mul-exchange-part Inv-loop μ-loop
+mul-exchange-part c =
+    let e = c .before .before .run-end .ensures in
+    let r = exchange-room _ (c .before .before .before .before .before .before .before .pre) (e .within) in
+    omega (arith, swapping _ _ (c .before .before .before .before .before .before .before .pre) (e .onward) (e .within) refl refl .order)
+
+mul-exchange-part-2 : tie.Need-mul-exchange-part-2 Inv-loop μ-loop
+mul-exchange-part-2 c =
+    let pre = c .before .before .before .before .before .before .before .pre in
+    let r = exchange-room _ pre (c .before .before .run-end .ensures .within) in
+    omega arith
 
 exchange-part-requires : tie.Need-exchange-part-requires Inv-loop μ-loop
 exchange-part-requires c κs =
-    let l = c .before .before .before .loop in
-    swapping (l .cell) (c .before .before .before .before .before .before .pre) (c .before .before .loop-test .taken) (l .inv .0 .size) (l .inv .1 .size)
-
-add-next-marked : tie.Need-add-next-marked Inv-loop μ-loop
-add-next-marked c = search needs
+    let l = c .before .before .before .before .loop in
+    let e = c .before .before .run-end .ensures in
+    swapping (l .cell) _ (c .before .before .before .before .before .before .before .pre) (e .onward) (e .within) (l .inv .0 .size) (l .inv .1 .size)
 
 next-marked-requires-2 : tie.Need-next-marked-requires-2 Inv-loop μ-loop
-next-marked-requires-2 c κs = omega arith
+next-marked-requires-2 c κs = c .before .before .before .before .before .run-end .ensures .within
 
 loop-less : tie.Need-loop-less Inv-loop μ-loop
-loop-less c = omega (arith, c .next-marked2 .ensures .onward)
+loop-less c =
+    let going = c .before .before .before .before .before .before .before .loop-test .taken in
+    let run-end-ensures = c .before .before .before .before .before .before .run-end .ensures in
+    omega (arith, run-end-ensures .onward, c .next-marked2 .ensures .onward, going)
 
 loop-again : tie.Need-loop-again Inv-loop μ-loop
 loop-again c =
-    let l = c .before .before .before .before .before .before .before .loop in
+    let l = c .before .before .before .before .before .before .before .before .loop in
     let n = c .next-marked2 .ensures in
+    let r = c .before .before .before .before .before .before .run-end .ensures in
     let e = c .before .before .before .exchange-part .ensures in
-    let m = l .inv .3 (c .before .before .before .before .before .before .loop-test .taken) in (
-      half-skip _ _ _ _ _ _ _ (half-turn _ _ _ _ (l .a) (l .b) _ (l .cell) (l .inv .0) (l .inv .1 .rest (l .cell) (omega arith)) m (e .0)) n,
-      half-skip _ _ _ _ _ _ _ (half-turn _ _ _ _ (l .b) (l .a) _ (l .cell) (l .inv .1) (l .inv .0 .rest (l .cell) (omega arith)) m (e .1)) n,
+    let m = run-marked _ _ _ (l .inv .3 (c .before .before .before .before .before .before .before .loop-test .taken)) r in (
+      half-skip _ _ _ _ _ _ _ (half-run _ _ _ _ (l .a) (l .b) _ (l .cell) _ (l .inv .0) (l .inv .1) (r .onward) m (e .0)) n,
+      half-skip _ _ _ _ _ _ _ (half-run _ _ _ _ (l .b) (l .a) _ (l .cell) _ (l .inv .1) (l .inv .0) (r .onward) m (e .1)) n,
       n .within,
       n .found,
     )
@@ -73,10 +85,10 @@ exchange-marked-spec =
     μ-loop
     next-marked-requires
     loop-holds
-    mul-from
-    add-end
+    run-end-requires
+    mul-exchange-part
+    mul-exchange-part-2
     exchange-part-requires
-    add-next-marked
     next-marked-requires-2
     loop-less
     loop-again

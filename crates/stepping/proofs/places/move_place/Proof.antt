@@ -19,7 +19,9 @@ same-length : tie.Need-same-length
 same-length c = search needs
 
 returns : tie.Need-returns
-returns c = move-next (c .before .before .before .before .before .before .before .pre) (c .before .before .before .before .if1 .taken) (c .before .before .advance .ensures)
+returns c =
+    let pre = c .before .before .before .before .before .before .before .pre in
+    move-next pre (c .before .before .before .before .if1 .taken) (c .before .before .advance .ensures)
 
 same-length-2 : tie.Need-same-length-2
 same-length-2 c = search needs

@@ -22,14 +22,19 @@ shared-slice-read-if1 c = search needs
 returns : tie.Need-returns Inv-loop μ-loop
 returns c = scan-found _ _ _ (c .before .before .before .loop .inv .0) (search needs) (c .if1 .taken)
 
-add-at : tie.Need-add-at Inv-loop μ-loop
-add-at c = search needs
+add-skip-clear : tie.Need-add-skip-clear Inv-loop μ-loop
+add-skip-clear c = search needs
+
+skip-clear-requires : tie.Need-skip-clear-requires Inv-loop μ-loop
+skip-clear-requires c κs = search needs
 
 loop-less : tie.Need-loop-less Inv-loop μ-loop
-loop-less c = omega arith
+loop-less c = omega (arith, c .skip-clear .ensures .onward)
 
 loop-again : tie.Need-loop-again Inv-loop μ-loop
-loop-again c = (scan-more _ _ _ (c .before .before .before .loop .inv .0) (search needs) (c .if1 .left), refl)
+loop-again c =
+    let l = c .before .before .before .before .loop in
+    (scan-more _ _ _ (l .inv .0) (search needs) (c .before .if1 .left) (c .skip-clear .ensures), l .inv .1)
 
 returns-2 : tie.Need-returns-2 Inv-loop μ-loop
 returns-2 c = scan-end _ _ _ (c .before .loop .inv .0) (c .loop-test .left)
@@ -43,7 +48,8 @@ next-marked-spec =
     loop-holds
     shared-slice-read-if1
     returns
-    add-at
+    add-skip-clear
+    skip-clear-requires
     loop-less
     loop-again
     returns-2)

@@ -1,0 +1,2 @@
+-- What passing over cells without a mark promises.
+pub mod Clear
