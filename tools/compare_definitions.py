@@ -101,7 +101,7 @@ def check(text):
 def prepare():
     shutil.rmtree(os.path.join(SCRATCH, "crates"), ignore_errors=True)
     os.makedirs(SCRATCH, exist_ok=True)
-    listed = ["value", "automaton", "token", "names", "program", "grammar", "evaluator", "stepper", "services"]
+    listed = ["value", "automaton", "token", "names", "program", "grammar", "semantics", "stepper", "services"]
     lines = [l for l in open(os.path.join(ROOT, "crates.txt")) if l.split(":")[0] in listed]
     with open(os.path.join(SCRATCH, "crates.txt"), "w") as f:
         f.writelines(lines)

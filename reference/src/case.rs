@@ -114,8 +114,12 @@ pub fn check_line(reply: Reply) -> String {
     }
 }
 
-/// The reply line of a run.
-pub fn run_line(outcome: &Outcome) -> String {
+/// The reply lines of a run, full and quiet.
+pub fn run_lines(case: &RunCase) -> String {
+    run_line(&run_case(case, false)) + &run_line(&run_case(case, true))
+}
+
+fn run_line(outcome: &Outcome) -> String {
     let report = &outcome.report;
     let mut line = format!(
         "{} {} {} {} {} {} {} :",

@@ -1,6 +1,6 @@
 //! The program: `reference SUBCOMMAND ...`; see `USAGE`.
 
-use reference::case::{check_line, check_reply, put_check, put_run, run_case, run_line};
+use reference::case::{check_line, check_reply, put_check, put_run, run_case, run_lines};
 use reference::{check, json, vectors, Report};
 use std::io::{self, BufWriter, Read, Write};
 use std::path::Path;
@@ -12,7 +12,7 @@ usage: reference check                        one source on standard input
        reference answer                       sources on standard input, as in the vectors of checks
        reference run FILE                     one run, as JSON
        reference cases checks|runs SEED COUNT [--small]
-       reference stream checks|runs SEED COUNT [--small] [--replies | --quiet-replies]
+       reference stream checks|runs SEED COUNT [--small] [--replies]
        reference vectors DIR
        reference verify ROOT
        reference count SEED COUNT
@@ -27,7 +27,6 @@ fn main() -> ExitCode {
     };
     let small = flag("--small");
     let replies = flag("--replies");
-    let quiet_replies = flag("--quiet-replies");
     let words: Vec<&str> = words.iter().map(String::as_str).collect();
     let done = match words.as_slice() {
         ["check"] => check_input(),
@@ -39,14 +38,7 @@ fn main() -> ExitCode {
             None => return usage(),
         },
         ["stream", what @ ("checks" | "runs"), seed, count] => match numbers(seed, count) {
-            Some((seed, count)) => {
-                let wanted = match (replies, quiet_replies) {
-                    (_, true) => Wanted::QuietReplies,
-                    (true, _) => Wanted::Replies,
-                    _ => Wanted::Cases,
-                };
-                stream(*what == "runs", seed, count, small, wanted)
-            }
+            Some((seed, count)) => stream(*what == "runs", seed, count, small, replies),
             None => return usage(),
         },
         ["vectors", folder] => write_vectors(Path::new(folder)),
@@ -153,40 +145,33 @@ fn cases(of_runs: bool, seed: u64, count: usize, small: bool) -> io::Result<Exit
     Ok(ExitCode::SUCCESS)
 }
 
-#[derive(Clone, Copy, PartialEq, Eq)]
-enum Wanted {
-    Cases,
-    Replies,
-    QuietReplies,
-}
-
+/// Generated cases in their binary form, or the lines that answer them.
 fn stream(
     of_runs: bool,
     seed: u64,
     count: usize,
     small: bool,
-    wanted: Wanted,
+    replies: bool,
 ) -> io::Result<ExitCode> {
     let mut out = BufWriter::new(io::stdout().lock());
     let mut bytes = Vec::new();
     if of_runs {
         for case in vectors::runs(seed, count, small) {
             bytes.clear();
-            match wanted {
-                Wanted::Cases => put_run(&mut bytes, &case),
-                _ => {
-                    let quiet = wanted == Wanted::QuietReplies;
-                    bytes.extend(run_line(&run_case(&case, quiet)).bytes());
-                }
+            if replies {
+                bytes.extend(run_lines(&case).bytes());
+            } else {
+                put_run(&mut bytes, &case);
             }
             out.write_all(&bytes)?;
         }
     } else {
         for source in vectors::checks(seed, count, small) {
             bytes.clear();
-            match wanted {
-                Wanted::Cases => put_check(&mut bytes, &source),
-                _ => bytes.extend(check_reply(&source).bytes()),
+            if replies {
+                bytes.extend(check_reply(&source).bytes());
+            } else {
+                put_check(&mut bytes, &source);
             }
             out.write_all(&bytes)?;
         }
@@ -202,8 +187,7 @@ fn write_vectors(folder: &Path) -> io::Result<ExitCode> {
         ("check.stdin", &files.check_in),
         ("check.stdout", &files.check_out),
         ("run.stdin", &files.run_in),
-        ("run_full.stdout", &files.full_out),
-        ("run_quiet.stdout", &files.quiet_out),
+        ("run.stdout", &files.run_out),
     ];
     for (name, content) in contents {
         std::fs::write(folder.join(name), content)?;
@@ -217,15 +201,10 @@ fn verify(root: &Path) -> io::Result<ExitCode> {
     let files = vectors::files();
     let crates = [
         ("check_vectors", &files.check_in, &files.check_out),
-        ("run_vectors", &files.run_in, &files.full_out),
-        ("quiet_vectors", &files.run_in, &files.quiet_out),
+        ("run_vectors", &files.run_in, &files.run_out),
     ];
     for (name, input, output) in crates {
         let folder = root.join("crates").join(name);
-        if !folder.exists() {
-            println!("crates/{name}: not there yet, skipped");
-            continue;
-        }
         for (file, expected) in [("stdin", input), ("stdout", output)] {
             let title = format!("crates/{name}/{file}");
             let stored = match std::fs::read(folder.join(file)) {

@@ -1,6 +1,6 @@
 //! The stored vectors, and rows of generated cases.
 
-use crate::case::{check_reply, put_check, put_run, run_case, run_line, RunCase};
+use crate::case::{check_reply, put_check, put_run, run_lines, RunCase};
 use crate::damage::{damage_bytes, damage_tokens, VOCABULARY};
 use crate::generate::{program, Wish};
 use crate::limits;
@@ -161,13 +161,12 @@ pub fn stored_runs() -> Vec<RunCase> {
     row
 }
 
-/// The five files of vectors.
+/// The files of vectors.
 pub struct Files {
     pub check_in: Vec<u8>,
     pub check_out: Vec<u8>,
     pub run_in: Vec<u8>,
-    pub full_out: Vec<u8>,
-    pub quiet_out: Vec<u8>,
+    pub run_out: Vec<u8>,
     pub checks: usize,
     pub runs: usize,
 }
@@ -179,8 +178,7 @@ pub fn files() -> Files {
         check_in: Vec::new(),
         check_out: Vec::new(),
         run_in: Vec::new(),
-        full_out: Vec::new(),
-        quiet_out: Vec::new(),
+        run_out: Vec::new(),
         checks: checks.len(),
         runs: runs.len(),
     };
@@ -190,12 +188,7 @@ pub fn files() -> Files {
     }
     for case in &runs {
         put_run(&mut files.run_in, case);
-        files
-            .full_out
-            .extend(run_line(&run_case(case, false)).bytes());
-        files
-            .quiet_out
-            .extend(run_line(&run_case(case, true)).bytes());
+        files.run_out.extend(run_lines(case).bytes());
     }
     files
 }

@@ -17,9 +17,9 @@ use Rattle.automaton.specs.Listed.{getD-list-of}
 use Rattle.automaton.specs.Quiet.{or-false}
 use Rattle.automaton.specs.Shape.{Bound}
 use Rattle.program.specs.Syntax.{Range, Program}
-use Rattle.evaluator.specs.declared.Rule.{Rule}
-use Rattle.evaluator.specs.Stands.{Holds}
-use Rattle.evaluator.specs.Written.{Written, written-in}
+use Rattle.semantics.specs.declared.Rule.{Rule}
+use Rattle.semantics.specs.Stands.{Holds}
+use Rattle.semantics.specs.Written.{Written, written-in}
 use Rattle.stepper.specs.declared.Reach.{Reach}
 use Rattle.stepper.specs.Reach.{below, above, own-only, widen, widened, reach}
 use Rattle.stepper.specs.Admission.{Request, Refusal, refusal, good-sizes, good-rooms, good-times, too-far, out-of-field, admission}

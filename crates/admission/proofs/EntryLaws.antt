@@ -14,9 +14,9 @@ use Rattle.value.specs.Worked.{value, decode-of}
 use Rattle.value.specs.declared.Value.{Value}
 use Rattle.automaton.specs.Listed.{length-list-of, getD-list-of}
 use Rattle.program.specs.Syntax.{Range, no-range}
-use Rattle.evaluator.specs.Evaluation.{in-field}
-use Rattle.evaluator.specs.Stands.{Table, range-in, ranges-in, rule-table}
-use Rattle.evaluator.specs.declared.Rule.{Rule}
+use Rattle.semantics.specs.Evaluation.{in-field}
+use Rattle.semantics.specs.Stands.{Table, range-in, ranges-in, rule-table}
+use Rattle.semantics.specs.declared.Rule.{Rule}
 use Rattle.stepper.specs.Admission.{refusal, out-of-field}
 use Rattle.admission.specs.Admitting.{InFields}
 

@@ -18,7 +18,7 @@ use Rattle.value.specs.Laws.{never, and-both}
 use Rattle.automaton.specs.Shape.{product}
 use Rattle.automaton.specs.ShapeLaws.{Positive}
 use Rattle.program.specs.Syntax.{Program}
-use Rattle.evaluator.specs.declared.Rule.{Rule}
+use Rattle.semantics.specs.declared.Rule.{Rule}
 use Rattle.stepper.specs.Admission.{Request, all-between, good-sizes, good-rooms, good-times}
 use Rattle.admission.specs.Admitting.{times-of, cells-of, rooms-of, Asked}
 

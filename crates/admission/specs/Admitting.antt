@@ -9,10 +9,10 @@ use lib.IntN.{ℤ, pos, natAbs}
 use Rattle.value.specs.Choice.{if_then_else_}
 use Rattle.automaton.specs.Shape.{product}
 use Rattle.program.specs.Syntax.{Program}
-use Rattle.evaluator.specs.declared.Rule.{Rule}
-use Rattle.evaluator.specs.Stands.{rule-table, ranges-in, Holds}
-use Rattle.evaluator.specs.Written.{Written, written-in}
-use Rattle.evaluator.specs.Listing.{Writes}
+use Rattle.semantics.specs.declared.Rule.{Rule}
+use Rattle.semantics.specs.Stands.{rule-table, ranges-in, Holds}
+use Rattle.semantics.specs.Written.{Written, written-in}
+use Rattle.semantics.specs.Listing.{Writes}
 use Rattle.stepper.specs.Admission.{Request, refusal, all-between, good-sizes, good-rooms, good-times, out-of-field, admission}
 use Rattle.stepper.specs.Reach.{reach}
 use Rattle.stepper.specs.Fitting.{Shaped, bounds-of, Near}

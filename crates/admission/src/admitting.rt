@@ -6,8 +6,8 @@ ghost use Rattle.stepper.specs.Fitting.{Sized};
 ghost use Rattle.admission.specs.Admitting.{Admits};
 use crate::out_of_field;
 use crate::refused_request;
-use evaluator::Rule;
 use indices::surveying::survey;
+use semantics::Rule;
 use stepper::Reach;
 
 // Whether a run is admitted: number 0, with the program's reach; else the refusal's number and place.

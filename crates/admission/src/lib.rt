@@ -5,8 +5,8 @@ ghost use lib.ListN.{length, getD};
 ghost use lib.IntN.{pos};
 ghost use Rattle.value.specs.Worked.{value};
 ghost use Rattle.program.specs.Syntax.{no-range};
-ghost use Rattle.evaluator.specs.Evaluation.{in-field};
-ghost use Rattle.evaluator.specs.Stands.{rule-table, ranges-in};
+ghost use Rattle.semantics.specs.Evaluation.{in-field};
+ghost use Rattle.semantics.specs.Stands.{rule-table, ranges-in};
 ghost use Rattle.stepper.specs.Admission.{good-times};
 ghost use Rattle.stepper.specs.Fitting.{Sized};
 ghost use Rattle.admission.specs.Admitting.{times-of, cells-of, rooms-of, Asked, InFields};
@@ -15,8 +15,8 @@ mod admitting;
 
 pub use admitting::Admitted;
 pub use admitting::admit;
-use evaluator::Rule;
-use evaluator::table::word_at;
+use operands::table::word_at;
+use semantics::Rule;
 use value::Value;
 
 // A refusal's number and place; number 0: admitted.

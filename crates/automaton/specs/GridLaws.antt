@@ -1,5 +1,5 @@
 -- The automaton of a rule that reads only within its reach is lawful.
-use Prim.Native.Nat.{ℕ, zero, suc, _+_, _*_, _/_, _%_, _<_}
+use Prim.Native.Nat.{ℕ, zero, suc, _+_, _*_, _/_, _%_, _<_, _≤_}
 use native.Mathlib.Nat.{mul-add-div-right, mul-add-mod-self-right, div-eq-of-lt, mod-eq-of-lt, add-zero, mul-le-mul-right, div-lt-iff-lt-mul}
 use native.Mathlib.Omega.{arith}
 use mathlib.Core.Path.{_≡_, refl, sym, ap, ap₂, _∙_, subst}
@@ -24,6 +24,10 @@ differ-false (x ∷ xs) [] e = cc
 differ-false (x ∷ xs) (y ∷ ys) e =
     let both = or-false (not (eqZ x y)) (differ xs ys) e in
     ap₂ (λ (a : ℤ) (l : List ℤ). a ∷ l) (eqZ-true x y (not-false (eqZ x y) (both .0))) (differ-false xs ys (both .1))
+
+-- the fields of a cell are in the grid
+pub cell-room : (c p f g : ℕ) → c < p → p * f ≡ g → c * f + f ≤ g
+cell-room c p f g l e = omega (arith, mul-le-mul-right f l)
 
 -- a grid's entry is the field of its cell
 pub cell-of-grid-of : (fields cells : ℕ) (s : ℕ → List ℤ) (c : ℕ) → length (s c) ≡ fields → c < cells → cell-of fields (grid-of fields cells s) c ≡ s c

@@ -20,15 +20,16 @@ use Rattle.stepper.specs.Report.{Counting, refused}
 use Rattle.services.specs.Services.{run-source, room-after}
 use Rattle.admission.specs.Admitting.{request-of}
 use Rattle.checker.specs.Promises.{Checks}
-use Rattle.runner.specs.declared.Report.{Report}
-use Rattle.runner.specs.Stepwise.{told}
+use Rattle.iteration.specs.declared.Report.{Report}
+use Rattle.iteration.specs.Stepwise.{told}
 use Rattle.runner.specs.Sourcewise.{RunsSource}
 use Rattle.checker.specs.declared.checking.Reply.{Reply}
-use Rattle.cellang.specs.declared.Name.{Name}
+use Rattle.records.specs.declared.Name.{Name}
 use Rattle.cellang.specs.declared.running.RunAnswer.{RunAnswer}
-use Rattle.cellang.specs.Rows.{no-name, rows-of, rows-fit, row-left, names-row-after, stored-of}
+use Rattle.records.specs.Rows.{no-name, rows-of}
+use Rattle.cellang.specs.Left.{rows-fit, row-left, names-row-after, stored-of}
 use Rattle.cellang.specs.Promises.{ChecksOver, RunsOver, TurnedAway}
-use Rattle.cellang.proofs.RowLaws.{filled-all, length-rows, rows-of-zeros}
+use Rattle.records.proofs.RowLaws.{filled-all, length-rows, rows-of-zeros}
 
 -- ---- how many records are stored
 

@@ -12,8 +12,8 @@ use Rattle.grammar.specs.Checking.{rooms-fit, check}
 use Rattle.checker.specs.Promises.{Checks}
 use Rattle.stepper.specs.Report as report
 use Rattle.stepper.specs.Report.{Counting}
-use Rattle.runner.specs.declared.Report.{Report}
-use Rattle.runner.specs.Stepwise.{told}
+use Rattle.iteration.specs.declared.Report.{Report}
+use Rattle.iteration.specs.Stepwise.{told}
 use Rattle.runner.specs.Sourcewise.{RunsSource}
 use Rattle.cellang.specs.Told.{over, reply-entries, TellsCheck, report-entries, numbers-of, told-run, TellsRun}
 

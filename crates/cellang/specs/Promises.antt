@@ -11,12 +11,12 @@ use Rattle.stepper.specs.Report.{Counting}
 use Rattle.services.specs.Services.{run-source, room-after}
 use Rattle.admission.specs.Admitting.{request-of}
 use Rattle.checker.specs.declared.checking.Reply.{Reply}
-use Rattle.runner.specs.declared.Report.{Report}
-use Rattle.runner.specs.Stepwise.{told}
-use Rattle.cellang.specs.declared.Name.{Name}
+use Rattle.iteration.specs.declared.Report.{Report}
+use Rattle.iteration.specs.Stepwise.{told}
+use Rattle.records.specs.declared.Name.{Name}
 use Rattle.cellang.specs.declared.checking.Answer.{Answer}
 use Rattle.cellang.specs.declared.running.RunAnswer.{RunAnswer}
-use Rattle.cellang.specs.Rows.{rows-fit, names-row-after}
+use Rattle.cellang.specs.Left.{rows-fit, names-row-after}
 
 -- ---- a check
 

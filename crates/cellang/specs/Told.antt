@@ -11,7 +11,7 @@ use Rattle.stepper.specs.Report as report
 use Rattle.stepper.specs.Report.{Counting}
 use Rattle.services.specs.Services.{run-source}
 use Rattle.admission.specs.Admitting.{request-of}
-use Rattle.runner.specs.declared.Report.{Report}
+use Rattle.iteration.specs.declared.Report.{Report}
 use Rattle.runner.specs.Sourcewise.{RunsSource}
 
 -- the first entries of a list replaced, as far as it has room; the others stay

@@ -2,11 +2,11 @@
 ghost use mathlib.Core.Path.{_≡_};
 ghost use lib.ListN.{length};
 ghost use Rattle.cellang.specs.Promises.{ChecksOver, ChecksRows};
-use crate::Name;
-use crate::rows::rows_of;
-use crate::rows::store_first;
 use crate::rows::stored;
 use checker::Reply;
+use records::Name;
+use records::rows::rows_of;
+use records::rows::store_first;
 
 // What a check gives: the reply, the records, and how many of them are stored.
 pub struct Answer {

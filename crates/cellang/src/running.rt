@@ -4,15 +4,15 @@ ghost use lib.ListN.{length};
 ghost use Rattle.stepper.specs.Report.{full, quiet};
 ghost use Rattle.services.specs.Services.{run-source};
 ghost use Rattle.admission.specs.Admitting.{request-of};
-ghost use Rattle.runner.specs.Stepwise.{told};
+ghost use Rattle.iteration.specs.Stepwise.{told};
 ghost use Rattle.runner.specs.Property3.{Agree};
-ghost use Rattle.cellang.specs.Rows.{rows-fit};
+ghost use Rattle.cellang.specs.Left.{rows-fit};
 ghost use Rattle.cellang.specs.Promises.{TurnedAway, RunsOver, RunsRows};
-use crate::Name;
-use crate::rows::rows_of;
-use crate::rows::store_first;
 use crate::rows::stored;
-use runner::Report;
+use iteration::Report;
+use records::Name;
+use records::rows::rows_of;
+use records::rows::store_first;
 
 // What a run gives: the report, the records, and how many of them are stored.
 pub struct RunAnswer {
@@ -60,7 +60,7 @@ fn ran_full(
     }
     let mut flat = [0u32; 1024];
     let count = stored(source.len(), words.len());
-    let report = runner::run_full(
+    let report = runner::run(
         source,
         words,
         &mut flat,
@@ -70,6 +70,7 @@ fn ran_full(
         marks,
         start,
         steps,
+        false,
     );
     let rows = rows_of(&flat);
     RunAnswer {
@@ -98,7 +99,7 @@ fn ran_quiet(
     }
     let mut flat = [0u32; 1024];
     let count = stored(source.len(), words.len());
-    let report = runner::run_quiet(
+    let report = runner::run(
         source,
         words,
         &mut flat,
@@ -108,6 +109,7 @@ fn ran_quiet(
         marks,
         start,
         steps,
+        true,
     );
     let rows = rows_of(&flat);
     RunAnswer {

@@ -13,15 +13,17 @@ use Rattle.value.specs.Choice.{if_then_else_}
 use Rattle.value.specs.Worked.{value}
 use Rattle.value.specs.declared.Value.{Value}
 use Rattle.program.specs.Syntax.{Expr, element, unary, binary}
-use Rattle.evaluator.specs.Operators.{Worth, worth, failed, placed, apply-unary, compare, apply-binary}
-use Rattle.evaluator.specs.Evaluation.{Env, element-at, eval}
-use Rattle.evaluator.specs.Stands.{Table, array-in, is-sign, is-unary, Decoded, parsed, nothing, and-then, decode-expression, decode-chain, decode-operand, decode-primary, decode-name, decode-bracket}
-use Rattle.evaluator.specs.Working.{told-of, Onward, primary-from, EvalsExpression, EvalsOperand, EvalsPrimary, EvalsName, EvalsPlain, EvalsBracket, Leaf, Quick, Joins}
-use Rattle.evaluator.specs.declared.Told.{Told}
-use Rattle.evaluator.specs.declared.Told.the-variants.{Found, Failed}
-use Rattle.evaluator.proofs.OperatorLaws.{level-some, told-compare}
+use Rattle.semantics.specs.Operators.{Worth, worth, failed, placed, apply-unary, compare, apply-binary}
+use Rattle.semantics.specs.Evaluation.{Env, element-at, eval}
+use Rattle.semantics.specs.Stands.{Table, array-in, is-sign, is-unary, Decoded, parsed, nothing, and-then, decode-expression, decode-chain, decode-operand, decode-primary, decode-name, decode-bracket}
+use Rattle.operands.specs.Working.{told-of, Onward, primary-from, EvalsExpression, EvalsOperand, EvalsPrimary, EvalsName, EvalsPlain, EvalsBracket, Leaf, Quick, Joins}
+use Rattle.operands.specs.declared.Told.{Told}
+use Rattle.operands.specs.declared.Told.the-variants.{Found, Failed}
+use Rattle.operands.proofs.OperatorLaws.{level-some, told-compare}
 use Rattle.token.proofs.Levels.{level-few}
-use Rattle.evaluator.proofs.PrimaryLaws.{never, as-value}
+use Rattle.operands.proofs.DecodingLaws.{never, went-on, was-unary, was-paren, was-name, was-array, was-bracket, was-expression, was-end, was-more}
+use Rattle.operands.proofs.PrimaryLaws.{as-value}
+use Rattle.operands.proofs.LeafLaws.{lost, bare}
 
 -- ---- what an answer says of the worth
 
@@ -36,128 +38,6 @@ fault-of (failed k p) next q = cc
 further : (o : Worth) (at from past n : ℕ) → at ≤ from → (from < past) × (past ≤ n) → Onward at n (told-of o past)
 further (worth z) at from past n l y = (omega arith, omega arith)
 further (failed k p) at from past n l y = tt
-
--- ---- what a decoding that succeeds was made of
-
-then-parsed : (P : Decoded) (f : Expr → ℕ → Decoded) (e : Expr) (next : ℕ) → and-then P f ≡ parsed e next → (e₀ : Expr) × (m : ℕ) × (P ≡ parsed e₀ m) × (f e₀ m ≡ parsed e next)
-then-parsed (parsed e₀ m) f e next q = (e₀, m, refl, q)
-then-parsed nothing f e next q = never q
-
-when-parsed : (b : Bool) {next : ℕ} {e : Expr} (P : Decoded) → (if b then P else nothing) ≡ parsed e next → (b ≡ true) × (P ≡ parsed e next)
-when-parsed true P q = (refl, q)
-when-parsed false P q = never q
-
-module _ (t : Table) (at next : ℕ) (e : Expr) where
-  was-unary : is-unary (t .kind at) ≡ true → (fuel : ℕ) → decode-operand fuel t at ≡ parsed e next
-      → (f : ℕ) × (e₀ : Expr) × (decode-primary f t (at + 1) ≡ parsed e₀ next) × (e ≡ unary (t .kind at) (t .place at) e₀)
-  unfolding decode-operand
-  was-unary k zero q = never q
-  was-unary k (suc f) q = go (then-parsed (decode-primary f t (at + 1)) (λ e next. parsed (unary (t .kind at) (t .place at) e) next) e next (simp k at q))
-    where
-      go : (e₀ : Expr) × (m : ℕ) × (decode-primary f t (at + 1) ≡ parsed e₀ m) × (parsed (unary (t .kind at) (t .place at) e₀) m ≡ parsed e next)
-          → (f : ℕ) × (e₀ : Expr) × (decode-primary f t (at + 1) ≡ parsed e₀ next) × (e ≡ unary (t .kind at) (t .place at) e₀)
-      go (e₀, m, p, h) = let u : m ≡ next = cc in (f, e₀, p ∙ ap (parsed e₀) u, cc)
-
-  pub was-bare : is-unary (t .kind at) ≡ false → (fuel : ℕ) → decode-operand fuel t at ≡ parsed e next → (f : ℕ) × (decode-primary f t at ≡ parsed e next)
-  unfolding decode-operand
-  was-bare k zero q = never q
-  was-bare k (suc f) q = (f, simp k at q)
-
-  plus-none : t .kind at ≡ 43 → (fuel : ℕ) → decode-primary fuel t at ≡ parsed e next → ⊥
-  unfolding decode-primary
-  plus-none k zero q = never q
-  plus-none k (suc f) q = never (simp k at q)
-
-  minus-none : t .kind at ≡ 45 → (fuel : ℕ) → decode-primary fuel t at ≡ parsed e next → ⊥
-  unfolding decode-primary
-  minus-none k zero q = never q
-  minus-none k (suc f) q = never (simp k at q)
-
-  not-none : t .kind at ≡ 33 → (fuel : ℕ) → decode-primary fuel t at ≡ parsed e next → ⊥
-  unfolding decode-primary
-  not-none k zero q = never q
-  not-none k (suc f) q = never (simp k at q)
-
-  unary-none : is-unary (t .kind at) ≡ true → (fuel : ℕ) → decode-primary fuel t at ≡ parsed e next → ⊥
-  unfolding is-unary is-sign
-  unary-none h fuel q = go (eqb (t .kind at) 43) refl (eqb (t .kind at) 45) refl h
-    where
-      go : (a : Bool) → eqb (t .kind at) 43 ≡ a → (b : Bool) → eqb (t .kind at) 45 ≡ b → ((a || b) || eqb (t .kind at) 33) ≡ true → ⊥
-      go true ea b eb h = plus-none (eqb-true _ _ ea) fuel q
-      go false ea true eb h = minus-none (eqb-true _ _ eb) fuel q
-      go false ea false eb h = not-none (eqb-true _ _ h) fuel q
-
-  was-paren : t .kind at ≡ 40 → (fuel : ℕ) → decode-primary fuel t at ≡ parsed e next → (f : ℕ) × (decode-bracket f t 41 at ≡ parsed e next)
-  unfolding decode-primary
-  was-paren k zero q = never q
-  was-paren k (suc f) q = (f, simp k at q)
-
-  pub was-name : t .kind at ≡ 1 → (fuel : ℕ) → decode-primary fuel t at ≡ parsed e next → (f : ℕ) × (decode-name f t at ≡ parsed e next)
-  unfolding decode-primary
-  was-name k zero q = never q
-  was-name k (suc f) q = (f, simp k at q)
-
-  was-array : t .word2 at ≡ 2 → (fuel : ℕ) → decode-name fuel t at ≡ parsed e next
-      → (t .kind (at + 1) ≡ 91) × (f : ℕ) × (e₀ : Expr) × (decode-bracket f t 93 (at + 1) ≡ parsed e₀ next) × (e ≡ element (t .place (at + 1)) (array-in t (t .word3 at)) e₀)
-  unfolding decode-name
-  was-array k zero q = never q
-  was-array k (suc f) q = go (when-parsed (eqb (t .kind (at + 1)) 91) inner (simp k at q))
-    where
-      inner : Decoded
-      inner = and-then (decode-bracket f t 93 (at + 1)) (λ e next. parsed (element (t .place (at + 1)) (array-in t (t .word3 at)) e) next)
-
-      go : (eqb (t .kind (at + 1)) 91 ≡ true) × (inner ≡ parsed e next)
-          → (t .kind (at + 1) ≡ 91) × (f : ℕ) × (e₀ : Expr) × (decode-bracket f t 93 (at + 1) ≡ parsed e₀ next) × (e ≡ element (t .place (at + 1)) (array-in t (t .word3 at)) e₀)
-      go (b, h) =
-          let s = then-parsed (decode-bracket f t 93 (at + 1)) (λ e next. parsed (element (t .place (at + 1)) (array-in t (t .word3 at)) e) next) e next h in
-          let e₀ : Expr = s .0 in
-          let m : ℕ = s .1 in
-          let h₂ : decode-bracket f t 93 (at + 1) ≡ parsed e₀ m = s .2 in
-          let h₃ : parsed (element (t .place (at + 1)) (array-in t (t .word3 at)) e₀) m ≡ parsed e next = s .3 in
-          let h₄ : m ≡ next = cc in
-          (eqb-true _ _ b, f, e₀, h₂ ∙ ap (parsed e₀) h₄, cc)
-
-  was-bracket : (close fuel : ℕ) → decode-bracket fuel t close at ≡ parsed e next → (f : ℕ) × (m : ℕ) × (decode-expression f t 1 (at + 1) ≡ parsed e m) × (t .kind m ≡ close) × (next ≡ m + 1)
-  unfolding decode-bracket
-  was-bracket close zero q = never q
-  was-bracket close (suc f) q =
-      let s = then-parsed (decode-expression f t 1 (at + 1)) (λ e next. if eqb (t .kind next) close then parsed e (next + 1) else nothing) e next q in
-      let e₀ : Expr = s .0 in
-      let m : ℕ = s .1 in
-      let u = when-parsed (eqb (t .kind m) close) (parsed e₀ (m + 1)) (s .3) in
-      let u₁ : parsed e₀ (m + 1) ≡ parsed e next = u .1 in
-      let u₂ : e₀ ≡ e = cc in
-      (f, m, s .2 ∙ ap (λ (x : Expr). parsed x m) u₂, eqb-true _ _ (u .0), cc)
-
-  was-expression : (level fuel : ℕ) → decode-expression fuel t level at ≡ parsed e next
-      → (f : ℕ) × (e₀ : Expr) × (m : ℕ) × (decode-operand f t at ≡ parsed e₀ m) × (decode-chain f t level e₀ m ≡ parsed e next)
-  unfolding decode-expression
-  was-expression level zero q = never q
-  was-expression level (suc f) q =
-      let s = then-parsed (decode-operand f t at) (λ e next. decode-chain f t level e next) e next q in
-      (f, s .0, s .1, s .2, s .3)
-
-module _ (t : Table) (here level next : ℕ) (e : Expr) where
-  -- a chain that ends, and one that takes an operator
-  was-end : level-of (t .kind here) < level → (left : Expr) (fuel : ℕ) → decode-chain fuel t level left here ≡ parsed e next → (left ≡ e) × (here ≡ next)
-  unfolding decode-chain
-  was-end l left zero q = never q
-  was-end l left (suc f) q = let h : parsed left here ≡ parsed e next = simp (lt-ltb _ _ l) at q in (cc, cc)
-
-  went-on : level ≤ level-of (t .kind here) → (left : Expr) (f : ℕ) → decode-chain (suc f) t level left here ≡ parsed e next
-      → (right : Expr) × (m : ℕ) × (decode-expression f t (level-of (t .kind here) + 1) (here + 1) ≡ parsed right m)
-      × (decode-chain f t level (binary (t .kind here) (t .place here) left right) m ≡ parsed e next)
-  unfolding decode-chain
-  went-on l left f q =
-      then-parsed (decode-expression f t (level-of (t .kind here) + 1) (here + 1)) (λ right next. decode-chain f t level (binary (t .kind here) (t .place here) left right) next) e next
-      (simp (le-ltb _ _ l) at q)
-
-  was-more : level ≤ level-of (t .kind here) → (left : Expr) (fuel : ℕ) → decode-chain fuel t level left here ≡ parsed e next
-      → (f : ℕ) × (right : Expr) × (m : ℕ) × (decode-expression f t (level-of (t .kind here) + 1) (here + 1) ≡ parsed right m)
-      × (decode-chain f t level (binary (t .kind here) (t .place here) left right) m ≡ parsed e next)
-  unfolding decode-chain
-  was-more l left zero q = never q
-  was-more l left (suc f) q = let s = went-on l left f q in (f, s .0, s .1, s .2, s .3)
 
 module _ (t : Table) (env : Env) (vars vs : List ℤ) where
   abbrev ev : Expr → Worth
@@ -248,17 +128,11 @@ module _ (t : Table) (env : Env) (vars vs : List ℤ) where
       pub primary-paren : {r : Told} → k ≡ 40 → EvalsBracket t env vars vs n at 41 r → EvalsPrimary t env vars vs n at r
       primary-paren {r} kp b = record { says = λ fuel e next q. let s = was-paren t at next e (sym ek ∙ kp) fuel q in b .says (s .0) e next (s .1); onward = b .onward }
 
-      pub primary-plain : {r : Told} → (k ≡ 40 → ⊥) → (k ≡ 1 → ⊥) → EvalsPlain t env vars vs n at r → EvalsPrimary t env vars vs n at r
-      primary-plain {r} kp kn b = record { says = λ fuel e next q. b .says (λ u. kn (ek ∙ u)) (λ u. kp (ek ∙ u)) fuel e next q; onward = b .onward }
-
       -- by the short way, where no name stands, or that of no array constant
       pub primary-quick : {r : Told} → (k ≡ 40 → ⊥) → (k ≡ 1 → t .word2 at ≡ 2 → ⊥) → Quick t env vars vs n at 5 r → EvalsPrimary t env vars vs n at r
       primary-quick kp na x = x .only refl (λ z. kp (ek ∙ z)) (λ y z. na (ek ∙ y) z)
 
       module _ (kn : k ≡ 1) {w : ℕ} (ew : w ≡ t .word2 at) where
-        pub primary-name : {r : Told} → (w ≡ 2 → ⊥) → EvalsName t env vars vs n at r → EvalsPrimary t env vars vs n at r
-        primary-name {r} other b = record { says = λ fuel e next q. let s = was-name t at next e (sym ek ∙ kn) fuel q in b .says (λ u. other (ew ∙ u)) (s .0) e next (s .1); onward = b .onward }
-
         module _ (wa : w ≡ 2) where
           Went : (e : Expr) (next : ℕ) → Type 0
           Went e next = (t .kind (at + 1) ≡ 91) × (f : ℕ) × (e₀ : Expr) × (decode-bracket f t 93 (at + 1) ≡ parsed e₀ next) × (e ≡ element (t .place (at + 1)) (array-in t (t .word3 at)) e₀)
@@ -297,12 +171,6 @@ module _ (t : Table) (env : Env) (vars vs : List ℤ) where
     -- ---- operands
 
     module _ {k : ℕ} (ek : k ≡ t .kind at) {b : Bool} (eb : b ≡ is-unary k) where
-      bare : {r : Told} → b ≡ false → EvalsPrimary t env vars vs n at r → EvalsOperand t env vars vs n at r
-      bare {r} h x = record {
-        says = λ fuel e next q. let s = was-bare t at next e (ap is-unary (sym ek) ∙ sym eb ∙ h) fuel q in x .says (s .0) e next (s .1);
-        onward = x .onward;
-      }
-
       module _ {r : Told} (h : b ≡ true) (x : EvalsPrimary t env vars vs n (at + 1) r) where
         Unary : (e : Expr) (next : ℕ) → Type 0
         Unary e next = (f : ℕ) × (e₀ : Expr) × (decode-primary f t (at + 1) ≡ parsed e₀ next) × (e ≡ unary (t .kind at) (t .place at) e₀)
@@ -331,32 +199,6 @@ module _ (t : Table) (env : Env) (vars vs : List ℤ) where
                 ho ∙ ap (told-of (placed (t .place at) (apply-unary k (v .n)))) (sym (s .1))
                 ∙ sym (ap (λ (y : Worth). told-of y next) (ap ev he ∙ unary-worth (t .kind at) (t .place at) e₀ (s .0) ∙ ap (λ (i : ℕ). placed (t .place at) (apply-unary i (v .n))) (sym ek)))
 
-    -- an operand that is a leaf
-
-    lost : {A : Type 0} {a p next : ℕ} {v : Value} → Failed a p ≡ Found v next → A
-    lost h = let z : _≡_ {A = ℕ} 0 1 = cc in absurd (omega arith)
-
-    module _ {k : ℕ} (ek : k ≡ t .kind at) where
-      pub leaf-array : {w a p : ℕ} → k ≡ 1 → w ≡ t .word2 at → w ≡ 2 → Leaf t env vars vs n at (Failed a p)
-      leaf-array kn ew h = record { found = λ v next e. lost e; only = λ np na. absurd (na (sym ek ∙ kn) (sym ew ∙ h)) }
-
-      pub leaf-paren : {a p : ℕ} → k ≡ 40 → Leaf t env vars vs n at (Failed a p)
-      leaf-paren h = record { found = λ v next e. lost e; only = λ np na. absurd (np (sym ek ∙ h)) }
-
-      pub leaf-unary : {b : Bool} {a p : ℕ} → b ≡ is-unary k → b ≡ true → Leaf t env vars vs n at (Failed a p)
-      leaf-unary eb h = record {
-        found = λ v next e. lost e;
-        only = λ np na. record { says = λ fuel e next q. absurd (unary-none t at next e (ap is-unary (sym ek) ∙ sym eb ∙ h) fuel q); onward = tt };
-      }
-
-      pub leaf-name : {w : ℕ} {r : Told} → k ≡ 1 → w ≡ t .word2 at → (w ≡ 2 → ⊥) → EvalsName t env vars vs n at r → Leaf t env vars vs n at r
-      unfolding is-unary is-sign
-      leaf-name kn ew other x =
-          record { found = λ v next h. bare ek {b = is-unary k} refl (rw kn refl) (primary-name ek kn ew other x); only = λ np na. primary-name ek kn ew other x }
-
-      pub leaf-plain : {b : Bool} {r : Told} → (k ≡ 1 → ⊥) → (k ≡ 40 → ⊥) → b ≡ is-unary k → b ≡ false → EvalsPlain t env vars vs n at r → Leaf t env vars vs n at r
-      leaf-plain kn kp eb h x = record { found = λ v next g. bare ek eb h (primary-plain ek kp kn x); only = λ np na. primary-plain ek kp kn x }
-
     module _ {k : ℕ} (ek : k ≡ t .kind at) {from : ℕ} (ef : from ≡ primary-from k at) {r : Told} (x : EvalsPrimary t env vars vs n from r) where
       behind : is-unary k ≡ true → EvalsPrimary t env vars vs n (at + 1) r
       behind h = subst (λ (i : ℕ). EvalsPrimary t env vars vs n i r) (ef ∙ simp h) x
@@ -369,11 +211,11 @@ module _ (t : Table) (env : Env) (vars vs : List ℤ) where
         where
           go : (b : Bool) → is-unary k ≡ b → EvalsOperand t env vars vs n at r
           go true e = before-fault ek {b = is-unary k} refl e (behind e) g
-          go false e = bare ek {b = is-unary k} refl e (here-too e)
+          go false e = bare t env vars vs n at ek {b = is-unary k} refl e (here-too e)
 
       module _ {b : Bool} (eb : b ≡ is-unary k) where
         pub operand-bare : {v : Value} {past : ℕ} → b ≡ false → r ≡ Found v past → EvalsOperand t env vars vs n at (Found v past)
-        operand-bare h g = subst (EvalsOperand t env vars vs n at) g (bare ek eb h (here-too (sym eb ∙ h)))
+        operand-bare h g = subst (EvalsOperand t env vars vs n at) g (bare t env vars vs n at ek eb h (here-too (sym eb ∙ h)))
 
         pub operand-unary : {v : Value} {past : ℕ} {o : Told} → b ≡ true → r ≡ Found v past → o ≡ told-of (placed (t .place at) (apply-unary k (v .n))) past → EvalsOperand t env vars vs n at o
         operand-unary h g ho = before-found ek eb h (behind (sym eb ∙ h)) g ho
@@ -505,7 +347,7 @@ module _ (t : Table) (env : Env) (vars vs : List ℤ) where
 
     module _ (some-level : 1 ≤ level) {left : Value} {op own last here : ℕ} (p : Underway left op own last here) {r : Told} (x : Leaf t env vars vs n here r) where
       pub quick-none : {a k : ℕ} → r ≡ Failed a k → Quick t env vars vs n at level r
-      quick-none {a} {k} h = record { found = λ v next e. lost n at (sym h ∙ e); only = λ five np na. go (p .pending) five np na }
+      quick-none {a} {k} h = record { found = λ v next e. lost (sym h ∙ e); only = λ five np na. go (p .pending) five np na }
         where
           go : Pending left op own last here → level ≡ 5 → (t .kind at ≡ 40 → ⊥) → (t .kind at ≡ 1 → t .word2 at ≡ 2 → ⊥) → EvalsPrimary t env vars vs n at r
           go (first o w e) five np na =
@@ -514,7 +356,7 @@ module _ (t : Table) (env : Env) (vars vs : List ℤ) where
 
       module _ {b : Value} {next k tight : ℕ} (h : r ≡ Found b next) (ek : k ≡ t .kind next) (et : tight ≡ level-of k) where
         pub quick-tighter : {a c : ℕ} → own < tight → Quick t env vars vs n at level (Failed a c)
-        quick-tighter {a} {c} u = record { found = λ v next e. lost n at e; only = λ five np na. absurd (go (p .pending) five) }
+        quick-tighter {a} {c} u = record { found = λ v next e. lost e; only = λ five np na. absurd (go (p .pending) five) }
           where
             go : Pending left op own last here → level ≡ 5 → ⊥
             go (first o w e) five = let m = level-few k in omega (arith, m, et, w, u)
@@ -522,10 +364,10 @@ module _ (t : Table) (env : Env) (vars vs : List ℤ) where
 
         module _ (u : tight ≤ own) {o : Told} (j : Joins (t .place last) op (left .n) b next o) where
           pub quick-fault : {a c a′ c′ : ℕ} → o ≡ Failed a c → Quick t env vars vs n at level (Failed a′ c′)
-          quick-fault {a} {c} g = record { found = λ v next e. lost n at e; only = λ five np na. absurd (go (p .pending) five) }
+          quick-fault {a} {c} g = record { found = λ v next e. lost e; only = λ five np na. absurd (go (p .pending) five) }
             where
               go : Pending left op own last here → level ≡ 5 → ⊥
-              go (first z w e) five = lost n at (sym g ∙ j .alone z)
+              go (first z w e) five = lost (sym g ∙ j .alone z)
               go (behind-operator ch s eo ew l) five = let m = level-few op in omega (arith, m, ew, l, five)
 
           module _ {c : Value} {m : ℕ} (g : o ≡ Found c m) where
@@ -569,7 +411,7 @@ joined-some place op a b next h e = record { alone = λ z. absurd (h z); applied
 
 -- where a short way is left, nothing is said
 pub simple-left : (t : Table) (env : Env) (vars vs : List ℤ) (n at : ℕ) {a c : ℕ} → Quick t env vars vs n at 1 (Failed a c)
-simple-left t env vars vs n at = record { found = λ v next e. lost t env vars vs n at e; only = λ five np na. absurd (omega arith) }
+simple-left t env vars vs n at = record { found = λ v next e. lost e; only = λ five np na. absurd (omega arith) }
 
 -- ---- expressions of one or two operands
 

@@ -8,13 +8,13 @@ use lib.ListN.{take}
 use lib.IntN.{ℤ}
 use Rattle.token.specs.Kind.{level-of}
 use Rattle.value.specs.declared.Value.{Value}
-use Rattle.evaluator.specs.Operators.{compare}
-use Rattle.evaluator.specs.Stands.{word-in}
-use Rattle.evaluator.specs.Leaves.{leaf-word, Simple, Last}
-use Rattle.evaluator.specs.Working.{site-table, env-of, Ready, Leaf, Quick}
-use Rattle.evaluator.specs.declared.Site.{Site}
-use Rattle.evaluator.specs.declared.Told.the-variants.{Found}
-use Rattle.evaluator.proofs.NotedLaws.{leaf-within, leaf-onto, level-at, operator-at, operator-within}
+use Rattle.semantics.specs.Operators.{compare}
+use Rattle.semantics.specs.Stands.{word-in}
+use Rattle.semantics.specs.Leaves.{leaf-word, Simple, Last}
+use Rattle.operands.specs.Working.{site-table, env-of, Ready, Leaf, Quick}
+use Rattle.operands.specs.declared.Site.{Site}
+use Rattle.operands.specs.declared.Told.the-variants.{Found}
+use Rattle.operands.proofs.NotedLaws.{leaf-within, leaf-onto, level-at, operator-at, operator-within}
 use Rattle.evaluator.proofs.ExpressionLaws.{simple-alone, simple-related}
 
 module _ {leaves words sizes place : List ℕ} {grid : List ℤ} {site : Site} {depth : ℕ} (r : Ready leaves words sizes place grid site depth) where

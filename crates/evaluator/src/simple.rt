@@ -1,12 +1,12 @@
 // Expressions of one or two operands, by the leaf table.
 ghost use Prim.Native.Nat.{_≤_};
 ghost use lib.ListN.{take};
-ghost use Rattle.evaluator.specs.Working.{site-table, env-of, Ready, Quick};
-use crate::Site;
-use crate::Told;
-use crate::noted::simple_value;
-use crate::operators::compare;
-use crate::table::leaf_word;
+ghost use Rattle.operands.specs.Working.{site-table, env-of, Ready, Quick};
+use operands::Site;
+use operands::Told;
+use operands::noted::simple_value;
+use operands::operators::compare;
+use operands::table::leaf_word;
 
 // The expression at a position, if it is an operand alone, or a relation or logic of two, and they are noted as numbers, variables or fields of the
 // own cell. Else a fault is told, which says nothing.

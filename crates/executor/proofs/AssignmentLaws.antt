@@ -16,12 +16,12 @@ use Rattle.value.specs.Worked.{value, truth, decode-of}
 use Rattle.value.specs.declared.Value.{Value}
 use Rattle.automaton.specs.Listed.{length-list-of, getD-list-of}
 use Rattle.program.specs.Syntax.{Range, no-range, Expr, Target, Clause}
-use Rattle.evaluator.specs.Operators.{Worth, worth, failed}
-use Rattle.evaluator.specs.Evaluation.{Env, eval, Frame, frame, on, faulted, goes, valued, in-field, store, branch, conditional, assign-first}
-use Rattle.evaluator.specs.Stands.{Table, range-in, ranges-in, ExprAt, target-in, first-clause, GuardAt, ClausesAt}
-use Rattle.evaluator.specs.Working.{told-of, EvalsExpression, Quick}
-use Rattle.evaluator.specs.declared.Told.{Told}
-use Rattle.evaluator.specs.declared.Told.the-variants.{Found, Failed}
+use Rattle.semantics.specs.Operators.{Worth, worth, failed}
+use Rattle.semantics.specs.Evaluation.{Env, eval, Frame, frame, on, faulted, goes, valued, in-field, store, branch, conditional, assign-first}
+use Rattle.semantics.specs.Stands.{Table, range-in, ranges-in, ExprAt, target-in, first-clause, GuardAt, ClausesAt}
+use Rattle.operands.specs.Working.{told-of, EvalsExpression, Quick}
+use Rattle.operands.specs.declared.Told.{Told}
+use Rattle.operands.specs.declared.Told.the-variants.{Found, Failed}
 use Rattle.executor.specs.Running.{left, field-range, Stores, AssignsOne, ConditionAt, guarded, Guards, Assigns}
 use Rattle.executor.specs.declared.Going.{Going}
 use Rattle.executor.specs.declared.Going.the-variants.{On, Faulted}

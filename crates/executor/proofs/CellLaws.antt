@@ -10,12 +10,12 @@ use Rattle.automaton.specs.Step as Step
 use Rattle.automaton.specs.Shape.{neighbour}
 use Rattle.automaton.specs.Grid.{cell-of}
 use Rattle.program.specs.Syntax.{Range, Program}
-use Rattle.evaluator.specs.declared.Rule.{Rule}
-use Rattle.evaluator.specs.declared.Site.{Site}
-use Rattle.evaluator.specs.Evaluation.{Env, Frame, offsets, exec, frame, on, outcome-of, evaluate}
-use Rattle.evaluator.specs.Stands.{table-of, ranges-in, Stands, Holds}
-use Rattle.evaluator.specs.Working.{site-table, env-of, Ready}
-use Rattle.evaluator.proofs.PrimaryLaws.{own-is}
+use Rattle.semantics.specs.declared.Rule.{Rule}
+use Rattle.operands.specs.declared.Site.{Site}
+use Rattle.semantics.specs.Evaluation.{Env, Frame, offsets, exec, frame, on, outcome-of, evaluate}
+use Rattle.semantics.specs.Stands.{table-of, ranges-in, Stands, Holds}
+use Rattle.operands.specs.Working.{site-table, env-of, Ready}
+use Rattle.operands.proofs.PrimaryLaws.{own-is}
 use Rattle.executor.specs.Running.{flow-of, left, RunsBlock, Fit, outcome-is, Evaluates}
 use Rattle.executor.specs.declared.Going.{Going}
 use Rattle.executor.specs.declared.Going.the-variants.{On, Leaving, Faulted}

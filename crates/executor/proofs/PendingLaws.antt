@@ -9,8 +9,8 @@ use lib.Seq.{getD-set-same, getD-set-other}
 use lib.IntN.{ℤ}
 use Rattle.automaton.specs.Listed.{last-or-below}
 use Rattle.program.specs.Syntax.{Block}
-use Rattle.evaluator.specs.Evaluation.{Env, on, Frame, frame, onward, exec}
-use Rattle.evaluator.specs.Stands.{Table, Stands}
+use Rattle.semantics.specs.Evaluation.{Env, on, Frame, frame, onward, exec}
+use Rattle.semantics.specs.Stands.{Table, Stands}
 
 -- ---- where the positions lie
 

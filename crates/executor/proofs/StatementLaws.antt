@@ -14,13 +14,13 @@ use borrow.Author.Tests.{ne-eqb, eqb-true}
 use Rattle.value.specs.Worked.{value, truth, decode-of, span-of}
 use Rattle.value.specs.declared.Value.{Value}
 use Rattle.program.specs.Syntax.{Range, Expr, Target, Block, empty, assign, select, loop, exit, constant}
-use Rattle.evaluator.specs.Operators.{worth}
-use Rattle.evaluator.specs.Evaluation.{Env, eval, Flow, on, leaving, faulted, Frame, frame, when-on, onward, branch, conditional, assign-first, turned, each, exec}
-use Rattle.evaluator.specs.Stands.{Table, ExprAt, range-in, LoopAt, begins, assigns, Stands, Elsif, Choice}
-use Rattle.evaluator.specs.Working.{Ready, EvalsExpression}
-use Rattle.evaluator.specs.declared.Site.{Site}
-use Rattle.evaluator.specs.declared.Told.{Told}
-use Rattle.evaluator.specs.declared.Told.the-variants.{Found, Failed}
+use Rattle.semantics.specs.Operators.{worth}
+use Rattle.semantics.specs.Evaluation.{Env, eval, Flow, on, leaving, faulted, Frame, frame, when-on, onward, branch, conditional, assign-first, turned, each, exec}
+use Rattle.semantics.specs.Stands.{Table, ExprAt, range-in, LoopAt, begins, assigns, Stands, Elsif, Choice}
+use Rattle.operands.specs.Working.{Ready, EvalsExpression}
+use Rattle.operands.specs.declared.Site.{Site}
+use Rattle.operands.specs.declared.Told.{Told}
+use Rattle.operands.specs.declared.Told.the-variants.{Found, Failed}
 use Rattle.executor.specs.Running.{flow-of, left, Assigns, RunsBlock, rest-of, RunsStatement, Settles, Forward, Chooses, body-of, RunsLoop}
 use Rattle.executor.specs.declared.Going.{Going}
 use Rattle.executor.specs.declared.Going.the-variants.{On, Leaving, Faulted}

@@ -12,10 +12,10 @@ use Rattle.automaton.specs.Shape.{product, coordinates, neighbour}
 use Rattle.automaton.specs.ShapeLaws.{Positive}
 use Rattle.automaton.specs.Grid.{cell-of}
 use Rattle.program.specs.Syntax.{Range, no-range, Expr, Clause, Block, empty, assign, select, loop, exit, constant, Program}
-use Rattle.evaluator.specs.declared.Rule.{Rule}
-use Rattle.evaluator.specs.Evaluation.{Env, eval, Flow, on, leaving, faulted, Frame, frame, goes, onward, valued, store, conditional, assign-first, each, exec, evaluate}
-use Rattle.evaluator.specs.Leaves.{Leaves}
-use Rattle.evaluator.specs.Stands.{Table, ExprAt, target-in, first-clause, ClausesAt, LoopAt, begins, Stands, Choice, Holds}
+use Rattle.semantics.specs.declared.Rule.{Rule}
+use Rattle.semantics.specs.Evaluation.{Env, eval, Flow, on, leaving, faulted, Frame, frame, goes, onward, valued, store, conditional, assign-first, each, exec, evaluate}
+use Rattle.semantics.specs.Leaves.{Leaves}
+use Rattle.semantics.specs.Stands.{Table, ExprAt, target-in, first-clause, ClausesAt, LoopAt, begins, Stands, Choice, Holds}
 use Rattle.executor.specs.declared.Going.{Going}
 use Rattle.executor.specs.declared.Going.the-variants.{On, Leaving, Faulted}
 use Rattle.executor.specs.declared.Outcome.{Outcome}

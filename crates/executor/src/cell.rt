@@ -8,8 +8,8 @@ ghost use Rattle.executor.specs.Running.{Fit, Evaluates};
 use crate::Going;
 use crate::Outcome;
 use crate::blocks::block;
-use evaluator::Rule;
-use evaluator::Site;
+use operands::Site;
+use semantics::Rule;
 
 // Sets the first variables to 0.
 fn clear(vars: &mut [i32], slots: usize)

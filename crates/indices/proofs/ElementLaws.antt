@@ -11,8 +11,8 @@ use Rattle.value.specs.Choice.{if_then_else_}
 use Rattle.value.specs.Worked.{decode-of}
 use Rattle.automaton.specs.Listed.{list-of, length-list-of, getD-list-of, list-of-ext}
 use Rattle.program.specs.Syntax.{Range, no-range, fixed, moving}
-use Rattle.evaluator.specs.Written.{values-of, place-of, written-in-index}
-use Rattle.evaluator.specs.Stands.{Table, index-in, next-index, indices-in}
+use Rattle.semantics.specs.Written.{values-of, place-of, written-in-index}
+use Rattle.semantics.specs.Stands.{Table, index-in, next-index, indices-in}
 use Rattle.indices.specs.declared.Survey.{Survey}
 use Rattle.indices.specs.Surveying.{tallied, tally, tally-of, ends, loops-of, Counts, Opened}
 use Rattle.indices.proofs.CountingLaws.{counts-tallied}

@@ -15,11 +15,11 @@ use Rattle.automaton.specs.Listed.{list-of, length-list-of, getD-list-of}
 use Rattle.automaton.specs.Shape.{Bound}
 use Rattle.token.specs.Kind.{kind}
 use Rattle.program.specs.Syntax.{Range}
-use Rattle.evaluator.specs.declared.Rule.{Rule}
-use Rattle.evaluator.specs.Written.{Written, written-in-index}
-use Rattle.evaluator.specs.Stands.{word-in, Table, table-of, rule-table, range-in, indices-in, most-loops}
-use Rattle.evaluator.specs.Listing.{is-index, behind, written-at, written-from, Writes}
-use Rattle.evaluator.proofs.TableLaws.{link-bounds}
+use Rattle.semantics.specs.declared.Rule.{Rule}
+use Rattle.semantics.specs.Written.{Written, written-in-index}
+use Rattle.semantics.specs.Stands.{word-in, Table, table-of, rule-table, range-in, indices-in, most-loops}
+use Rattle.semantics.specs.Listing.{is-index, behind, written-at, written-from, Writes}
+use Rattle.operands.proofs.TableLaws.{link-bounds}
 use Rattle.stepper.specs.Admission.{refusal, too-far}
 use Rattle.stepper.specs.Reach.{own-only, widen, widened}
 use Rattle.stepper.specs.Fitting.{bound-at, bounds-of}

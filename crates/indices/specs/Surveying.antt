@@ -12,10 +12,10 @@ use Rattle.automaton.specs.Listed.{list-of}
 use Rattle.automaton.specs.Shape.{Bound}
 use Rattle.token.specs.Kind.{kind}
 use Rattle.program.specs.Syntax.{Range, range}
-use Rattle.evaluator.specs.declared.Rule.{Rule}
-use Rattle.evaluator.specs.Written.{Written}
-use Rattle.evaluator.specs.Stands.{rule-table, most-loops}
-use Rattle.evaluator.specs.Listing.{written-at, written-from, Writes}
+use Rattle.semantics.specs.declared.Rule.{Rule}
+use Rattle.semantics.specs.Written.{Written}
+use Rattle.semantics.specs.Stands.{rule-table, most-loops}
+use Rattle.semantics.specs.Listing.{written-at, written-from, Writes}
 use Rattle.stepper.specs.declared.Reach.{Reach}
 use Rattle.stepper.specs.Admission.{Refusal, refusal, too-far}
 use Rattle.stepper.specs.Reach.{own-only, widen, widened}

@@ -5,7 +5,7 @@ ghost use Rattle.stepper.specs.Fitting.{Sized};
 ghost use Rattle.indices.specs.Surveying.{Surveyed};
 use crate::Survey;
 use crate::walk::part;
-use evaluator::Rule;
+use semantics::Rule;
 use stepper::Reach;
 
 // The survey of a program, in one walk over its statements.

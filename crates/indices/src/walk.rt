@@ -5,17 +5,17 @@ ghost use Prim.Native.Nat.{_+_, _*_, _<_, _≤_};
 ghost use lib.Dec.{eqb, ltb};
 ghost use lib.ListN.{length};
 ghost use Rattle.token.specs.Kind.{kind};
-ghost use Rattle.evaluator.specs.Written.{values-of, written-in-index};
-ghost use Rattle.evaluator.specs.Stands.{word-in, table-of, rule-table, index-in, indices-in};
-ghost use Rattle.evaluator.specs.Listing.{is-index, behind};
+ghost use Rattle.semantics.specs.Written.{values-of, written-in-index};
+ghost use Rattle.semantics.specs.Stands.{word-in, table-of, rule-table, index-in, indices-in};
+ghost use Rattle.semantics.specs.Listing.{is-index, behind};
 ghost use Rattle.indices.specs.Surveying.{tally, tally-of, ends, loops-of, Walks, listed, Opened, CountsAt};
 use crate::Survey;
 use crate::counting::counted;
-use evaluator::Rule;
-use evaluator::neighbour::element_after;
-use evaluator::table::link_at;
-use evaluator::table::place_at;
-use evaluator::table::word_at;
+use operands::neighbour::element_after;
+use operands::table::link_at;
+use operands::table::place_at;
+use operands::table::word_at;
+use semantics::Rule;
 use token::kind;
 
 // The words of the lowest and the highest value of an index.

@@ -8,10 +8,9 @@ use mathlib.Core.List.{List, []}
 use Rattle.value.specs.Worked.{decode-of}
 use Rattle.token.specs.Kind.{level-of}
 use Rattle.program.specs.Syntax.{Expr, number, variable, field}
-use Rattle.evaluator.specs.Stands.{Table, indices-in, is-sign, is-unary, parsed, decode-primary, decode-name}
-use Rattle.evaluator.specs.Leaves.{OperandIs, LeafAt}
-use Rattle.evaluator.proofs.PrimaryLaws.{never}
-use Rattle.evaluator.proofs.ExpressionLaws.{was-bare, was-name}
+use Rattle.semantics.specs.Stands.{Table, indices-in, is-sign, is-unary, parsed, decode-primary, decode-name}
+use Rattle.semantics.specs.Leaves.{OperandIs, LeafAt}
+use Rattle.operands.proofs.DecodingLaws.{never, was-bare, was-name}
 use Rattle.leaf_table.specs.declared.Leaf.{Leaf}
 use Rattle.leaf_table.specs.Filling.{words-of, FieldSort}
 

@@ -7,9 +7,9 @@ use mathlib.Core.List.{List}
 use lib.ListN.{length, set}
 use lib.Seq.{getD-set-same, getD-set-other}
 use Rattle.token.specs.Kind.{level-of}
-use Rattle.evaluator.specs.Stands.{word-in, table-of}
-use Rattle.evaluator.specs.Leaves.{leaf-word, Simple, Last, ShapeAt, Leaves}
-use Rattle.evaluator.proofs.TableLaws.{token}
+use Rattle.semantics.specs.Stands.{word-in, table-of}
+use Rattle.semantics.specs.Leaves.{leaf-word, Simple, Last, ShapeAt, Leaves}
+use Rattle.operands.proofs.TableLaws.{token}
 use Rattle.leaf_table.specs.Shaping.{Linked, After, Shape, Written, Shaped}
 use Rattle.leaf_table.proofs.WritingLaws.{leaf-same, Filled}
 

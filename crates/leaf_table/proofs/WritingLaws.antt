@@ -15,9 +15,9 @@ use Rattle.value.specs.Worked.{value, decode-of, wrap-of}
 use Rattle.value.specs.declared.Value.{Value}
 use Rattle.token.specs.Kind.{level-of}
 use Rattle.automaton.specs.ShapeLaws.{Positive}
-use Rattle.evaluator.specs.Evaluation.{offset}
-use Rattle.evaluator.specs.Stands.{Table, index-in, next-index}
-use Rattle.evaluator.specs.Leaves.{leaf-word, OffsetsAre, LeafAt}
+use Rattle.semantics.specs.Evaluation.{offset}
+use Rattle.semantics.specs.Stands.{Table, index-in, next-index}
+use Rattle.semantics.specs.Leaves.{leaf-word, OffsetsAre, LeafAt}
 use Rattle.leaf_table.specs.declared.Leaf.{Leaf}
 use Rattle.leaf_table.specs.Filling.{words-of, Kept, Offsets, Noted}
 use Rattle.leaf_table.proofs.NotingLaws.{unnoted}

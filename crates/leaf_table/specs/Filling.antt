@@ -7,8 +7,8 @@ use Prim.Native.Nat.{ℕ, zero, suc, _+_, _*_, _<_, _≤_}
 use lib.ListN.{getD}
 use lib.IntN.{ℤ}
 use Rattle.token.specs.Kind.{kind}
-use Rattle.evaluator.specs.Stands.{Table}
-use Rattle.evaluator.specs.Leaves.{leaf-word, sort, OffsetsAre}
+use Rattle.semantics.specs.Stands.{Table}
+use Rattle.semantics.specs.Leaves.{leaf-word, sort, OffsetsAre}
 use Rattle.leaf_table.specs.declared.Leaf.{Leaf}
 
 -- word k of a position, where k is below 4

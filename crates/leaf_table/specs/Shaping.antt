@@ -3,7 +3,7 @@ use mathlib.Core.Path.{_≡_}
 use mathlib.Core.List.{List}
 use Prim.Native.Nat.{ℕ, _+_, _*_, _<_, _≤_}
 use lib.ListN.{length, set}
-use Rattle.evaluator.specs.Leaves.{leaf-word, Simple, Last, ShapeAt}
+use Rattle.semantics.specs.Leaves.{leaf-word, Simple, Last, ShapeAt}
 
 -- past a simple operand comes one of the n tokens or the end, and the end is no operator
 pub record Linked (n : ℕ) (leaves : List ℕ) : Type 0 where

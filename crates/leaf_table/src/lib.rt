@@ -2,7 +2,7 @@
 ghost use Prim.Native.Nat.{_*_, _≤_};
 ghost use lib.ListN.{length};
 ghost use Rattle.automaton.specs.ShapeLaws.{Positive};
-ghost use Rattle.evaluator.specs.Leaves.{Leaves};
+ghost use Rattle.semantics.specs.Leaves.{Leaves};
 use crate::shaping::write_shapes;
 use crate::writing::write_leaf;
 

@@ -3,13 +3,13 @@ ghost use mathlib.Core.Path.{_≡_};
 ghost use mathlib.Core.List.{[]};
 ghost use Prim.Native.Nat.{_*_, _<_, _≤_};
 ghost use lib.ListN.{length};
-ghost use Rattle.evaluator.specs.Stands.{word-in, table-of};
-ghost use Rattle.evaluator.specs.Leaves.{LeafAt};
+ghost use Rattle.semantics.specs.Stands.{word-in, table-of};
+ghost use Rattle.semantics.specs.Leaves.{LeafAt};
 ghost use Rattle.leaf_table.specs.Filling.{words-of, FieldSort};
 use crate::Leaf;
-use evaluator::sort;
-use evaluator::table::link_at;
-use evaluator::table::word_at;
+use operands::sort;
+use operands::table::link_at;
+use operands::table::word_at;
 use token::kind;
 use token::kind::level_of;
 

@@ -2,7 +2,7 @@
 ghost use Prim.Native.Nat.{_+_, _*_, _≤_};
 ghost use lib.ListN.{length};
 ghost use Rattle.leaf_table.specs.Shaping.{Linked, After, Shape, Written, Shaped};
-use evaluator::table::leaf_word;
+use operands::table::leaf_word;
 
 // The level of the operator behind the simple operand at a position; 5, where there is no such operand.
 fn level_after(leaves: &[u32; 32776], n: usize, p: usize) -> u32

@@ -17,10 +17,10 @@ use Rattle.grammar.specs.Reader.{Input, State, Result, ok, fail, Reader, refuse
 use Rattle.grammar.specs.Constants.{read-constants}
 use Rattle.grammar.specs.Statements.{read-block}
 use Rattle.grammar.specs.Source.{Declared, read-cell, most-open, input-of, start-state, Accepted, accepted-as, finish, read-program, what-is-read, parse}
-use Rattle.evaluator.specs.declared.Rule.{Rule}
-use Rattle.evaluator.specs.Stands.{Holds, table-of, rule-table}
-use Rattle.evaluator.specs.Written.{written-in}
-use Rattle.evaluator.specs.Listing.{Writes}
+use Rattle.semantics.specs.declared.Rule.{Rule}
+use Rattle.semantics.specs.Stands.{Holds, table-of, rule-table}
+use Rattle.semantics.specs.Written.{written-in}
+use Rattle.semantics.specs.Listing.{Writes}
 use Rattle.linking.specs.Steps.{Gives, bind, no-end}
 use Rattle.linking.specs.Runs.{tokens}
 use Rattle.linking.specs.Timed.{Timing}

@@ -11,9 +11,9 @@ use borrow.Author.Tests.{lt-ltb, le-ltb, ne-eqb, not-true}
 use Rattle.value.specs.Laws.{never}
 use Rattle.token.specs.Kind.{kind, level-of}
 use Rattle.program.specs.Syntax.{Range}
-use Rattle.evaluator.specs.Written.{Written, written-in-index}
-use Rattle.evaluator.specs.Stands.{Table, range-in, indices-in, most-loops, is-sign, is-unary}
-use Rattle.evaluator.specs.Listing.{is-index, behind, written-at, written-from, Writes}
+use Rattle.semantics.specs.Written.{Written, written-in-index}
+use Rattle.semantics.specs.Stands.{Table, range-in, indices-in, most-loops, is-sign, is-unary}
+use Rattle.semantics.specs.Listing.{is-index, behind, written-at, written-from, Writes}
 
 -- ---- plain tokens
 

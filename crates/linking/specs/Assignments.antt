@@ -17,8 +17,8 @@ use Rattle.program.specs.Syntax.{Range, Expr, Target, to-field, to-variable, Cl
 use Rattle.grammar.specs.Reader.{Input, State, Reader, return, Turn, again, done, repeat, turns, token-of, is-kind, is-name, by-name}
 use Rattle.grammar.specs.Expressions.{Cell}
 use Rattle.grammar.specs.Statements.{old-variable, new-variable, named-target, field-target, read-target, target-number, clause, when-clause, clause-end, clause-turn, read-assignment}
-use Rattle.evaluator.specs.Stands.{Table, table-of, word-in, ExprAt, target-in, first-clause, ClausesAt, assigns, Stands}
-use Rattle.evaluator.specs.Written.{written-in-expr, written-in-condition, written-in-clauses, written-in-block}
+use Rattle.semantics.specs.Stands.{Table, table-of, word-in, ExprAt, target-in, first-clause, ClausesAt, assigns, Stands}
+use Rattle.semantics.specs.Written.{written-in-expr, written-in-condition, written-in-clauses, written-in-block}
 use Rattle.linking.specs.Steps.{advanced, written, named, Gives, gave, refused, refused-last, bind, made, regroup, choose, at-position, at-token, at-entry, over, wrote, wrote-both, named-last, by-found, expected, forbidden, Turned, repeated}
 use Rattle.linking.specs.Runs.{tokens, Text, Sound, Run, stay, join, go-on, write-first, word-other}
 use Rattle.linking.specs.Naming.{of-kind, head-is, name-it}

@@ -14,8 +14,8 @@ use Rattle.program.specs.Table.{word-at}
 use Rattle.grammar.specs.Reader.{Input, State, Reader, again, done, turns, token-of, is-kind}
 use Rattle.grammar.specs.Expressions.{Cell}
 use Rattle.grammar.specs.Statements.{Arm, choices, arm-end, arm-turn, read-if}
-use Rattle.evaluator.specs.Stands.{Table, table-of, word-in, linked, ElseAt, Stands, Elsif, Choice}
-use Rattle.evaluator.specs.Written.{Written, written-in-expr, written-in-block}
+use Rattle.semantics.specs.Stands.{Table, table-of, word-in, linked, ElseAt, Stands, Elsif, Choice}
+use Rattle.semantics.specs.Written.{Written, written-in-expr, written-in-block}
 use Rattle.linking.specs.Steps.{advanced, written, Gives, gave, refused, bind, handed, regroup, choose, at-position, at-token, over, wrote, expected, Turned, repeated}
 use Rattle.linking.specs.Runs.{tokens, Text, Sound, Run, stay, join, go-on, write-first, word-put, word-other}
 use Rattle.linking.specs.Naming.{of-kind, token-kind}

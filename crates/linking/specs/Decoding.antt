@@ -11,8 +11,8 @@ use Rattle.value.specs.Choice.{if_then_else_}
 use Rattle.value.specs.Worked.{decode-of}
 use Rattle.token.specs.Kind.{kind, level-of}
 use Rattle.program.specs.Syntax.{Range, Expr, number, time, variable, index, field, element, unary, binary}
-use Rattle.evaluator.specs.Stands.{Table, refers, indices-in, array-in, is-unary, Decoded, parsed, nothing, and-then, decode-expression, decode-chain, decode-operand, decode-primary, decode-name, decode-bracket, ExprAt}
-use Rattle.evaluator.specs.Written.{written-in-index, written-in-expr}
+use Rattle.semantics.specs.Stands.{Table, refers, indices-in, array-in, is-unary, Decoded, parsed, nothing, and-then, decode-expression, decode-chain, decode-operand, decode-primary, decode-name, decode-bracket, ExprAt}
+use Rattle.semantics.specs.Written.{written-in-index, written-in-expr}
 use Rattle.linking.specs.Adding.{plain-kind, plain-operator, plain-unary, plain-of, Adds, adds-both, then-none, adds-plain, adds-index}
 
 -- a decoder gives an expression, up to a position

@@ -19,7 +19,7 @@ use Rattle.program.specs.Syntax.{Range, Expr, number, time, variable, index, el
 use Rattle.grammar.specs.Reader.{Input, State, Reader, _>>_, return, done, turns, token-of, refuse, reference}
 use Rattle.grammar.specs.Constants.{is-sign as is-sign-token}
 use Rattle.grammar.specs.Expressions.{Cell, plain, array-values, read-bracket, read-element, array-use, name-use, read-primary, read-operand, Left, left, read-right, operator-turn, climb, levels, operand-in, read-expression}
-use Rattle.evaluator.specs.Stands.{Table, table-of, word-in, array-in, is-sign, is-unary}
+use Rattle.semantics.specs.Stands.{Table, table-of, word-in, array-in, is-sign, is-unary}
 use Rattle.linking.specs.Steps.{advanced, Gives, gave, refused, bind, made, regroup, given-as, choose, at-token, at-state, over, noted-it, by-found, expected, forbidden, opened, Turned, repeated}
 use Rattle.linking.specs.Runs.{tokens, Text, Sound, Run, stay, join, go-on}
 use Rattle.linking.specs.Naming.{of-kind, token-inside, token-value, still-noted, note-it, Found, found-name}

@@ -21,7 +21,7 @@ use Rattle.program.specs.Syntax.{Range, Index, fixed, moving, Expr, field}
 use Rattle.grammar.specs.Reader.{Input, State, Reader, _>>_, unit, again, done, turns, token-of, is-kind, is-name, forbid, reference}
 use Rattle.grammar.specs.Constants.{is-sign as is-sign-token}
 use Rattle.grammar.specs.Expressions.{Cell, plain, field-name, dot-field, field-number, read-field, put-field, named-index, fixed-index, read-index, index-turn, read-indices, read-neighbour, read-own}
-use Rattle.evaluator.specs.Stands.{Table, table-of, word-in, linked, index-in, next-index, indices-in, is-sign}
+use Rattle.semantics.specs.Stands.{Table, table-of, word-in, linked, index-in, next-index, indices-in, is-sign}
 use Rattle.linking.specs.Steps.{advanced, written, Gives, gave, refused, bind, regroup, given-as, choose, at-position, at-token, at-entry, over, wrote, wrote-both, by-found, expected, forbidden, opened, Turned, repeated}
 use Rattle.linking.specs.Runs.{tokens, head-at, span-at, Text, Entered, Sound, Run, stay, join, go-on, write-first, word-put, both-2, both-3}
 use Rattle.linking.specs.Naming.{of-kind, head-is, token-start, token-len, Found, found-name}

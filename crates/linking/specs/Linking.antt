@@ -23,9 +23,9 @@ use Rattle.grammar.specs.Reader.{Input, State, ok, unit, token-of}
 use Rattle.grammar.specs.Constants.{read-constants}
 use Rattle.grammar.specs.Statements.{read-block}
 use Rattle.grammar.specs.Source.{Declared, read-cell, most-open, input-of, start-state, has-kind}
-use Rattle.evaluator.specs.Stands.{table-of, word-in, ranges-in, Stands}
-use Rattle.evaluator.specs.Written.{written-in-block}
-use Rattle.evaluator.specs.Listing.{Writes}
+use Rattle.semantics.specs.Stands.{table-of, word-in, ranges-in, Stands}
+use Rattle.semantics.specs.Written.{written-in-block}
+use Rattle.semantics.specs.Listing.{Writes}
 use Rattle.linking.specs.Runs.{tokens, head-at, span-at, Text, Sound, Run}
 use Rattle.linking.specs.Constants.{constants-gives}
 use Rattle.linking.specs.Naming.{token-kind, kind-at}

@@ -17,8 +17,8 @@ use Rattle.program.specs.Syntax.{Range, range, Block, empty, loop, exit, consta
 use Rattle.grammar.specs.Reader.{Input, State, Reader, done, turns, token-of, is-kind, is-name}
 use Rattle.grammar.specs.Expressions.{Cell}
 use Rattle.grammar.specs.Statements.{read-forall, read-exit, Parts, put-after, statement-turn, read-block}
-use Rattle.evaluator.specs.Stands.{Table, table-of, word-in, linked, begins, Stands}
-use Rattle.evaluator.specs.Written.{written-in-block}
+use Rattle.semantics.specs.Stands.{Table, table-of, word-in, linked, begins, Stands}
+use Rattle.semantics.specs.Written.{written-in-block}
 use Rattle.linking.specs.Steps.{advanced, written, named, revalued, Gives, gave, refused, bind, made, given-as, choose, at-position, at-token, over, wrote, wrote-both, named-it, revalued-it, expected, opened, Turned, repeated}
 use Rattle.linking.specs.Runs.{tokens, head-at, Text, Sound, Run, stay, join, go-on, write-first, word-put, both-2, both-3, entry-new}
 use Rattle.linking.specs.Naming.{of-kind, name-it, revalue-it}

@@ -16,7 +16,7 @@ use Rattle.names.specs.Names.{name-kind, entry-at}
 use Rattle.program.specs.Table.{word-at}
 use Rattle.grammar.specs.Reader.{Input, State, token-of}
 use Rattle.grammar.specs.Expressions.{values-from, array-values}
-use Rattle.evaluator.specs.Stands.{word-in, linked, Table, table-of, values-in, array-in}
+use Rattle.semantics.specs.Stands.{word-in, linked, Table, table-of, values-in, array-in}
 use Rattle.linking.specs.Steps.{advanced, written}
 use Rattle.linking.specs.Runs.{tokens, head-at, span-at, Sound, Run, word-other}
 use Rattle.linking.specs.Naming.{kind-at, token-kind, token-start}

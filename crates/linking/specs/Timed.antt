@@ -17,7 +17,7 @@ use Rattle.program.specs.Syntax.{Range, Index, Expr, number, time, variable, in
 use Rattle.program.specs.Table.{word-at}
 use Rattle.grammar.specs.Source.{has-kind}
 use Rattle.linking.specs.Proper.{OnlyLast, ProperClauses, Proper}
-use Rattle.evaluator.specs.Stands.{Table, table-of, word-in, refers, indices-in, array-in, is-unary, Decoded, parsed, nothing, and-then, decode-expression, decode-chain, decode-operand, decode-primary, decode-name, decode-bracket, ExprAt, GuardAt, ClausesAt, ElseAt, Stands, Elsif}
+use Rattle.semantics.specs.Stands.{Table, table-of, word-in, refers, indices-in, array-in, is-unary, Decoded, parsed, nothing, and-then, decode-expression, decode-chain, decode-operand, decode-primary, decode-name, decode-bracket, ExprAt, GuardAt, ClausesAt, ElseAt, Stands, Elsif}
 
 -- tests of trees for `time`, by their clauses
 pub record Timing (timed-expr : Expr → Bool) (timed-condition : Option Expr → Bool) (timed-clauses : List Clause → Bool) (timed : Block → Bool) : Type 0 where

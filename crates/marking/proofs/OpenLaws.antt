@@ -15,7 +15,7 @@ use Rattle.automaton.specs.Quiet.{any-of-false, any-of-true}
 use Rattle.automaton.specs.Shape.{product, neighbour, Bound, box-indices, reach-of}
 use Rattle.automaton.specs.ShapeLaws.{Alike, alike-length, neighbour-lt, box-alike}
 use Rattle.automaton.specs.Grid.{cell-of, differ}
-use Rattle.evaluator.proofs.PrimaryLaws.{room}
+use Rattle.automaton.specs.GridLaws.{cell-room}
 use Rattle.stepper.specs.Reach.{own-only}
 use Rattle.stepper.specs.Fitting.{bound-at, bounds-of}
 use Rattle.stepper.specs.declared.Reach.{Reach}
@@ -48,7 +48,7 @@ module _ (ns : List ℕ) (reach : Reach) (s : Shaped ns reach) (x : ℕ) (firsts
 
 -- the fields of a cell lie within the grids
 pub fields-fit : (c p f o g : ℕ) → c < p → p ≤ 1048576 → f ≤ 8 → o ≡ p * f → g ≡ p * f → (c * f + f ≤ o) × (o ≤ 8388608) × (g ≡ o)
-fields-fit c p f o g l h k eo eg = (room c p f o l (sym eo), omega (arith, mul-le-mul h k), eg ∙ sym eo)
+fields-fit c p f o g l h k eo eg = (cell-room c p f o l (sym eo), omega (arith, mul-le-mul h k), eg ∙ sym eo)
 
 module _ (ns : List ℕ) (bound : ℕ → Bound) (fields : ℕ) (old grid : List ℤ) (c : ℕ) (marks : List ℕ) {b : Bool}
     (e : b ≡ differ (cell-of fields old c) (cell-of fields grid c)) where

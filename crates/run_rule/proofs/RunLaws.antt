@@ -1,5 +1,5 @@
 -- The report of a run whose word table and name list are of the right length.
-use mathlib.Core.Path.{_≡_, refl, ap, sym, _∙_, subst₂}
+use mathlib.Core.Path.{_≡_, refl, ap, _∙_, subst₂}
 use mathlib.Core.Bool.{Bool, true}
 use mathlib.Core.List.{List}
 use Prim.Native.Nat.{ℕ}
@@ -11,7 +11,7 @@ use mir.Facts.{toZ-ofZ}
 use Rattle.grammar.specs.Checking.{rooms-fit}
 use Rattle.services.specs.Services.{run-source}
 use Rattle.admission.specs.Admitting.{request-of}
-use Rattle.runner.specs.declared.Report.{Report}
+use Rattle.iteration.specs.declared.Report.{Report}
 use Rattle.runner.specs.Sourcewise.{counting-of, RunsSource}
 use Rattle.run_rule.specs.Runs.{Runs}
 
@@ -21,10 +21,10 @@ rooms w n = rw (← w, ← n) refl
 
 -- the times as the machine reads them
 pub runs-of : {quiet : Bool} {source ws ns sizes : List ℕ} {grid scratch : List ℤ} {marks : List ℕ} {start steps : ℤ} {r : Report} {ws′ ns′ : List ℕ} {grid′ scratch′ : List ℤ} {marks′ : List ℕ}
-    → (way : Bool) → quiet ≡ way → 16384 ≡ length ws → 1024 ≡ length ns → SFits w64 start → SFits w64 steps
-    → RunsSource (counting-of way) source ws ns sizes grid scratch marks (toZ w64 (ofZ w64 start)) (toZ w64 (ofZ w64 steps)) r ws′ ns′ grid′ scratch′ marks′
+    → 16384 ≡ length ws → 1024 ≡ length ns → SFits w64 start → SFits w64 steps
+    → RunsSource (counting-of quiet) source ws ns sizes grid scratch marks (toZ w64 (ofZ w64 start)) (toZ w64 (ofZ w64 steps)) r ws′ ns′ grid′ scratch′ marks′
     → Runs quiet source sizes grid (length scratch) (length marks) start steps r grid′
-runs-of {quiet} {source} {ws} {ns} {sizes} {grid} {scratch} {marks} {start} {steps} {r} {ws′} {ns′} {grid′} way is w n h k runs =
+runs-of {quiet} {source} {ws} {ns} {sizes} {grid} {scratch} {marks} {start} {steps} {r} {ws′} {ns′} {grid′} w n h k runs =
     subst₂
     (λ (a b : ℤ). Runs quiet source sizes grid (length scratch) (length marks) a b r grid′)
     (toZ-ofZ h)
@@ -32,6 +32,5 @@ runs-of {quiet} {source} {ws} {ns} {sizes} {grid} {scratch} {marks} {start} {ste
     (record {
       report =
           runs .report
-          ∙ ap (λ (fit : Bool). run-source (counting-of way) fit source (request-of sizes grid (length scratch) (length marks) (toZ w64 (ofZ w64 start)) (toZ w64 (ofZ w64 steps)))) (rooms w n)
-          ∙ ap (λ (q : Bool). run-source (counting-of q) true source (request-of sizes grid (length scratch) (length marks) (toZ w64 (ofZ w64 start)) (toZ w64 (ofZ w64 steps)))) (sym is);
+          ∙ ap (λ (fit : Bool). run-source (counting-of quiet) fit source (request-of sizes grid (length scratch) (length marks) (toZ w64 (ofZ w64 start)) (toZ w64 (ofZ w64 steps)))) (rooms w n);
     })

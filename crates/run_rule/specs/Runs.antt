@@ -6,9 +6,9 @@ use Prim.Native.Nat.{ℕ}
 use lib.IntN.{ℤ}
 use Rattle.services.specs.Services.{run-source}
 use Rattle.admission.specs.Admitting.{request-of}
-use Rattle.runner.specs.declared.Report.{Report}
+use Rattle.iteration.specs.declared.Report.{Report}
 use Rattle.runner.specs.Sourcewise.{counting-of}
-use Rattle.runner.specs.Stepwise.{told}
+use Rattle.iteration.specs.Stepwise.{told}
 
 -- the report with the grid that is left is that of the definition
 pub record Runs (quiet : Bool) (source sizes : List ℕ) (grid : List ℤ) (scratch marks : ℕ) (start steps : ℤ) (r : Report) (grid′ : List ℤ) : Type 0 where

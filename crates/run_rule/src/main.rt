@@ -18,10 +18,8 @@ mod texts;
 
 use arguments::Order;
 use arguments::Orders;
+use iteration::Report;
 use rows::write_grid;
-use runner::Report;
-use runner::run_full;
-use runner::run_quiet;
 use texts::Text;
 
 // A run of a source on a grid, as it was asked for. The report and the grid that is left are those of the definition.
@@ -37,20 +35,7 @@ fn run(
 {
     let mut words = rooms::table_room();
     let mut names = rooms::names_room();
-    if order.quiet {
-        return run_quiet(
-            source,
-            &mut words,
-            &mut names,
-            sizes,
-            grid,
-            scratch,
-            marks,
-            order.start,
-            order.steps,
-        );
-    }
-    run_full(
+    runner::run(
         source,
         &mut words,
         &mut names,
@@ -60,6 +45,7 @@ fn run(
         marks,
         order.start,
         order.steps,
+        order.quiet,
     )
 }
 

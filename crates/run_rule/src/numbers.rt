@@ -124,13 +124,3 @@ pub fn value_in(text: &[u8]) -> Entry {
     }
     value_of(number)
 }
-
-// The size of a value without its sign.
-pub fn size_of(n: i32) -> u64 {
-    let value = Value { n };
-    if n < 0 {
-        return value.span(Value { n: -1 });
-    }
-    let one = Value { n: 1 };
-    one.span(value)
-}

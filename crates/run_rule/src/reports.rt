@@ -7,7 +7,7 @@ use crate::replies::say_meaning;
 use crate::shapes::fields_of;
 use crate::texts::say;
 use crate::texts::say_number;
-use runner::Report;
+use iteration::Report;
 
 fn wide(n: u32) -> u64 {
     n as u64

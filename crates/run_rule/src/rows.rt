@@ -1,49 +1,12 @@
 // A grid that is written as text: a line for each row.
-ghost use Prim.Native.Nat.{_≤_};
-use crate::numbers::size_of;
 use crate::texts::open_output;
+use text::put_byte;
+use text::put_value;
 
 // A file that is written by way of a buffer: how many bytes stand in the buffer, and whether all could be written so far.
 struct Sink {
     at: usize,
     good: bool,
-}
-
-// Puts a byte into the buffer, if there is room.
-fn put(buffer: &mut [u8], at: usize, b: u8) -> usize {
-    if at < buffer.len() {
-        buffer[at] = b;
-        return at + 1;
-    }
-    at
-}
-
-// Puts a text into the buffer.
-fn put_text(buffer: &mut [u8], from: usize, text: &[u8]) -> usize {
-    let mut at = from;
-    let mut i = 0;
-    while i < text.len() {
-        at = put(buffer, at, text[i]);
-        i += 1;
-    }
-    at
-}
-
-// Puts the sign of an entry into the buffer, if it has one.
-fn put_sign(buffer: &mut [u8], at: usize, n: i32) -> usize {
-    if n < 0 {
-        return put(buffer, at, b'-');
-    }
-    at
-}
-
-// Puts an entry and the byte behind it into the buffer.
-fn put_entry(buffer: &mut [u8], from: usize, n: i32, behind: u8) -> usize {
-    let mut digits = [0u8; 20];
-    let count = io::decimal(size_of(n), &mut digits);
-    let signed = put_sign(buffer, from, n);
-    let at = put_text(buffer, signed, &digits[..count]);
-    put(buffer, at, behind)
 }
 
 // Writes what stands in the buffer.
@@ -86,8 +49,11 @@ fn behind(i: usize, entries: usize, row: usize) -> u8 {
 // Writes an entry.
 fn write_entry(file: i32, buffer: &mut [u8], sink: Sink, n: i32, behind: u8) -> Sink {
     let s = roomy(file, buffer, sink);
-    let at = put_entry(buffer, s.at, n, behind);
-    Sink { at, good: s.good }
+    let end = put_value(buffer, s.at, n);
+    Sink {
+        at: put_byte(buffer, end, behind),
+        good: s.good,
+    }
 }
 
 // Writes the entries of a grid; whether they could be written.

@@ -1,4 +1,3 @@
 -- The laws by which the functions are proved, by topic.
-pub mod StepwiseLaws
 pub mod OpeningLaws
 pub mod RunLaws

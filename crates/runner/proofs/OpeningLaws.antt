@@ -18,9 +18,9 @@ use Rattle.grammar.specs.Complaint.{Complaint, complaint}
 use Rattle.grammar.specs.Source.{Accepted}
 use Rattle.grammar.specs.Checking as checking
 use Rattle.grammar.specs.Checking.{Outcome, turned-away, accepted, rooms-fit, read-source, check, room-left, words-after, names-after}
-use Rattle.evaluator.specs.declared.Rule.{Rule}
-use Rattle.evaluator.specs.Stands.{Holds}
-use Rattle.evaluator.specs.Written.{written-in}
+use Rattle.semantics.specs.declared.Rule.{Rule}
+use Rattle.semantics.specs.Stands.{Holds}
+use Rattle.semantics.specs.Written.{written-in}
 use Rattle.linking.specs.Linking.{Linked, linking}
 use Rattle.linking.specs.Accepted.{Parsed, rule-of, holds, written, flagged}
 use Rattle.stepper.specs.Admission.{Request, Refusal, refusal, admission}
@@ -33,7 +33,7 @@ use Rattle.checker.specs.Promises.{Trace, Outlines, accepted-by, Loads, Checks,
 use Rattle.admission.specs.declared.admitting.Admitted.{Admitted}
 use Rattle.admission.specs.Admitting.{request-of, Lists, Admits}
 use Rattle.runner.specs.declared.opening.Opening.{Opening}
-use Rattle.runner.specs.Stepwise.{Runs}
+use Rattle.iteration.specs.Stepwise.{Runs}
 use Rattle.runner.specs.Sourcewise.{Begun, Opens}
 use Rattle.runner.specs.Timing.{timing}
 

@@ -20,9 +20,9 @@ use Rattle.automaton.specs.Grid.{automaton}
 use Rattle.automaton.specs.Going.{always-open, run-always, count-always}
 use Rattle.program.specs.Syntax.{Program}
 use Rattle.grammar.specs.Checking.{Outcome, accepted, rooms-fit, read-source}
-use Rattle.evaluator.specs.declared.Rule.{Rule}
-use Rattle.evaluator.specs.Evaluation.{evaluate}
-use Rattle.evaluator.specs.Written.{written-in}
+use Rattle.semantics.specs.declared.Rule.{Rule}
+use Rattle.semantics.specs.Evaluation.{evaluate}
+use Rattle.semantics.specs.Written.{written-in}
 use Rattle.stepper.specs.declared.Reach.{Reach}
 use Rattle.stepper.specs.Reach.{reach, running}
 use Rattle.stepper.specs.Admission.{Request, admission}
@@ -30,11 +30,11 @@ use Rattle.stepper.specs.Report as report
 use Rattle.stepper.specs.Report.{Counting, full, quiet, ended, report-of, run}
 use Rattle.services.specs.Services.{run-begins, run-read, run-source, room-after}
 use Rattle.admission.specs.Admitting.{request-of}
-use Rattle.runner.specs.declared.Report.{Report}
+use Rattle.iteration.specs.declared.Report.{Report}
 use Rattle.runner.specs.declared.opening.Opening.{Opening}
-use Rattle.runner.specs.Stepwise.{Begins, Runs, told, steps-report, Ran}
+use Rattle.iteration.specs.Stepwise.{Begins, Runs, told, steps-report, Ran}
 use Rattle.runner.specs.Sourcewise.{counting-of, every-step, Begun, Opens, RunsSource}
-use Rattle.runner.specs.Property3.{Agree, property-3}
+use Rattle.runner.specs.Property3.{Agree, same, property-3}
 
 -- ---- a full run: every cell is open in each step, as if `time` stood in the source
 
@@ -160,10 +160,19 @@ pub read-run : {counting : Counting} {source ws ns sizes : List ℕ} {grid scrat
 read-run {counting} {source} {ws} {ns} {sizes} {grid} {scratch} {marks} {start} {steps} {said} {ws′} {ns′} {grid′} {scratch′} {marks′} h k =
     subst₂ (λ (a b : ℤ). RunsSource counting source ws ns sizes grid scratch marks a b said ws′ ns′ grid′ scratch′ marks′) (toZ-ofZ h) (toZ-ofZ k)
 
--- what a quiet run gives agrees with the full run of the definition
-pub quiet-agrees : {source ws ns sizes : List ℕ} {grid : List ℤ} (scratch : List ℤ) (marks : List ℕ) {start steps : ℤ} {said : Report} {ws′ ns′ : List ℕ} {grid′ scratch′ : List ℤ} {marks′ : List ℕ}
-    → RunsSource quiet source ws ns sizes grid scratch marks start steps said ws′ ns′ grid′ scratch′ marks′
+-- what a run gives, full or quiet, agrees with the full run of the definition
+pub run-agrees : (way : Bool) {source ws ns sizes : List ℕ} {grid : List ℤ} (scratch : List ℤ) (marks : List ℕ) {start steps : ℤ} {said : Report} {ws′ ns′ : List ℕ} {grid′ scratch′ : List ℤ} {marks′ : List ℕ}
+    → RunsSource (counting-of way) source ws ns sizes grid scratch marks start steps said ws′ ns′ grid′ scratch′ marks′
     → Agree (told said grid′) (run-source full (rooms-fit (length ws) (length ns)) source (request-of sizes grid (length scratch) (length marks) start steps))
-quiet-agrees {source} {ws} {ns} {sizes} {grid} scratch marks {start} {steps} h =
-    let q : Request = request-of sizes grid (length scratch) (length marks) start steps in
-    subst (λ (r : report.Report). Agree r (run-source full (rooms-fit (length ws) (length ns)) source q)) (sym (h .report)) (property-3 (rooms-fit (length ws) (length ns)) source q .agree)
+run-agrees way {source} {ws} {ns} {sizes} {grid} scratch marks {start} {steps} h =
+    subst (λ (r : report.Report). Agree r (run-source full fit source q)) (sym (h .report)) (by way)
+  where
+    fit : Bool
+    fit = rooms-fit (length ws) (length ns)
+
+    q : Request
+    q = request-of sizes grid (length scratch) (length marks) start steps
+
+    by : (way : Bool) → Agree (run-source (counting-of way) fit source q) (run-source full fit source q)
+    by true = property-3 fit source q .agree
+    by false = same (run-source full fit source q)

@@ -1,5 +1,4 @@
--- Runs: the loop over the steps, a run of a source, and property 3.
-pub mod Stepwise
+-- A run of a source, and property 3.
 pub mod Sourcewise
 pub mod Timing
 pub mod Property3

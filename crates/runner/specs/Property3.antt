@@ -1,5 +1,5 @@
 -- Property 3, as one claim over all steps of a run of a source: the quiet run skips cells, and still gives the full run's answer and grid.
--- That `run_quiet` gives the report `run-source quiet` is its contract (Sourcewise).
+-- That a quiet run gives the report `run-source quiet` is the contract of `run` (Sourcewise).
 use mathlib.Core.Path.{_≡_, refl, sym, ap, _∙_, subst}
 use mathlib.Core.Bool.{Bool, true, false, not}
 use mathlib.Core.List.{List}
@@ -46,7 +46,8 @@ pub record Property3 (fit : Bool) (source : List ℕ) (q : Request) : Type 0 whe
   -- the run that evaluates the open cells alone gives the run of the definition, and counts the definition's open cells
   pub skips : (a : Accepted) → read-source fit source ≡ accepted a → (n t : ℕ) → QuietAgrees (running (a .program) (q .sizes)) n t (q .grid)
 
-same : (r : Report) → Agree r r
+-- a report agrees with itself
+pub same : (r : Report) → Agree r r
 same r = record { number = refl; place = refl; cell = refl; steps = refl; grid = refl; count = le-refl (r .count) }
 
 ended-agree : (f : Fault) (steps : ℕ) {c d : ℕ} (g : List ℤ) → c ≤ d → Agree (ended f steps c g) (ended f steps d g)

@@ -8,16 +8,16 @@ use lib.IntN.{ℤ, pos, natAbs}
 use Rattle.automaton.specs.Shape.{product}
 use Rattle.grammar.specs.Source.{Accepted}
 use Rattle.grammar.specs.Checking.{rooms-fit, read-source, accepted, words-after, names-after}
-use Rattle.evaluator.specs.declared.Rule.{Rule}
+use Rattle.semantics.specs.declared.Rule.{Rule}
 use Rattle.stepper.specs.declared.Reach.{Reach}
 use Rattle.stepper.specs.Admission.{admission}
 use Rattle.stepper.specs.Report.{Counting, full, quiet, refused}
 use Rattle.stepper.specs.Fitting.{Sized, Shaped, Near}
 use Rattle.services.specs.Services.{run-begins, run-source, room-after}
 use Rattle.admission.specs.Admitting.{request-of}
-use Rattle.runner.specs.declared.Report.{Report}
+use Rattle.iteration.specs.declared.Report.{Report}
 use Rattle.runner.specs.declared.opening.Opening.{Opening}
-use Rattle.runner.specs.Stepwise.{Runs, told}
+use Rattle.iteration.specs.Stepwise.{Runs, told}
 
 -- which cells a run counts: the open ones, or all
 abbrev pub counting-of : Bool → Counting

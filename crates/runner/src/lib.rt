@@ -2,16 +2,5 @@
 
 mod opening;
 mod running;
-mod stepwise;
 
-pub use running::run_full;
-pub use running::run_quiet;
-
-// The report of a run: the reply's number and place, the faulting cell, the steps done, and the count of the cells evaluated.
-pub struct Report {
-    pub number: u32,
-    pub place: u32,
-    pub cell: u32,
-    pub steps: u32,
-    pub count: u64,
-}
+pub use running::run;

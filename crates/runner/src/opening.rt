@@ -4,7 +4,7 @@ ghost use mathlib.Core.Bool.{false};
 ghost use Rattle.runner.specs.Sourcewise.{Opens};
 use admission::admit;
 use checker::load;
-use evaluator::Rule;
+use semantics::Rule;
 use stepper::Reach;
 
 // Whether a run begins: then the rule, its reach and whether `time` stands in the source; else the refusal's number and place.

@@ -1,17 +1,16 @@
 // A run of a source, full or quiet.
 ghost use mathlib.Core.Path.{_≡_};
-ghost use mathlib.Core.Bool.{true, false};
 ghost use lib.ListN.{length};
 ghost use Rattle.grammar.specs.Checking.{rooms-fit};
-ghost use Rattle.stepper.specs.Report.{full, quiet};
+ghost use Rattle.stepper.specs.Report.{full};
 ghost use Rattle.services.specs.Services.{run-source};
 ghost use Rattle.admission.specs.Admitting.{request-of};
-ghost use Rattle.runner.specs.Stepwise.{told};
+ghost use Rattle.iteration.specs.Stepwise.{told};
 ghost use Rattle.runner.specs.Sourcewise.{counting-of, every-step, RunsSource};
 ghost use Rattle.runner.specs.Property3.{Agree};
-use crate::Report;
 use crate::opening::open_run;
-use crate::stepwise::run_steps;
+use iteration::Report;
+use iteration::run_steps;
 use stepping::rooms::clear_marks;
 use stepping::rooms::clear_numbers;
 
@@ -25,8 +24,9 @@ fn all_open(quiet: bool, timed: bool) -> bool
     true
 }
 
-// Runs a source on a grid. A quiet run evaluates the open cells alone, a full one every cell.
-fn run(
+// Runs a source on a grid: so many steps from a start time. A full run evaluates every cell in each step, a quiet one only the cells that are open in
+// it: the answer and the grid are the same, and the count is of the open cells.
+pub fn run(
     source: &[u8],
     words: &mut [u32],
     names: &mut [u32],
@@ -39,6 +39,7 @@ fn run(
     quiet: bool,
 ) -> Report
     ensures { λ r. ⌜ RunsSource (counting-of quiet) (now (source .entry)) (now (words .entry)) (now (names .entry)) (now (sizes .entry)) (now (grid .entry)) (now (scratch .entry)) (now (marks .entry)) start steps r (now (words .exit)) (now (names .exit)) (now (grid .exit)) (now (scratch .exit)) (now (marks .exit)) ⌝ }
+    ensures agrees { λ r. ⌜ Agree (told r (now (grid .exit))) (run-source full (rooms-fit (length (now (words .entry))) (length (now (names .entry)))) (now (source .entry)) (request-of (now (sizes .entry)) (now (grid .entry)) (length (now (scratch .entry))) (length (now (marks .entry))) start steps)) ⌝ }
 {
     let opening = open_run(
         source,
@@ -78,62 +79,4 @@ fn run(
     clear_numbers(scratch);
     clear_marks(marks);
     report
-}
-
-// Runs a source on a grid: so many steps from a start time, each of which evaluates every cell.
-pub fn run_full(
-    source: &[u8],
-    words: &mut [u32],
-    names: &mut [u32],
-    sizes: &[u32],
-    grid: &mut [i32],
-    scratch: &mut [i32],
-    marks: &mut [u8],
-    start: i64,
-    steps: i64,
-) -> Report
-    ensures { λ r. ⌜ RunsSource full (now (source .entry)) (now (words .entry)) (now (names .entry)) (now (sizes .entry)) (now (grid .entry)) (now (scratch .entry)) (now (marks .entry)) start steps r (now (words .exit)) (now (names .exit)) (now (grid .exit)) (now (scratch .exit)) (now (marks .exit)) ⌝ }
-{
-    run(
-        source,
-        words,
-        names,
-        sizes,
-        grid,
-        scratch,
-        marks,
-        start,
-        steps,
-        false,
-    )
-}
-
-// Runs a source on a grid as `run_full` does, but each step evaluates only the cells that are open in it: the answer and the grid are the same,
-// and the count is of the open cells.
-pub fn run_quiet(
-    source: &[u8],
-    words: &mut [u32],
-    names: &mut [u32],
-    sizes: &[u32],
-    grid: &mut [i32],
-    scratch: &mut [i32],
-    marks: &mut [u8],
-    start: i64,
-    steps: i64,
-) -> Report
-    ensures { λ r. ⌜ RunsSource quiet (now (source .entry)) (now (words .entry)) (now (names .entry)) (now (sizes .entry)) (now (grid .entry)) (now (scratch .entry)) (now (marks .entry)) start steps r (now (words .exit)) (now (names .exit)) (now (grid .exit)) (now (scratch .exit)) (now (marks .exit)) ⌝ }
-    ensures agrees { λ r. ⌜ Agree (told r (now (grid .exit))) (run-source full (rooms-fit (length (now (words .entry))) (length (now (names .entry)))) (now (source .entry)) (request-of (now (sizes .entry)) (now (grid .entry)) (length (now (scratch .entry))) (length (now (marks .entry))) start steps)) ⌝ }
-{
-    run(
-        source,
-        words,
-        names,
-        sizes,
-        grid,
-        scratch,
-        marks,
-        start,
-        steps,
-        true,
-    )
 }

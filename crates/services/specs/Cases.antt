@@ -21,9 +21,9 @@ use Rattle.grammar.specs.Expressions
 use Rattle.grammar.specs.Statements
 use Rattle.grammar.specs.Source
 use Rattle.grammar.specs.Checking
-use Rattle.evaluator.specs.Operators
-use Rattle.evaluator.specs.Evaluation
-use Rattle.evaluator.specs.Written
+use Rattle.semantics.specs.Operators
+use Rattle.semantics.specs.Evaluation
+use Rattle.semantics.specs.Written
 use Rattle.stepper.specs.Reach
 use Rattle.stepper.specs.Admission
 use Rattle.stepper.specs.Report

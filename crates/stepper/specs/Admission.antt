@@ -9,8 +9,8 @@ use lib.Signed.{leZ}
 use Rattle.value.specs.Choice.{if_then_else_}
 use Rattle.automaton.specs.Shape.{product}
 use Rattle.program.specs.Syntax.{Range, no-range, Program}
-use Rattle.evaluator.specs.Evaluation.{in-field}
-use Rattle.evaluator.specs.Written.{Written, written-in}
+use Rattle.semantics.specs.Evaluation.{in-field}
+use Rattle.semantics.specs.Written.{Written, written-in}
 
 -- what a run is asked: the sizes, the grid, the start time and the number of steps, and how long scratch and marks are
 pub record Request : Type 0 where

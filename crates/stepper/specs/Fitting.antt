@@ -8,8 +8,8 @@ use Rattle.automaton.specs.Listed.{list-of, length-list-of}
 use Rattle.automaton.specs.Shape.{product, Bound}
 use Rattle.automaton.specs.ShapeLaws.{Positive}
 use Rattle.program.specs.Syntax.{Program}
-use Rattle.evaluator.specs.declared.Rule.{Rule}
-use Rattle.evaluator.specs.Stands.{Holds}
+use Rattle.semantics.specs.declared.Rule.{Rule}
+use Rattle.semantics.specs.Stands.{Holds}
 use Rattle.stepper.specs.declared.Reach.{Reach}
 
 -- the numbers of a rule, by the length of its word table

@@ -22,9 +22,9 @@ use Rattle.automaton.specs.Shape.{Bound, box-indices}
 use Rattle.automaton.specs.ShapeLaws.{Within, AllWithin, mem-box}
 use Rattle.automaton.specs.GridLaws.{Bounded, lawful}
 use Rattle.program.specs.Syntax.{Range, no-range, Index, fixed, moving, Expr, number, time, variable, index, field, element, unary, binary, Target, to-field, to-variable, Clause, Block, empty, assign, select, loop, exit, constant, Program}
-use Rattle.evaluator.specs.Operators.{Worth, worth, failed, placed, apply-unary, apply-binary}
-use Rattle.evaluator.specs.Evaluation.{Env, with-worth, entry, offset, offsets, element-at, eval, Flow, on, leaving, faulted, Frame, frame, goes, when-on, onward, valued, in-field, store, branch, conditional, assign-first, turned, each, exec, outcome-of, evaluate}
-use Rattle.evaluator.specs.Written.{Written, values-of, place-of, written-in-index, written-in-expr, written-in-condition, written-in-clauses, written-in-block, written-in}
+use Rattle.semantics.specs.Operators.{Worth, worth, failed, placed, apply-unary, apply-binary}
+use Rattle.semantics.specs.Evaluation.{Env, with-worth, entry, offset, offsets, element-at, eval, Flow, on, leaving, faulted, Frame, frame, goes, when-on, onward, valued, in-field, store, branch, conditional, assign-first, turned, each, exec, outcome-of, evaluate}
+use Rattle.semantics.specs.Written.{Written, values-of, place-of, written-in-index, written-in-expr, written-in-condition, written-in-clauses, written-in-block, written-in}
 use Rattle.stepper.specs.Reach.{below, above, widen, own-only, widened, reach, running}
 
 -- ---- whether `time` stands in a tree

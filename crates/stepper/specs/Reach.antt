@@ -7,8 +7,8 @@ use Rattle.automaton.specs.Step.{Automaton}
 use Rattle.automaton.specs.Shape.{Bound, box-indices}
 use Rattle.automaton.specs.Grid.{automaton}
 use Rattle.program.specs.Syntax.{Range, Program}
-use Rattle.evaluator.specs.Evaluation.{evaluate}
-use Rattle.evaluator.specs.Written.{Written, written-in}
+use Rattle.semantics.specs.Evaluation.{evaluate}
+use Rattle.semantics.specs.Written.{Written, written-in}
 
 -- how far a value lies below 0
 abbrev pub below : ℤ → ℕ

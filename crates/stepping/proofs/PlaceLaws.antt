@@ -8,7 +8,7 @@ use lib.ListN.{length, getD, set, drop, length-set}
 use lib.Seq.{drop-cons, drop-length, drop-set-lt, getD-set-same}
 use Rattle.automaton.specs.Shape.{product, cell-number, coordinates}
 use Rattle.automaton.specs.ShapeLaws.{Positive, Inside, coordinates-inside, number-coordinates, coordinates-number}
-use Rattle.evaluator.proofs.NeighbourLaws.{inside-length, inside-at}
+use Rattle.operands.proofs.NeighbourLaws.{inside-length, inside-at}
 use Rattle.stepping.specs.Turns.{Placed, Moving}
 
 -- ---- written

@@ -11,8 +11,8 @@ use Rattle.automaton.specs.Step.{Fault, no-fault, fault-at, state-or, marked, g
 use Rattle.automaton.specs.Shape.{product}
 use Rattle.automaton.specs.Grid.{cell-of, grid-of, automaton}
 use Rattle.program.specs.Syntax.{Program}
-use Rattle.evaluator.specs.declared.Rule.{Rule}
-use Rattle.evaluator.specs.Stands.{Holds}
+use Rattle.semantics.specs.declared.Rule.{Rule}
+use Rattle.semantics.specs.Stands.{Holds}
 use Rattle.stepper.specs.Reach.{running}
 use Rattle.stepper.specs.Fitting.{held-fields}
 use Rattle.stepping.specs.declared.Step.{Step}

@@ -1,14 +1,15 @@
 -- A cell's turn in a step.
-use Prim.Native.Nat.{ℕ, suc, _+_, _-_, _*_, _≤_, _<_}
+use Prim.Native.Nat.{ℕ, _+_, _-_, _*_, _≤_, _<_}
 use native.Mathlib.Omega.{arith}
-use native.Mathlib.Nat.{mul-le-mul, mul-le-mul-right}
+use native.Mathlib.Nat.{mul-le-mul}
 use mathlib.Core.Path.{_≡_, refl, sym, ap, _∙_}
 use mathlib.Core.List.{List, _++_}
 use lib.ListN.{length, take, drop, length-drop}
 use lib.Seq.{length-take-le}
 use lib.IntN.{ℤ}
 use Rattle.automaton.specs.Shape.{product}
-use Rattle.evaluator.specs.declared.Rule.{Rule}
+use Rattle.automaton.specs.GridLaws.{cell-room}
+use Rattle.semantics.specs.declared.Rule.{Rule}
 use Rattle.executor.specs.declared.Outcome.{Outcome}
 use Rattle.executor.specs.declared.Outcome.the-variants.{Done, Fault}
 use Rattle.executor.specs.Running.{Fit, outcome-is, Evaluates}
@@ -32,16 +33,12 @@ part-whole from n = omega arith
 pub part-length : (from n : ℕ) (xs : List ℤ) → from + n ≤ length xs → length (take (from + n - from) (drop from xs)) ≡ n
 part-length from n xs l = length-take-le (from + n - from) (drop from xs) (let e = length-drop from xs in omega arith) ∙ part-whole from n
 
--- room for a cell's fields
-pub cell-room : (cells fields cell : ℕ) → cell < cells → cell * fields + fields ≤ cells * fields
-cell-room cells fields cell l = omega (arith, mul-le-mul-right {m = suc cell} {n = cells} fields l)
-
 module _ {leaves words : List ℕ} {rule : Rule} {sizes place : List ℕ} {cell : ℕ} {grid : List ℤ} {lent time count : ℕ} (t : Turning leaves words rule sizes place cell grid lent time count) where
   pub turn-room : cell * rule .fields + rule .fields ≤ lent
   turn-room =
       let a = t .shaped .entries in
       let b = t .scratch-fits in
-      omega (arith, cell-room (product sizes) (rule .fields) cell (t .inside))
+      omega (arith, cell-room cell (product sizes) (rule .fields) _ (t .inside) refl)
 
   pub turn-small : lent ≤ 8388608
   turn-small =

@@ -11,10 +11,10 @@ use Rattle.automaton.specs.Shape.{product, coordinates, neighbour}
 use Rattle.automaton.specs.ShapeLaws.{Positive}
 use Rattle.automaton.specs.Grid.{cell-of}
 use Rattle.program.specs.Syntax.{Program}
-use Rattle.evaluator.specs.declared.Rule.{Rule}
-use Rattle.evaluator.specs.Evaluation.{evaluate}
-use Rattle.evaluator.specs.Leaves.{Leaves}
-use Rattle.evaluator.specs.Stands.{Holds}
+use Rattle.semantics.specs.declared.Rule.{Rule}
+use Rattle.semantics.specs.Evaluation.{evaluate}
+use Rattle.semantics.specs.Leaves.{Leaves}
+use Rattle.semantics.specs.Stands.{Holds}
 use Rattle.stepper.specs.Reach.{running}
 use Rattle.stepper.specs.Fitting.{Sized, Shaped}
 use Rattle.stepping.specs.declared.Evaluation.{Evaluation}

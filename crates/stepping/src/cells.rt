@@ -4,9 +4,9 @@ ghost use lib.ListN.{length};
 ghost use Rattle.executor.specs.Running.{Fit};
 ghost use Rattle.stepping.specs.Turns.{Counted, Turning, Turned};
 use crate::Evaluation;
-use evaluator::Rule;
 use executor::Outcome;
 use executor::cell::evaluate_cell;
+use semantics::Rule;
 
 // Evaluates a cell, and counts it: the count given back is one higher, at a fault too. By no other way is a cell evaluated.
 fn evaluate_counted(

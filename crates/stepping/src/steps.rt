@@ -10,7 +10,7 @@ use crate::exchange::exchange_marked;
 use crate::places::move_place;
 use crate::places::set_place;
 use crate::scan::next_marked;
-use evaluator::Rule;
+use semantics::Rule;
 
 // Evaluates the marked cells in rising order from the grid `old` into `new`, up to the first fault. `place` is room for a cell's coordinates.
 fn evaluate_marked(

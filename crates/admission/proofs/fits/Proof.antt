@@ -1,7 +1,7 @@
 use borrow.Author.Needs.{needs}
 use lib.ListN.{getD}
 use lib.IntN.{pos}
-use Rattle.evaluator.specs.Stands.{rule-table}
+use Rattle.semantics.specs.Stands.{rule-table}
 use Rattle.admission.proofs.EntryLaws.{fits-known}
 use Rattle.admission.proofs.fits.Statement.{statement}
 use Rattle.admission.proofs.fits.Tie as tie

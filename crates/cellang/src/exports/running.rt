@@ -3,8 +3,7 @@ ghost use Rattle.stepper.specs.Report.{full, quiet};
 ghost use Rattle.runner.specs.Property3.{Agree};
 ghost use Rattle.cellang.specs.Told.{told-run, TellsRun};
 use crate::exports::entries::put_report;
-use runner::run_full;
-use runner::run_quiet;
+use runner::run;
 
 // Runs a source on a grid, each step of which evaluates every cell, and gives the reply's number.
 // `report` is told number, place, cell, steps and count.
@@ -23,7 +22,7 @@ pub extern "C" fn cellang_run_full(
 ) -> u32
     ensures { λ r. ⌜ TellsRun full (now (source .entry)) (now (words .entry)) (now (names .entry)) (now (sizes .entry)) (now (grid .entry)) (now (scratch .entry)) (now (marks .entry)) start steps (now (report .entry)) r (now (words .exit)) (now (names .exit)) (now (grid .exit)) (now (scratch .exit)) (now (marks .exit)) (now (report .exit)) ⌝ }
 {
-    let told = run_full(
+    let told = run(
         source,
         words,
         names,
@@ -33,6 +32,7 @@ pub extern "C" fn cellang_run_full(
         marks,
         start,
         steps,
+        false,
     );
     put_report(
         report,
@@ -63,7 +63,7 @@ pub extern "C" fn cellang_run_quiet(
     ensures { λ r. ⌜ TellsRun quiet (now (source .entry)) (now (words .entry)) (now (names .entry)) (now (sizes .entry)) (now (grid .entry)) (now (scratch .entry)) (now (marks .entry)) start steps (now (report .entry)) r (now (words .exit)) (now (names .exit)) (now (grid .exit)) (now (scratch .exit)) (now (marks .exit)) (now (report .exit)) ⌝ }
     ensures agrees { λ _. ⌜ Agree (told-run quiet (now (source .entry)) (now (words .entry)) (now (names .entry)) (now (sizes .entry)) (now (grid .entry)) (now (scratch .entry)) (now (marks .entry)) start steps) (told-run full (now (source .entry)) (now (words .entry)) (now (names .entry)) (now (sizes .entry)) (now (grid .entry)) (now (scratch .entry)) (now (marks .entry)) start steps) ⌝ }
 {
-    let told = run_quiet(
+    let told = run(
         source,
         words,
         names,
@@ -73,6 +73,7 @@ pub extern "C" fn cellang_run_quiet(
         marks,
         start,
         steps,
+        true,
     );
     put_report(
         report,

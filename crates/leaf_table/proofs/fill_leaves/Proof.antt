@@ -1,7 +1,7 @@
 use native.Mathlib.Omega.{arith}
 use Prim.Native.Nat.{_+_, _-_}
 use lib.ListN.{length}
-use Rattle.evaluator.specs.Stands.{table-of}
+use Rattle.semantics.specs.Stands.{table-of}
 use Rattle.leaf_table.proofs.WritingLaws.{Filled, filled-start, filled-more}
 use Rattle.leaf_table.proofs.ShapingLaws.{filled-linked, filled-leaves}
 use borrow.Author.Needs.{needs}

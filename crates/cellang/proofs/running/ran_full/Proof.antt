@@ -13,11 +13,11 @@ returns c = let a = c .before .before .before .before .before .before .args in n
 stored-requires : tie.Need-stored-requires
 stored-requires c κs = search needs
 
-slice-aggregate-run-full : tie.Need-slice-aggregate-run-full
-slice-aggregate-run-full c = search needs
+slice-aggregate-run : tie.Need-slice-aggregate-run
+slice-aggregate-run c = search needs
 
-run-full-requires : tie.Need-run-full-requires
-run-full-requires c κs = search needs
+run-requires : tie.Need-run-requires
+run-requires c κs = search needs
 
 rows-of-requires : tie.Need-rows-of-requires
 rows-of-requires c κs = search needs
@@ -36,14 +36,9 @@ same-length-4 c = search needs
 
 returns-2 : tie.Need-returns-2
 returns-2 c =
-    let a = c .before .before .before .before .before .before .before .before .before .before .before .before .before .before .before .before .before .before .before .before
-    .before .args in
-    let fits = c .before .before .before .before .before .before .before .before .before .before .before .before .before .before .before .before .before .before .before .before
-    .before .fits in
-    row-run _ _ _ _ _ _ _ _ (a .start) (a .steps) _ _ _ _ _ _ _ _ (c .before .before .before .before .before .before .before .before .before .before .before .before .before
-    .before .before .before .if1 .left) (c .before .before .before .before .before .before .before .before .before .before .before .before .before .before .before .stored
-    .ensures)
-    (read-run (fits .start) (fits .steps) (c .before .before .before .before .before .before .before .before .before .run-full .ensures)) (c .rows-of .ensures)
+    let s = c .before .before .before .before .before .before .before .before .before .before .before .before .before .before .before .before .before .before .before .before .before in
+    row-run _ _ _ _ _ _ _ _ (s .args .start) (s .args .steps) _ _ _ _ _ _ _ _ (c .before .before .before .before .before .before .before .before .before .before .before .before .before .before .before .before .if1 .left) (c .before .before .before .before .before .before .before .before .before .before .before .before .before .before .before .stored .ensures)
+    (read-run (s .fits .start) (s .fits .steps) (c .before .before .before .before .before .before .before .before .before .run .ensures .0)) (c .rows-of .ensures)
 
 pub ran-full-spec : {M : Type 1} → statement M
 ran-full-spec =
@@ -52,8 +47,8 @@ ran-full-spec =
     turned-away-requires
     returns
     stored-requires
-    slice-aggregate-run-full
-    run-full-requires
+    slice-aggregate-run
+    run-requires
     rows-of-requires
     same-length
     same-length-2

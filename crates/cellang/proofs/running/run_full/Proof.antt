@@ -41,20 +41,20 @@ use denote.Triple.Clauses.{ensured, lasts}
 use denote.Triple.Walked.{says, Stays, stay-none, stay-none-slice, gave-slice, walkOf, goes-none, goes-none-slice, goes-gave-slice, Walks, ends-at, walked, walk-meets}
 use denote.Exit.{yes}
 use Rattle.stepper.specs.Report.{full}
-use Rattle.cellang.specs.declared.Name.{Name}
+use Rattle.records.specs.declared.Name.{Name}
 use Rattle.cellang.specs.declared.running.RunAnswer.{RunAnswer}
 use Rattle.cellang.specs.Promises.{RunsOver, RunsRows}
 use Rattle.cellang.proofs.running.RunAnswer.Laws as O′
-use Rattle.cellang.proofs.NameRow.{Row, vals, makes}
+use Rattle.records.proofs.NameRow.{Row, vals, makes}
 use Rattle.cellang.proofs.RunAnswerRow.{OutRow, ReportRow, report-mach, out-tells, rows-is, count-fits, report-is, report-makes, out-typed, report-typed}
 use Rattle.cellang.proofs.running.ran_full as ck
 use Rattle.cellang.proofs.running.ran_full.Symbol as ck-def
 use Rattle.cellang.proofs.running.ran_full.Symbol.{name as #ck}
 use Rattle.cellang.proofs.running.ran_full.Met as ck-thm
-use Rattle.cellang.proofs.rows.store_first as sf
-use Rattle.cellang.proofs.rows.store_first.Symbol as sf-def
-use Rattle.cellang.proofs.rows.store_first.Symbol.{name as #sf}
-use Rattle.cellang.proofs.rows.store_first.Met as sf-thm
+use Rattle.records.proofs.rows.store_first as sf
+use Rattle.records.proofs.rows.store_first.Symbol as sf-def
+use Rattle.records.proofs.rows.store_first.Symbol.{name as #sf}
+use Rattle.records.proofs.rows.store_first.Met as sf-thm
 use Rattle.cellang.proofs.running.run_full.Key.{name as #f}
 use Rattle.cellang.proofs.running.run_full as f
 use Rattle.cellang.proofs.running.run_full.Statement as stated
@@ -401,4 +401,4 @@ run-full-spec 𝓤 H 𝓜 𝓖 𝓡 =
     (tables 𝓤 H 𝓜 𝓡 code.env .C) (tables 𝓤 H 𝓜 𝓡 code.env .Λ) #f code.function (code.unfolded 𝓤 H 𝓜 𝓡)
     (meets 𝓤 H (𝓖 .A) (givenOf 𝓤 H 𝓜 𝓖) (𝓜 .mem) (𝓡 .run) (tablesOf 𝓤 H 𝓜 (tables 𝓤 H 𝓜 𝓡 code.env))
     (cited 𝓤 H (Ck 𝓤 H (𝓖 .A) (𝓜 .mem) (𝓡 .run)) 𝓜 𝓡 code.env #ck ck-def.routine code.calls-cellang·running·ran-full (ck-thm.met 𝓤 H 𝓜 𝓖 𝓡))
-    (cited 𝓤 H (Sf 𝓤 H (𝓖 .A) (𝓜 .mem) (𝓡 .run)) 𝓜 𝓡 code.env #sf sf-def.routine code.calls-cellang·rows·store-first (sf-thm.met 𝓤 H 𝓜 𝓖 𝓡)))
+    (cited 𝓤 H (Sf 𝓤 H (𝓖 .A) (𝓜 .mem) (𝓡 .run)) 𝓜 𝓡 code.env #sf sf-def.routine code.calls-records·rows·store-first (sf-thm.met 𝓤 H 𝓜 𝓖 𝓡)))

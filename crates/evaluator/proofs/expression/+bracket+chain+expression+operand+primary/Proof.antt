@@ -3,9 +3,9 @@ use native.Mathlib.Omega.{arith}
 use mathlib.Core.Path.{subst, _∙_}
 use borrow.Author.Needs.{needs}
 use lib.ListN.{take}
-use Rattle.evaluator.specs.Working.{site-table, env-of, EvalsExpression}
-use Rattle.evaluator.proofs.TableLaws.{token}
-use Rattle.evaluator.proofs.OperatorLaws.{level-some, from-within}
+use Rattle.operands.specs.Working.{site-table, env-of, EvalsExpression}
+use Rattle.operands.proofs.TableLaws.{token}
+use Rattle.operands.proofs.OperatorLaws.{level-some, from-within}
 use Rattle.token.proofs.Levels.{level-few}
 use Rattle.evaluator.proofs.ExpressionLaws.{Chain, bracket-fault, bracket-closed, bracket-open, primary-paren, primary-quick, primary-bare, primary-element-fault, primary-element, operand-bare, operand-fault, operand-unary, first-fault, first-found, chain-end, right-fault, operator-fault, chain-more, chain-less}
 use Prim.Native.Nat.{ℕ, _<_}
@@ -28,12 +28,12 @@ use Rattle.evaluator.proofs.expression.primary.Kinds as primary-kinds
 use Rattle.evaluator.proofs.expression.+bracket+chain+expression+operand+primary.Lts-primary as primary-lts
 use Rattle.evaluator.proofs.expression.primary_from.Reads as primary-from-reads
 use Rattle.evaluator.proofs.expression.quick.Reads as quick-reads
-use Rattle.evaluator.proofs.operators.is_unary.Reads as is-unary-reads
+use Rattle.operands.proofs.operators.is_unary.Reads as is-unary-reads
 use Rattle.token.proofs.kind.level_of.Reads as level-of-reads
-use Rattle.evaluator.proofs.operators.operate.Reads as operate-reads
-use Rattle.evaluator.proofs.operators.operate_unary.Reads as operate-unary-reads
-use Rattle.evaluator.proofs.primary.element.Reads as element-reads
-use Rattle.evaluator.proofs.table.word_at.Reads as word-at-reads
+use Rattle.operands.proofs.operators.operate.Reads as operate-reads
+use Rattle.operands.proofs.operators.operate_unary.Reads as operate-unary-reads
+use Rattle.operands.proofs.primary.element.Reads as element-reads
+use Rattle.operands.proofs.table.word_at.Reads as word-at-reads
 use Rattle.evaluator.proofs.expression.+bracket+chain+expression+operand+primary.{statement}
 use Rattle.evaluator.proofs.expression.+bracket+chain+expression+operand+primary.Tie.{close}
 

@@ -1,5 +1,5 @@
 use borrow.Author.Needs.{needs}
-use Rattle.evaluator.proofs.OperatorLaws.{told-plus, told-equal}
+use Rattle.operands.proofs.OperatorLaws.{told-plus, told-equal}
 use Rattle.evaluator.proofs.ExpressionLaws.{joined-none, joined-some}
 use Rattle.evaluator.proofs.expression.joined.Statement.{statement}
 use Rattle.evaluator.proofs.expression.joined.Tie as tie

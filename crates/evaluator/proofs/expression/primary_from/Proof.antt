@@ -1,4 +1,4 @@
-use Rattle.evaluator.proofs.OperatorLaws.{from-unary, from-bare}
+use Rattle.operands.proofs.OperatorLaws.{from-unary, from-bare}
 use borrow.Author.Needs.{needs}
 use Rattle.evaluator.proofs.expression.primary_from.Statement.{statement}
 use Rattle.evaluator.proofs.expression.primary_from.Tie as tie

@@ -4,8 +4,8 @@ use native.Mathlib.Omega.{arith}
 use borrow.Author.Needs.{needs}
 use lib.ListN.{take}
 use Rattle.token.specs.Kind.{level-of}
-use Rattle.evaluator.specs.Working.{site-table, env-of}
-use Rattle.evaluator.proofs.NotedLaws.{leaf-within, level-at, operator-at, operator-within}
+use Rattle.operands.specs.Working.{site-table, env-of}
+use Rattle.operands.proofs.NotedLaws.{leaf-within, level-at, operator-at, operator-within}
 use Rattle.evaluator.proofs.ExpressionLaws.{Underway, begun, quick-none, quick-tighter, quick-fault, quick-end, quick-again, quick-within}
 use Rattle.evaluator.proofs.expression.quick.Statement.{statement}
 use Rattle.evaluator.proofs.expression.quick.Tie as tie

@@ -1,5 +1,5 @@
 use borrow.Author.Needs.{needs}
-use Rattle.evaluator.proofs.NotedLaws.{leaf-noted}
+use Rattle.operands.proofs.NotedLaws.{leaf-noted}
 use Rattle.evaluator.proofs.expression.short_operand.Statement.{statement}
 use Rattle.evaluator.proofs.expression.short_operand.Tie as tie
 

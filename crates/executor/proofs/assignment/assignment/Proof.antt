@@ -1,10 +1,10 @@
 use Prim.Native.Nat.{_-_}
 use mathlib.Core.Path.{_≡_, refl, ap}
 use native.Mathlib.Omega.{arith}
-use Rattle.evaluator.proofs.TableLaws.{token, link-bounds}
+use Rattle.operands.proofs.TableLaws.{token, link-bounds}
 use lib.ListN.{take, length}
 use borrow.Author.Needs.{needs}
-use Rattle.evaluator.specs.Working.{site-table, env-of}
+use Rattle.operands.specs.Working.{site-table, env-of}
 use Rattle.executor.proofs.AssignmentLaws.{Tried, tried-start, assigns-none, assigns-chosen, assigns-fault, tried-more, assigns-from}
 use Rattle.executor.proofs.assignment.assignment.Statement.{statement}
 use Rattle.executor.proofs.assignment.assignment.Tie as tie

@@ -1,5 +1,5 @@
 use Rattle.executor.proofs.AssignmentLaws.{fits-known, fits-none}
-use Rattle.evaluator.specs.Working.{site-table}
+use Rattle.operands.specs.Working.{site-table}
 use borrow.Author.Needs.{needs}
 use Rattle.executor.proofs.assignment.fits_field.Statement.{statement}
 use Rattle.executor.proofs.assignment.fits_field.Tie as tie

@@ -1,4 +1,4 @@
-use Rattle.evaluator.proofs.TableLaws.{link-bounds}
+use Rattle.operands.proofs.TableLaws.{link-bounds}
 use Rattle.executor.proofs.AssignmentLaws.{guard-none, guard-holds, guard-fails, guard-fault}
 use borrow.Author.Needs.{needs}
 use Rattle.executor.proofs.assignment.guard.Statement.{statement}

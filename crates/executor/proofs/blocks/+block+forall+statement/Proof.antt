@@ -4,8 +4,8 @@ use mathlib.Core.Path.{_≡_, refl, _∙_}
 use borrow.Author.Needs.{needs}
 use lib.ListN.{length, take}
 use Rattle.value.specs.Worked.{span-of}
-use Rattle.evaluator.specs.Working.{site-table, env-of}
-use Rattle.evaluator.proofs.TableLaws.{token, link-bounds}
+use Rattle.operands.specs.Working.{site-table, env-of}
+use Rattle.operands.proofs.TableLaws.{token, link-bounds}
 use Rattle.executor.proofs.PendingLaws.{Stack, stack-start, stack-pops, stack-top, stack-room, stack-enters, weight, weight-enters, weight-goes, weight-pops}
 use Rattle.executor.proofs.StatementLaws.{begins-some, begins-at, begins-if, chosen-onward, if-fault, if-nothing, if-list, statement-forall, faulted-stops, other-stops, statement-exit, statement-constant, statement-assign, Progress, progress-start, block-ends, block-more, block-stops, block-pops, block-enters, known, loop-many, loop-deep, Turns, turns-start, turns-more, loop-leaves, loop-faults, loop-done, deeper}
 use borrow.Fn.Kinds.{In}
@@ -19,8 +19,8 @@ use Rattle.executor.proofs.blocks.+block+forall+statement.Lts-forall as
 use Rattle.executor.proofs.blocks.statement.Reads as statement′
 use Rattle.executor.proofs.blocks.statement.Kinds as statement-kinds
 use Rattle.executor.proofs.blocks.+block+forall+statement.Lts-statement as statement-lts
-use Rattle.evaluator.proofs.table.link_at.Reads as link-at-reads
-use Rattle.evaluator.proofs.table.word_at.Reads as word-at-reads
+use Rattle.operands.proofs.table.link_at.Reads as link-at-reads
+use Rattle.operands.proofs.table.word_at.Reads as word-at-reads
 use Rattle.executor.proofs.assignment.assignment.Reads as assignment-reads
 use Rattle.executor.proofs.blocks.begins.Reads as begins-reads
 use Rattle.executor.proofs.blocks.choose.Reads as choose-reads

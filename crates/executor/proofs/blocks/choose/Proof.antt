@@ -3,8 +3,8 @@ use native.Mathlib.Omega.{arith}
 use mathlib.Core.Path.{sym}
 use lib.ListN.{take}
 use borrow.Author.Needs.{needs}
-use Rattle.evaluator.specs.Working.{site-table, env-of}
-use Rattle.evaluator.proofs.TableLaws.{token, link-bounds}
+use Rattle.operands.specs.Working.{site-table, env-of}
+use Rattle.operands.proofs.TableLaws.{token, link-bounds}
 use Rattle.executor.proofs.StatementLaws.{Arms, arms-start, choice-fault, choice-then, choice-wrong, choice-else, choice-end, arms-more}
 use Rattle.executor.proofs.blocks.choose.Statement.{statement}
 use Rattle.executor.proofs.blocks.choose.Tie as tie

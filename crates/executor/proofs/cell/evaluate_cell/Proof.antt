@@ -1,4 +1,4 @@
-use Rattle.evaluator.proofs.PrimaryLaws.{room}
+use Rattle.automaton.specs.GridLaws.{cell-room}
 use Rattle.executor.proofs.CellLaws.{ready, cell-on, cell-leaving, cell-fault}
 use borrow.Author.Needs.{needs}
 use Rattle.executor.proofs.cell.evaluate_cell.Statement.{statement}
@@ -16,7 +16,7 @@ clear-requires c κs = search needs
 copy-fields-requires : tie.Need-copy-fields-requires
 copy-fields-requires c κs =
     let s = c .before .before .before .before .before .before .before .before in
-    rw (s .pre .lent) at (room _ _ _ _ (s .pre .inside) (s .pre .entries))
+    rw (s .pre .lent) at (cell-room _ _ _ _ (s .pre .inside) (s .pre .entries))
 
 block-requires : tie.Need-block-requires
 block-requires c κs =

@@ -1,20 +1,20 @@
 use mathlib.Core.Logic.{⊎-elim}
 use lib.Dec.{eqb}
-use Rattle.evaluator.specs.Stands.{word-in}
+use Rattle.semantics.specs.Stands.{word-in}
 use Prim.Native.Nat.{_-_}
 use native.Mathlib.Omega.{arith}
 use borrow.Author.Needs.{needs}
 use Rattle.indices.specs.Surveying.{loops-of}
 use Rattle.indices.proofs.WalkLaws.{less-left, opens-deep, loops-length, loops-opened, Going, going-start, going-plain, going-loop, going-done}
-use Rattle.evaluator.proofs.TableLaws.{link-bounds}
+use Rattle.operands.proofs.TableLaws.{link-bounds}
 use Prim.Native.Nat.{ℕ, _<_}
 use borrow.Fn.Kinds.{In}
 use borrow.Fn.PlainCycle.{Measures, is, falls, and}
 use Rattle.indices.proofs.walk.part.Reads as part
 use Rattle.indices.proofs.walk.part.Kinds as part-kinds
 use Rattle.indices.proofs.walk.+part.Lts-part as part-lts
-use Rattle.evaluator.proofs.table.link_at.Reads as link-at-reads
-use Rattle.evaluator.proofs.table.word_at.Reads as word-at-reads
+use Rattle.operands.proofs.table.link_at.Reads as link-at-reads
+use Rattle.operands.proofs.table.word_at.Reads as word-at-reads
 use Rattle.indices.proofs.walk.behind.Reads as behind-reads
 use Rattle.indices.proofs.walk.index_at.Reads as index-at-reads
 use Rattle.indices.proofs.walk.opened.Reads as opened-reads

@@ -1,4 +1,4 @@
-use Rattle.evaluator.specs.Stands.{table-of}
+use Rattle.semantics.specs.Stands.{table-of}
 use Rattle.indices.proofs.WalkLaws.{behind-loop, behind-constant, behind-index, behind-one}
 use borrow.Author.Needs.{needs}
 use Rattle.indices.proofs.walk.behind.Statement.{statement}

@@ -1,7 +1,7 @@
 use Prim.Native.Nat.{_-_}
 use native.Mathlib.Omega.{arith}
 use borrow.Author.Needs.{needs}
-use Rattle.evaluator.specs.Stands.{table-of}
+use Rattle.semantics.specs.Stands.{table-of}
 use Rattle.indices.specs.Surveying.{loops-of}
 use Rattle.indices.proofs.ElementLaws.{Steps, steps-start, steps-more, steps-done}
 use Rattle.indices.proofs.walk.elements.Statement.{statement}

@@ -1,4 +1,4 @@
-use Rattle.evaluator.specs.Stands.{table-of}
+use Rattle.semantics.specs.Stands.{table-of}
 use Rattle.indices.proofs.ElementLaws.{ends-open, ends-shut, ends-named, ends-fixed}
 use borrow.Author.Needs.{needs}
 use Rattle.indices.proofs.walk.ends_at.Statement.{statement}

@@ -1,4 +1,4 @@
-use Rattle.evaluator.specs.Stands.{table-of}
+use Rattle.semantics.specs.Stands.{table-of}
 use Rattle.indices.proofs.WalkLaws.{index-here, index-not}
 use borrow.Author.Needs.{needs}
 use Rattle.indices.proofs.walk.is_index.Statement.{statement}

@@ -1,5 +1,5 @@
 use native.Mathlib.Omega.{arith}
-use Rattle.evaluator.proofs.TableLaws.{link-bounds}
+use Rattle.operands.proofs.TableLaws.{link-bounds}
 use Rattle.leaf_table.proofs.NotingLaws.{field-leaf, field-unnoted}
 use borrow.Author.Needs.{needs}
 use Rattle.leaf_table.proofs.noting.field_leaf.Statement.{statement}

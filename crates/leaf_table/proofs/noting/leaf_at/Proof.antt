@@ -1,7 +1,7 @@
 use native.Mathlib.Omega.{arith}
 use mathlib.Core.Path.{refl, sym, _∙_}
 use mathlib.Core.Logic.{inl, inr}
-use Rattle.evaluator.proofs.TableLaws.{token}
+use Rattle.operands.proofs.TableLaws.{token}
 use Rattle.leaf_table.proofs.NotingLaws.{literal-leaf, other-unnoted}
 use borrow.Author.Needs.{needs}
 use Rattle.leaf_table.proofs.noting.leaf_at.Statement.{statement}

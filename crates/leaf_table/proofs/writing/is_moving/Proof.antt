@@ -1,4 +1,4 @@
-use Rattle.evaluator.specs.Stands.{word-in}
+use Rattle.semantics.specs.Stands.{word-in}
 use Rattle.leaf_table.proofs.WritingLaws.{moving-name, moving-other}
 use borrow.Author.Needs.{needs}
 use Rattle.leaf_table.proofs.writing.is_moving.Statement.{statement}

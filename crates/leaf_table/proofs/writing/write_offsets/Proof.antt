@@ -2,7 +2,7 @@ use native.Mathlib.Omega.{arith}
 use Prim.Native.Nat.{ℕ, _-_}
 use mathlib.Core.Path.{_≡_}
 use lib.ListN.{length}
-use Rattle.evaluator.specs.Stands.{table-of}
+use Rattle.semantics.specs.Stands.{table-of}
 use Rattle.leaf_table.proofs.WritingLaws.{some-size, Steps, steps-start, steps-more, steps-done}
 use borrow.Author.Needs.{needs}
 use Rattle.leaf_table.proofs.writing.write_offsets.Statement.{statement}

@@ -4,47 +4,40 @@ use Rattle.cellang.proofs.Telling.{tells-run}
 use Rattle.cellang.proofs.exports.running.cellang_run_quiet.Statement.{statement}
 use Rattle.cellang.proofs.exports.running.cellang_run_quiet.Tie as tie
 
--- src/exports/running.rt:66:9
-run-quiet-requires : tie.Need-run-quiet-requires
-run-quiet-requires c κs = search needs
+run-requires : tie.Need-run-requires
+run-requires c κs = search needs
 
--- src/exports/running.rt:77:5
 put-report-requires : tie.Need-put-report-requires
 put-report-requires c κs = search needs
 
--- src/exports/running.rt:50:1
 same-length : tie.Need-same-length
 same-length c = search needs
 
--- src/exports/running.rt:50:1
 same-length-2 : tie.Need-same-length-2
 same-length-2 c = search needs
 
--- src/exports/running.rt:50:1
 same-length-3 : tie.Need-same-length-3
 same-length-3 c = search needs
 
--- src/exports/running.rt:50:1
 same-length-4 : tie.Need-same-length-4
 same-length-4 c = search needs
 
--- src/exports/running.rt:50:1
 same-length-5 : tie.Need-same-length-5
 same-length-5 c = search needs
 
--- src/exports/running.rt:50:1
 same-length-6 : tie.Need-same-length-6
 same-length-6 c = search needs
 
--- src/exports/running.rt:50:1
 returns : tie.Need-returns
-returns c = (tells-run (c .before .before .before .before .before .before .before .before .before .before .before .before .before .before .before .before .before .before .before .before .before .before .before .before .fits .start) (c .before .before .before .before .before .before .before .before .before .before .before .before .before .before .before .before .before .before .before .before .before .before .before .before .fits .steps) (c .before .before .before .before .before .before .before .before .before .before .before .before .run-quiet .ensures .0) (c .before .before .put-report .ensures), property-3 _ _ _ .agree)
+returns c =
+    let s = c .before .before .before .before .before .before .before .before .before .before .before .before .before .before .before .before .before .before .before .before .before .before .before .before in
+    (tells-run (s .fits .start) (s .fits .steps) (c .before .before .before .before .before .before .before .before .before .before .before .before .run .ensures .0) (c .before .before .put-report .ensures), property-3 _ _ _ .agree)
 
 pub cellang-run-quiet-spec : {M : Type 1} → statement M
 cellang-run-quiet-spec =
     tie.close
     (tie.spec
-    run-quiet-requires
+    run-requires
     put-report-requires
     same-length
     same-length-2

@@ -1,0 +1,294 @@
+-- The loop over the steps of a run: how it begins, goes on and ends.
+use Prim.Native.Nat.{ℕ, zero, suc, _+_, _-_, _*_, _<_, _≤_}
+use native.Mathlib.Numerals.{add-one}
+use native.Mathlib.Omega.{arith}
+use mathlib.Core.Path.{_≡_, refl, sym, ap, ap₂, _∙_, subst, fun-ext}
+use mathlib.Core.Bool.{Bool, true, false, not, cond, _||_}
+use mathlib.Core.List.{List, [], _∷_, map, List·Memᴰ, List·Memᴰ·head, List·Memᴰ·tail}
+use lib.ListN.{length, getD, replicate, length-replicate}
+use lib.Seq.{ext-getD}
+use lib.IntN.{ℤ}
+use borrow.Author.Tests.{not-true, not-false}
+use Rattle.value.specs.Laws.{never}
+use Rattle.automaton.specs.Listed.{list-of, length-list-of, getD-list-of, list-of-ext}
+use Rattle.automaton.specs.Step.{Fault, no-fault, fault-at, any-of, how-many, marks-of, non-zero, marked, Run, every-cell, quiet-step, changed, open-after, run-of, open-count}
+use Rattle.automaton.specs.Quiet.{marked-marks-of, any-of-false}
+use Rattle.automaton.specs.Shape.{product, Bound, neighbour, reach-of, box-indices}
+use Rattle.automaton.specs.ShapeLaws.{Positive, Alike, alike-length, neighbour-lt, box-alike, own-in-reach}
+use Rattle.automaton.specs.Grid.{cell-of, differ, automaton}
+use Rattle.automaton.specs.GridLaws.{differ-false}
+use Rattle.automaton.specs.Going.{Going, going-start, going-on, going-stop, going-done}
+use Rattle.program.specs.Syntax.{Program}
+use Rattle.semantics.specs.declared.Rule.{Rule}
+use Rattle.semantics.specs.Leaves.{Leaves}
+use Rattle.semantics.specs.Stands.{Holds}
+use Rattle.stepper.specs.declared.Reach.{Reach}
+use Rattle.stepper.specs.Reach.{reach, running}
+use Rattle.stepper.specs.Report as report
+use Rattle.stepper.specs.Report.{ended}
+use Rattle.stepper.specs.Locality.{running-lawful}
+use Rattle.stepper.specs.Fitting.{held-fields, Shaped, bounds-of, bound-at}
+use Rattle.stepping.specs.declared.Step.{Step}
+use Rattle.stepping.specs.declared.Step.the-variants as Gives
+use Rattle.stepping.specs.Stepping as stepping
+use Rattle.stepping.specs.Stepping.{fault-in, count-in, Stepped}
+use Rattle.marking.specs.Opened as marking
+use Rattle.marking.specs.Opened.{opened, open-is}
+use Rattle.iteration.specs.declared.Report.{Report}
+use Rattle.iteration.specs.Stepwise.{Begins, Runs, Renewed, Underway, told, steps-report, Ran}
+
+-- ---- marks
+
+ones : (n k : ℕ) → k < n → _≡_ {A = ℕ} (getD (replicate n 1) k 0) 1
+ones zero k l = absurd (omega arith)
+ones (suc n) zero l = refl
+ones (suc n) (suc k) l = ones n k (omega arith)
+
+-- where every mark is 1, every cell is open
+all-ones : (n : ℕ) → replicate n 1 ≡ marks-of every-cell n
+unfolding marks-of
+all-ones n =
+    ext-getD 0 (replicate n 1) (list-of (λ (c : ℕ). 1) n) (length-replicate n 1 ∙ sym (length-list-of (λ (c : ℕ). 1) n))
+    (λ k l. let m : k < n = omega (arith, length-replicate {A = ℕ} n 1) in ones n k m ∙ sym (getD-list-of (λ (c : ℕ). 1) n k 0 m))
+
+bit : (b : Bool) → cond b 1 0 ≤ 1
+bit true = omega arith
+bit false = omega arith
+
+marks-plain : (o : ℕ → Bool) (n : ℕ) (marks : List ℕ) → marks ≡ marks-of o n → (c : ℕ) → c < n → getD marks c 0 ≤ 1
+unfolding marks-of
+marks-plain o n marks e c l = rw (ap (λ (ms : List ℕ). getD ms c 0) e ∙ getD-list-of (λ (x : ℕ). cond (o x) 1 0) n c 0 l) (bit (o c))
+
+marks-length : (o : ℕ → Bool) (n : ℕ) → length (marks-of o n) ≡ n
+unfolding marks-of
+marks-length o n = length-list-of _ n
+
+marks-same : (o o′ : ℕ → Bool) (n : ℕ) → ((c : ℕ) → c < n → o c ≡ o′ c) → marks-of o n ≡ marks-of o′ n
+unfolding marks-of
+marks-same o o′ n h = list-of-ext _ _ n (λ c l. ap (λ (b : Bool). cond b 1 0) (h c l))
+
+-- a cell with mark 0 is not marked, and among the marks of the open cells not open
+unmarked : (marks : List ℕ) (c : ℕ) → getD marks c 0 ≡ 0 → marked marks c ≡ false
+unfolding marked
+unmarked marks c e = ap non-zero e
+
+shut : (o : ℕ → Bool) (n : ℕ) (marks : List ℕ) → marks ≡ marks-of o n → (c : ℕ) → c < n → getD marks c 0 ≡ 0 → o c ≡ false
+shut o n marks e c l z = sym (marked-marks-of o n c l) ∙ ap (λ (ms : List ℕ). marked ms c) (sym e) ∙ unmarked marks c z
+
+marked-is : (b : Bool) (marks : List ℕ) (c : ℕ) → marked marks c ≡ b → b ≡ false → getD marks c 0 ≡ 0
+unfolding marked
+marked-is b marks c e f = zero-of (getD marks c 0) (e ∙ f)
+  where
+    zero-of : (n : ℕ) → non-zero n ≡ false → n ≡ 0
+    zero-of zero q = refl
+    zero-of (suc n) q = never (sym q)
+
+-- ---- what a step opened
+
+any-same : (f g : ℕ → Bool) (h : List ℤ → ℕ) (dss : List (List ℤ)) → ((ds : List ℤ) → List·Memᴰ ds dss → f (h ds) ≡ g (h ds)) → any-of f (map h dss) ≡ any-of g (map h dss)
+unfolding any-of
+any-same f g h [] k = refl
+any-same f g h (ds ∷ dss) k = ap₂ _||_ (k ds (List·Memᴰ·head refl)) (any-same f g h dss (λ es m. k es (List·Memᴰ·tail m)))
+
+module _ (sizes : List ℕ) (bounds : List Bound) (a : Alike sizes bounds) (positive : Positive sizes) (fields : ℕ) where
+  -- it is the same of grids with the same fields in every cell
+  opened-same : (old old′ new : List ℤ) → ((x : ℕ) → x < product sizes → cell-of fields old x ≡ cell-of fields old′ x) → (c : ℕ) → c < product sizes
+      → opened sizes bounds fields old new c ≡ opened sizes bounds fields old′ new c
+  unfolding reach-of
+  opened-same old old′ new same c l =
+      any-same _ _ (neighbour sizes c) (box-indices bounds)
+      (λ ds m. ap (λ (s : List ℤ). differ s (cell-of fields new (neighbour sizes c ds))) (same (neighbour sizes c ds) (neighbour-lt sizes positive c ds l (box-alike sizes bounds a ds m))))
+
+  -- a cell that is not opened did not change: it is in its own reach
+  not-opened : (old new : List ℤ) (c : ℕ) → c < product sizes → opened sizes bounds fields old new c ≡ false → cell-of fields old c ≡ cell-of fields new c
+  not-opened old new c l e = differ-false _ _ (any-of-false _ _ e c (own-in-reach sizes bounds a positive c l))
+
+-- ---- the marks for the next step
+
+module _ {sizes : List ℕ} {r : Reach} {all-open : Bool} {fields : ℕ} {old grid : List ℤ} {marks : List ℕ} where
+  pub renewed-some : {marks′ : List ℕ} → not all-open ≡ true → marks′ ≡ marks-of (opened sizes (bounds-of r (length sizes)) fields old grid) (product sizes) → Renewed sizes r all-open fields old grid marks marks′
+  renewed-some e q = record { is = q ∙ ap (λ (b : Bool). cond b marks (marks-of (opened sizes (bounds-of r (length sizes)) fields old grid) (product sizes))) (sym (not-true all-open e)) }
+
+  pub renewed-all : not all-open ≡ false → Renewed sizes r all-open fields old grid marks marks
+  renewed-all e = record { is = ap (λ (b : Bool). cond b marks (marks-of (opened sizes (bounds-of r (length sizes)) fields old grid) (product sizes))) (sym (not-false all-open e)) }
+
+-- ---- the open cells of the definition
+
+open-all : (p : Program) (sizes : List ℕ) (old new : List ℤ) → p .timed ≡ true → open-after (running p sizes) old new ≡ every-cell
+unfolding running automaton open-after
+open-all p sizes old new e = fun-ext (λ c. ap (λ (b : Bool). b || any-of (changed (running p sizes) old new) (reach-of sizes (box-indices (reach p)) c)) e)
+
+-- the leaf table can be filled
+pub fill-ready : {words : List ℕ} {rule : Rule} {sizes : List ℕ} {r : Reach} {grid scratch : List ℤ} {marks : List ℕ} {start steps : ℕ} → Begins words rule sizes r grid scratch marks start steps
+    → (4 * rule .tokens ≤ length words) × (rule .tokens ≤ 4096) × (length sizes ≤ 3) × Positive sizes
+fill-ready b = (b .rule-fits .table, b .rule-fits .tokens, omega (arith, b .shaped .dims, b .rule-fits .dims), b .shaped .positive)
+
+module _ {words : List ℕ} {rule : Rule} {sizes : List ℕ} {r : Reach} {all-open : Bool} {grid₀ scratch₀ : List ℤ} {marks₀ : List ℕ} {start steps : ℕ}
+    (begins : Begins words rule sizes r grid₀ scratch₀ marks₀ start steps) where
+  -- ---- at the start every cell is marked
+
+  pub start-underway : {marks : List ℕ} → marks ≡ replicate (length marks₀) 1 → Underway words rule sizes r all-open grid₀ start steps 0 0 grid₀ scratch₀ marks
+  start-underway {marks} e =
+      record {
+        few-steps = omega arith;
+        few-cells = omega arith;
+        grid-size = refl;
+        scratch-size = begins .scratch-fits;
+        marks-size = ap length e ∙ length-replicate {A = ℕ} (length marks₀) 1 ∙ begins .marks-fit;
+        plain = marks-plain every-cell (product sizes) marks is;
+        still = λ c l z. absurd (let q = shut every-cell (product sizes) marks is c l z in let w : _≡_ {A = ℕ} 0 1 = cc in omega arith);
+        all-marked = λ _. is;
+        going = λ p runs. (every-cell, is, going-start (running p sizes) (running-lawful p sizes (runs .flagged)) steps start grid₀);
+      }
+    where
+      is : marks ≡ marks-of every-cell (product sizes)
+      is = e ∙ ap (λ (n : ℕ). replicate n 1) (begins .marks-fit) ∙ all-ones (product sizes)
+
+  module _ {done count : ℕ} {grid scratch : List ℤ} {marks : List ℕ} (now : Underway words rule sizes r all-open grid₀ start steps done count grid scratch marks) where
+    -- ---- a step can be done
+
+    pub step-ready : {leaves : List ℕ} → Leaves leaves words sizes (rule .tokens) (rule .fields) (rule .slots) → done < steps → stepping.Ready leaves words rule sizes grid scratch marks (start + done) count
+    step-ready noted more =
+        record {
+          rule-fits = begins .rule-fits;
+          shaped = subst (Shaped rule sizes) (sym (now .grid-size)) (begins .shaped);
+          scratch-fits = now .scratch-size ∙ sym (now .grid-size);
+          marks-fit = now .marks-size;
+          small = omega (arith, begins .times);
+          room = omega (arith, now .few-cells, now .few-steps, begins .times, begins .shaped .cells);
+          noted = noted;
+        }
+
+    -- ---- the last step
+
+    pub ends : done ≡ steps → Ran words rule sizes r all-open start steps grid₀ (record { number = 0; place = 0; cell = 0; steps = done; count = count }) grid
+    ends e = record { says = λ p runs. report-is p runs }
+      where
+        report-is : (p : Program) (runs : Runs words rule r all-open p) → told (record { number = 0; place = 0; cell = 0; steps = done; count = count }) grid ≡ steps-report p sizes steps start grid₀
+        report-is p runs =
+            let M = running p sizes in
+            let laws = running-lawful p sizes (runs .flagged) in
+            let g = now .going p runs in
+            let both = going-done M laws steps start grid₀ (subst (λ (k : ℕ). Going M laws steps start grid₀ (g .0) k count grid) e (g .2)) in
+            (λ i. record { number = 0; place = 0; cell = 0; steps = e i; count = count; grid = grid })
+            ∙ ap₂ (λ (run : Run (List ℤ)) (n : ℕ). ended (run .fault) (run .steps) n (run .grid)) (sym (both .0)) (sym (both .1))
+
+    module _ (more : done < steps) where
+      -- ---- a step that faults
+
+      pub stops : {said : Step} {cell number place counted : ℕ} {grid′ scratch′ : List ℤ} → Stepped words rule sizes grid scratch marks (start + done) count said grid′ scratch′ → said ≡ Gives.Fault cell number place counted
+          → Ran words rule sizes r all-open start steps grid₀ (record { number = number; place = place; cell = cell; steps = done; count = counted }) grid′
+      stops {said} {cell} {number} {place} {counted} {grid′} {scratch′} s₀ e = record { says = λ p runs. report-is p runs }
+        where
+          s : Stepped words rule sizes grid scratch marks (start + done) count (Gives.Fault cell number place counted) grid′ scratch′
+          s = subst (λ (t : Step). Stepped words rule sizes grid scratch marks (start + done) count t grid′ scratch′) e s₀
+
+          report-is : (p : Program) (runs : Runs words rule r all-open p) → told (record { number = number; place = place; cell = cell; steps = done; count = counted }) grid′ ≡ steps-report p sizes steps start grid₀
+          report-is p runs =
+              let M = running p sizes in
+              let laws = running-lawful p sizes (runs .flagged) in
+              let g = now .going p runs in
+              let both = going-stop M laws steps start grid₀ (g .2) marks (unfold running automaton in g .1) more cell number place (sym (s .fault p (runs .holds))) in
+              (λ i. record { number = number; place = place; cell = cell; steps = done; count = s .count-is p (runs .holds) i; grid = s .grid-is p (runs .holds) i })
+              ∙ ap₂ (λ (run : Run (List ℤ)) (n : ℕ). ended (run .fault) (run .steps) n (run .grid)) (sym (both .0)) (sym (both .1))
+
+      -- ---- a step that does not
+
+      module _ {said : Step} {counted : ℕ} {grid′ scratch′ : List ℤ} (s₀ : Stepped words rule sizes grid scratch marks (start + done) count said grid′ scratch′) (is-done : said ≡ Gives.Done counted) where
+        s : Stepped words rule sizes grid scratch marks (start + done) count (Gives.Done counted) grid′ scratch′
+        s = subst (λ (t : Step). Stepped words rule sizes grid scratch marks (start + done) count t grid′ scratch′) is-done s₀
+
+        chosen : ℕ → Bool → List ℤ
+        chosen c b = cond b (cell-of (rule .fields) grid c) (cell-of (rule .fields) scratch c)
+
+        -- scratch has the old fields of every cell
+        old-cell : (c : ℕ) → c < product sizes → cell-of (rule .fields) scratch′ c ≡ cell-of (rule .fields) grid c
+        unfolding chosen
+        old-cell c l = by (marked marks c) refl
+          where
+            by : (b : Bool) → marked marks c ≡ b → cell-of (rule .fields) scratch′ c ≡ cell-of (rule .fields) grid c
+            by true e = s .old refl c l ∙ ap (chosen c) e
+            by false e = s .old refl c l ∙ ap (chosen c) e ∙ now .still c l (marked-is false marks c e refl)
+
+        pub mark-ready : marking.Ready sizes r (rule .fields) scratch′ grid′ marks
+        mark-ready =
+            record {
+              dims = omega (arith, begins .shaped .dims, begins .rule-fits .dims);
+              some-dims = omega (arith, begins .shaped .dims, begins .some-dims);
+              positive = begins .shaped .positive;
+              cells = begins .shaped .cells;
+              few = begins .rule-fits .fields;
+              old-fits = s .scratch-size ∙ now .scratch-size ∙ sym (begins .shaped .entries);
+              grid-fits = s .grid-size ∙ now .grid-size ∙ sym (begins .shaped .entries);
+              marks-fit = now .marks-size;
+              plain = now .plain;
+              still = λ c l z. old-cell c l ∙ sym (s .kept c l (unmarked marks c z));
+              near = begins .near;
+            }
+
+        module _ {marks′ : List ℕ} (renewed : Renewed sizes r all-open (rule .fields) scratch′ grid′ marks marks′) where
+          abbrev bounds : List Bound
+          bounds = bounds-of r (length sizes)
+
+          like : Alike sizes bounds
+          like = alike-length sizes bounds (length-list-of (bound-at r) (length sizes))
+
+          -- by whether all cells are open: the marks, and what a cell with mark 0 has in scratch
+          record Next : Type 0 where
+            pub size : length marks′ ≡ product sizes
+            pub plain : (c : ℕ) → c < product sizes → getD marks′ c 0 ≤ 1
+            pub still : (c : ℕ) → c < product sizes → getD marks′ c 0 ≡ 0 → cell-of (rule .fields) scratch′ c ≡ cell-of (rule .fields) grid′ c
+            pub all : all-open ≡ true → marks′ ≡ marks-of every-cell (product sizes)
+            pub opens : (p : Program) → Runs words rule r all-open p → marks′ ≡ marks-of (open-after (running p sizes) grid grid′) (product sizes)
+
+          next : Next
+          next = by all-open refl (renewed .is)
+            where
+              by : (b : Bool) → all-open ≡ b → marks′ ≡ cond b marks (marks-of (opened sizes bounds (rule .fields) scratch′ grid′) (product sizes)) → Next
+              by true e q =
+                  let is : marks′ ≡ marks-of every-cell (product sizes) = q ∙ now .all-marked e in
+                  record {
+                    size = ap length is ∙ marks-length every-cell (product sizes);
+                    plain = marks-plain every-cell (product sizes) marks′ is;
+                    still = λ c l z. absurd (let v = shut every-cell (product sizes) marks′ is c l z in let w : _≡_ {A = ℕ} 0 1 = cc in omega arith);
+                    all = λ _. is;
+                    opens = λ p runs. is ∙ ap (λ (o : ℕ → Bool). marks-of o (product sizes)) (sym (open-all p sizes grid grid′ (runs .timed ∙ e)));
+                  }
+              by false e q =
+                  record {
+                    size = ap length q ∙ marks-length _ (product sizes);
+                    plain = marks-plain _ (product sizes) marks′ q;
+                    still = λ c l z. not-opened sizes bounds like (begins .shaped .positive) (rule .fields) scratch′ grid′ c l (shut _ (product sizes) marks′ q c l z);
+                    all = λ t. never (sym e ∙ t);
+                    opens = λ p runs. q ∙ same-marks p runs;
+                  }
+                where
+                  same-marks : (p : Program) → Runs words rule r all-open p → marks-of (opened sizes bounds (rule .fields) scratch′ grid′) (product sizes) ≡ marks-of (open-after (running p sizes) grid grid′) (product sizes)
+                  same-marks p runs = marks-same _ _ (product sizes)
+                      (λ c l. opened-same sizes bounds like (begins .shaped .positive) (rule .fields) scratch′ grid grid′ old-cell c l
+                      ∙ ap₂ (λ (bs : List Bound) (f : ℕ). opened sizes bs f grid grid′ c) (ap (bounds-of r) (begins .shaped .dims) ∙ sym (runs .reaches)) (sym (held-fields p (runs .holds)))
+                      ∙ sym (open-is p sizes grid grid′ c (runs .timed ∙ e)))
+
+          one-more : Underway words rule sizes r all-open grid₀ start steps (suc done) counted grid′ scratch′ marks′
+          one-more =
+              record {
+                few-steps = more;
+                few-cells = omega (arith, s .counted, now .few-cells, begins .shaped .cells);
+                grid-size = s .grid-size ∙ now .grid-size;
+                scratch-size = s .scratch-size ∙ now .scratch-size;
+                marks-size = next .size;
+                plain = next .plain;
+                still = next .still;
+                all-marked = next .all;
+                going = λ p runs.
+                    let M = running p sizes in
+                    let laws = running-lawful p sizes (runs .flagged) in
+                    let g = now .going p runs in (
+                      open-after M grid grid′,
+                      next .opens p runs,
+                      going-on M laws steps start grid₀ (g .2) marks (unfold running automaton in g .1) more counted grid′ (sym (s .fault p (runs .holds))) (s .grid-is p (runs .holds)) (s .count-is p (runs .holds)),
+                    );
+              }
+
+          pub again : Underway words rule sizes r all-open grid₀ start steps (done + 1) counted grid′ scratch′ marks′
+          again = rw (add-one done) one-more

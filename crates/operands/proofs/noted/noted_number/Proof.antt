@@ -1,0 +1,110 @@
+use mathlib.Core.Path.{_≡_, refl, sym, _∙_}
+use borrow.Author.Needs.{needs}
+use native.Mathlib.Omega.{arith}
+use Prim.Native.Nat.{_-_, _≤_}
+use lib.ListN.{length, take}
+use Rattle.semantics.specs.Stands.{table-of}
+use Rattle.semantics.specs.Leaves.{leaf-word}
+use Rattle.operands.proofs.NeighbourLaws.{inside-at, inside-length}
+use Rattle.operands.proofs.NotedLaws.{Walk, walk-start, offset-small, walk-small, walk-more, walk-done}
+use Rattle.operands.proofs.noted.noted_number.Statement.{statement}
+use Rattle.operands.proofs.noted.noted_number.Tie as tie
+
+abbrev Inv-loop : tie.InvT-loop
+Inv-loop leaves words n sizes place index depth at dims number₀ k₀ number k =
+    Walk (table-of words n (length sizes)) (take depth index) sizes place (leaf-word leaves at) at number k × (dims ≡ length sizes) × (k ≤ dims)
+
+abbrev μ-loop : tie.MeasureT-loop
+μ-loop leaves words n sizes place index depth at dims number₀ k₀ number k = length sizes - k
+
+-- src/noted.rt:47:5
+loop-holds : tie.Need-loop-holds Inv-loop μ-loop
+loop-holds c = (walk-start _ _ _ _ _ _ (c .before .before .before .pre .4), refl, omega arith)
+
+-- src/noted.rt:48:20
+mul-size : tie.Need-mul-size Inv-loop μ-loop
+mul-size c = search needs
+
+-- src/noted.rt:48:20
+shared-slice-read-size : tie.Need-shared-slice-read-size Inv-loop μ-loop
+shared-slice-read-size c = search needs
+
+-- src/noted.rt:48:20
+cast-size : tie.Need-cast-size Inv-loop μ-loop
+cast-size c = record { fits = omega (arith, (c .shared-slice-known4 .given) (c .before .before .loop .k)) }
+
+-- src/noted.rt:49:19
+mul-own : tie.Need-mul-own Inv-loop μ-loop
+mul-own c = search needs
+
+-- src/noted.rt:49:19
+shared-slice-read-own : tie.Need-shared-slice-read-own Inv-loop μ-loop
+shared-slice-read-own c = omega (arith, inside-length (c .before .before .before .before .before .before .before .args .sizes .now) (c .before .before .before .before .before .before .before .args .place .now) (c .before .before .before .before .before .before .before .pre .3))
+
+-- src/noted.rt:49:19
+cast-own : tie.Need-cast-own Inv-loop μ-loop
+cast-own c = record { fits = omega (arith, (c .shared-slice-known5 .given) (c .before .before .before .loop .k)) }
+
+-- src/noted.rt:50:51
+add-leaf-word : tie.Need-add-leaf-word Inv-loop μ-loop
+add-leaf-word c = search needs
+
+-- src/noted.rt:50:29
+leaf-word-requires : tie.Need-leaf-word-requires Inv-loop μ-loop
+leaf-word-requires c κs = search needs
+
+-- src/noted.rt:50:29
+cast-moved : tie.Need-cast-moved Inv-loop μ-loop
+cast-moved c = search needs
+
+-- src/noted.rt:50:13
+moved-requires : tie.Need-moved-requires Inv-loop μ-loop
+moved-requires c κs = (inside-at (c .before .before .before .before .before .before .before .before .args .sizes .now) (c .before .before .before .before .before .before .before .before .args .place .now) (c .before .before .before .before .before .before .before .before .pre .3) _ (c .before .before .before .loop-test .taken), offset-small _ _ _ _ _ _ (c .before .before .before .before .before .before .before .before .pre .3) (c .before .before .before .before .loop .inv .0) (c .before .before .before .loop-test .taken) (c .leaf-word .ensures), omega (arith, (c .before .before .shared-slice-known4 .given) (c .before .before .before .before .loop .k)))
+
+-- src/noted.rt:51:18
+mul-number : tie.Need-mul-number Inv-loop μ-loop
+mul-number c = record { fits = omega (arith, (c .before .before .before .before .before .before .before .before .before .pre .2), walk-small _ _ _ _ _ _ (c .before .before .before .before .before .before .before .before .before .pre .3) (c .before .before .before .before .before .loop .inv .0) (c .before .before .before .before .loop-test .taken) (c .before .leaf-word .ensures) (c .moved .ensures)) }
+
+-- src/noted.rt:51:18
+add-number : tie.Need-add-number Inv-loop μ-loop
+add-number c = record { fits = omega (arith, (c .before .before .before .before .before .before .before .before .before .pre .2), walk-small _ _ _ _ _ _ (c .before .before .before .before .before .before .before .before .before .pre .3) (c .before .before .before .before .before .loop .inv .0) (c .before .before .before .before .loop-test .taken) (c .before .leaf-word .ensures) (c .moved .ensures)) }
+
+-- src/noted.rt:52:9
+add-k : tie.Need-add-k Inv-loop μ-loop
+add-k c = search needs
+
+-- src/noted.rt:47:5
+loop-less : tie.Need-loop-less Inv-loop μ-loop
+loop-less c = search needs
+
+-- src/noted.rt:47:5
+loop-again : tie.Need-loop-again Inv-loop μ-loop
+loop-again c = (walk-more _ _ _ _ _ _ (c .before .before .before .before .before .before .before .before .before .pre .3) (c .before .before .before .before .before .loop .inv .0) (c .before .before .before .before .loop-test .taken) (c .before .leaf-word .ensures) (c .moved .ensures), (c .before .before .before .before .before .loop .inv .1), omega arith)
+
+-- src/noted.rt:31:1
+returns : tie.Need-returns Inv-loop μ-loop
+returns c = walk-done _ _ _ _ _ _ (c .before .before .before .before .before .pre .3) (c .before .loop .inv .0) (c .loop-test .left)
+
+pub noted-number-spec : {M : Type 1} → statement M
+noted-number-spec =
+    tie.close
+    (tie.spec
+    Inv-loop
+    μ-loop
+    loop-holds
+    mul-size
+    shared-slice-read-size
+    cast-size
+    mul-own
+    shared-slice-read-own
+    cast-own
+    add-leaf-word
+    leaf-word-requires
+    cast-moved
+    moved-requires
+    mul-number
+    add-number
+    add-k
+    loop-less
+    loop-again
+    returns)

@@ -1,0 +1,60 @@
+use Prim.Native.Nat.{_-_, _≤_}
+use borrow.Author.Needs.{needs}
+use lib.ListN.{length, length-set}
+use mathlib.Core.Path.{_≡_, refl}
+use native.Mathlib.Omega.{arith}
+use Rattle.run_vectors.proofs.bytes.load_sizes.Statement.{statement}
+use Rattle.run_vectors.proofs.bytes.load_sizes.Tie as tie
+
+abbrev Inv-loop : tie.InvT-loop
+Inv-loop bytes sizes₀ i₀ sizes i = (i ≤ length sizes) × (length sizes ≡ length sizes₀)
+
+abbrev μ-loop : tie.MeasureT-loop
+μ-loop bytes sizes₀ i₀ sizes i = length sizes - i
+
+loop-holds : tie.Need-loop-holds Inv-loop μ-loop
+loop-holds c = (omega arith, refl)
+
+mul-word-at : tie.Need-mul-word-at Inv-loop μ-loop
+mul-word-at c = search needs
+
+word-at-requires : tie.Need-word-at-requires Inv-loop μ-loop
+word-at-requires c κs = tt
+
+mul-sizes : tie.Need-mul-sizes Inv-loop μ-loop
+mul-sizes c = search needs
+
+slice-write-sizes : tie.Need-slice-write-sizes Inv-loop μ-loop
+slice-write-sizes c = search needs
+
+add-i : tie.Need-add-i Inv-loop μ-loop
+add-i c = search needs
+
+loop-less : tie.Need-loop-less Inv-loop μ-loop
+loop-less c = simp length-set (omega arith)
+
+loop-again : tie.Need-loop-again Inv-loop μ-loop
+loop-again c = (simp length-set (omega arith), simp length-set (omega arith))
+
+same-length : tie.Need-same-length Inv-loop μ-loop
+same-length c = search needs
+
+returns : tie.Need-returns Inv-loop μ-loop
+returns c = tt
+
+pub load-sizes-spec : {M : Type 1} → statement M
+load-sizes-spec =
+    tie.close
+    (tie.spec
+    Inv-loop
+    μ-loop
+    loop-holds
+    mul-word-at
+    word-at-requires
+    mul-sizes
+    slice-write-sizes
+    add-i
+    loop-less
+    loop-again
+    same-length
+    returns)

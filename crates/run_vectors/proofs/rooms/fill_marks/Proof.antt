@@ -1,0 +1,52 @@
+use Prim.Native.Nat.{_-_, _≤_}
+use borrow.Author.Needs.{needs}
+use lib.ListN.{length, length-set}
+use mathlib.Core.Path.{_≡_, refl}
+use native.Mathlib.Omega.{arith}
+use Rattle.run_vectors.proofs.rooms.fill_marks.Statement.{statement}
+use Rattle.run_vectors.proofs.rooms.fill_marks.Tie as tie
+
+abbrev Inv-loop : tie.InvT-loop
+Inv-loop marks₀ i₀ marks i = (i ≤ length marks) × (length marks ≡ length marks₀)
+
+abbrev μ-loop : tie.MeasureT-loop
+μ-loop marks₀ i₀ marks i = length marks - i
+
+loop-holds : tie.Need-loop-holds Inv-loop μ-loop
+loop-holds c = (omega arith, refl)
+
+marks-entry-requires : tie.Need-marks-entry-requires Inv-loop μ-loop
+marks-entry-requires c κs = tt
+
+slice-write-marks : tie.Need-slice-write-marks Inv-loop μ-loop
+slice-write-marks c = search needs
+
+add-i : tie.Need-add-i Inv-loop μ-loop
+add-i c = search needs
+
+loop-less : tie.Need-loop-less Inv-loop μ-loop
+loop-less c = simp length-set (omega arith)
+
+loop-again : tie.Need-loop-again Inv-loop μ-loop
+loop-again c = (simp length-set (omega arith), simp length-set (omega arith))
+
+same-length : tie.Need-same-length Inv-loop μ-loop
+same-length c = search needs
+
+returns : tie.Need-returns Inv-loop μ-loop
+returns c = tt
+
+pub fill-marks-spec : {M : Type 1} → statement M
+fill-marks-spec =
+    tie.close
+    (tie.spec
+    Inv-loop
+    μ-loop
+    loop-holds
+    marks-entry-requires
+    slice-write-marks
+    add-i
+    loop-less
+    loop-again
+    same-length
+    returns)

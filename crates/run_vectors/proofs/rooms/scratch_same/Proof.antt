@@ -1,0 +1,54 @@
+use Prim.Native.Nat.{_-_, _≤_}
+use borrow.Author.Needs.{needs}
+use lib.ListN.{length}
+use Rattle.run_vectors.proofs.rooms.scratch_same.Statement.{statement}
+use Rattle.run_vectors.proofs.rooms.scratch_same.Tie as tie
+
+abbrev Inv-loop : tie.InvT-loop
+Inv-loop scratch i₀ i = i ≤ length scratch
+
+abbrev μ-loop : tie.MeasureT-loop
+μ-loop scratch i₀ i = length scratch - i
+
+loop-holds : tie.Need-loop-holds Inv-loop μ-loop
+loop-holds c = search needs
+
+mul-if1 : tie.Need-mul-if1 Inv-loop μ-loop
+mul-if1 c = search needs
+
+shared-slice-copy-out-if1 : tie.Need-shared-slice-copy-out-if1 Inv-loop μ-loop
+shared-slice-copy-out-if1 c = search needs
+
+scratch-entry-requires : tie.Need-scratch-entry-requires Inv-loop μ-loop
+scratch-entry-requires c κs = tt
+
+returns : tie.Need-returns Inv-loop μ-loop
+returns c = tt
+
+add-i : tie.Need-add-i Inv-loop μ-loop
+add-i c = search needs
+
+loop-less : tie.Need-loop-less Inv-loop μ-loop
+loop-less c = search needs
+
+loop-again : tie.Need-loop-again Inv-loop μ-loop
+loop-again c = search needs
+
+returns-2 : tie.Need-returns-2 Inv-loop μ-loop
+returns-2 c = tt
+
+pub scratch-same-spec : {M : Type 1} → statement M
+scratch-same-spec =
+    tie.close
+    (tie.spec
+    Inv-loop
+    μ-loop
+    loop-holds
+    mul-if1
+    shared-slice-copy-out-if1
+    scratch-entry-requires
+    returns
+    add-i
+    loop-less
+    loop-again
+    returns-2)

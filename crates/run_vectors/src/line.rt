@@ -1,0 +1,70 @@
+// The line of a run. What no longer fits is left out.
+use crate::rooms::Left;
+use iteration::Report;
+use libc::STDOUT_FILENO;
+use text::put_byte;
+use text::put_number;
+use text::put_text;
+use text::put_value;
+
+// Puts a space and a value.
+fn put_entry(line: &mut [u8], at: usize, n: i32) -> usize {
+    let behind = put_byte(line, at, b' ');
+    put_value(line, behind, n)
+}
+
+// Puts values, each behind a space.
+fn put_values(line: &mut [u8], at: usize, values: &[i32]) -> usize {
+    let mut end = at;
+    let mut i: usize = 0;
+    while i < values.len() {
+        end = put_entry(line, end, values[i]);
+        i += 1;
+    }
+    end
+}
+
+// Puts what became of a room, and a space.
+fn put_left(line: &mut [u8], at: usize, left: Left) -> usize {
+    match left {
+        Left::Zero => put_text(line, at, b"zero "),
+        Left::Same => put_text(line, at, b"same "),
+        Left::Other => put_text(line, at, b"other "),
+    }
+}
+
+// Puts a number and a space.
+fn put_item(line: &mut [u8], at: usize, n: u64) -> usize {
+    let behind = put_number(line, at, n);
+    put_byte(line, behind, b' ')
+}
+
+// Puts the numbers of a report, each in front of a space.
+fn put_report(line: &mut [u8], report: Report) -> usize {
+    let a = put_item(line, 0, report.number as u64);
+    let b = put_item(line, a, report.place as u64);
+    let c = put_item(line, b, report.cell as u64);
+    let d = put_item(line, c, report.steps as u64);
+    put_item(line, d, report.count)
+}
+
+// Writes the front of a line to standard output, and says whether it could.
+fn write_front(line: &[u8], end: usize) -> bool {
+    if line.len() < end {
+        return false;
+    }
+    io::write_all(STDOUT_FILENO, &line[..end])
+}
+
+// Writes the line of a run to standard output, and says whether it could.
+pub fn write_run(report: Report, scratch: Left, marks: Left, grid: &[i32]) -> bool {
+    let mut room = io::large_buffer();
+    let line: &mut [u8] = &mut room;
+    let a = put_report(line, report);
+    let b = put_left(line, a, scratch);
+    let c = put_left(line, b, marks);
+    let d = put_byte(line, c, b':');
+    let e = put_values(line, d, grid);
+    let f = put_byte(line, e, b'\n');
+    write_front(line, f)
+}

@@ -1,0 +1,9 @@
+-- What evaluating one cell gives. Read in this order.
+pub mod Operators
+pub mod Evaluation
+pub mod Written
+-- What it is for a program to stand in the word table, and what its leaf table is.
+pub mod Stands
+pub mod Leaves
+-- The written indices, as they stand in the word table.
+pub mod Listing
