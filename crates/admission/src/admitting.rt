@@ -1,6 +1,6 @@
 // Whether a run is admitted.
 ghost use mathlib.Core.Path.{_≡_};
-ghost use Prim.Native.Nat.{_<_, _≤_};
+ghost use Prim.Native.Nat.{_<_};
 ghost use lib.ListN.{length};
 ghost use Rattle.stepper.specs.Fitting.{Sized};
 ghost use Rattle.admission.specs.Admitting.{Admits};

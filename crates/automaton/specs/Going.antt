@@ -1,9 +1,9 @@
 -- A run as a loop over its steps: what is done after k of n steps, and what is left. Each step is done under the marks of the open cells.
-use Prim.Native.Nat.{ℕ, zero, suc, _+_, _-_, _<_, _≤_}
+use Prim.Native.Nat.{ℕ, zero, suc, _+_, _-_, _<_}
 use native.Mathlib.Nat.{add-zero, zero-add, add-suc, add-assoc}
 use native.Mathlib.Omega.{arith}
 use mathlib.Core.Path.{_≡_, refl, sym, ap, ap₂, _∙_, fun-ext}
-use mathlib.Core.Bool.{Bool, true, false, _||_, true≢false}
+use mathlib.Core.Bool.{Bool, true, _||_, true≢false}
 use mathlib.Core.List.{List}
 use Rattle.automaton.specs.Step.{Fault, no-fault, fault-at, Automaton, any-of, changed, marks-of, how-many, Step, Run, every-cell, one-more, step-of, quiet-step, open-after, run-of, open-count, full-count}
 use Rattle.automaton.specs.Quiet.{Lawful, Keeps, quiet-step-agrees, keeps-after, run-go, run-stop, open-go, open-stop, full-go, full-stop}

@@ -8,7 +8,7 @@ use mathlib.Core.List.{List, [], _∷_, map, List·Memᴰ, List·Memᴰ·head, L
 use mathlib.Core.Bool.{Bool, true, false, cond}
 use borrow.Author.Tests.{ltb-true, ltb-false, lt-ltb, le-ltb}
 use lib.Dec.{ltb}
-use lib.ListN.{length}
+use lib.ListN.{length, getD}
 use Rattle.automaton.specs.Listed.{list-of, mem-list-of, of-mem-list-of}
 use lib.IntN.{ℤ, pos, negsuc, negℤ, negℤ-negℤ}
 use Rattle.value.specs.Number.{modZ}
@@ -24,6 +24,17 @@ Inside [] [] = Unit {0}
 Inside [] (i ∷ is) = ⊥
 Inside (n ∷ ns) [] = ⊥
 Inside (n ∷ ns) (i ∷ is) = (i < n) × Inside ns is
+
+-- there are as many coordinates as sizes
+pub inside-length : (ns is : List ℕ) → Inside ns is → length is ≡ length ns
+inside-length [] [] h = refl
+inside-length (n ∷ ns) (i ∷ is) h = ap suc (inside-length ns is (h .1))
+
+-- each is below its size
+pub inside-at : (ns is : List ℕ) → Inside ns is → (k : ℕ) → k < length ns → getD is k 0 < getD ns k 0
+inside-at [] [] h k l = absurd (omega arith)
+inside-at (n ∷ ns) (i ∷ is) h zero l = h .0
+inside-at (n ∷ ns) (i ∷ is) h (suc k) l = inside-at ns is (h .1) k (omega arith)
 
 -- No size is 0.
 abbrev pub Positive : List ℕ → Type 0

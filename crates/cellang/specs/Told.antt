@@ -13,12 +13,7 @@ use Rattle.services.specs.Services.{run-source}
 use Rattle.admission.specs.Admitting.{request-of}
 use Rattle.iteration.specs.declared.Report.{Report}
 use Rattle.runner.specs.Sourcewise.{RunsSource}
-
--- the first entries of a list replaced, as far as it has room; the others stay
-abbrev pub over : List ℕ → List ℕ → List ℕ
-over [] entries = entries
-over (n ∷ ns) [] = []
-over (n ∷ ns) (old ∷ entries) = n ∷ over ns entries
+use Rattle.entries.specs.Over.{over}
 
 -- ---- a check
 

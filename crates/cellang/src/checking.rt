@@ -1,5 +1,4 @@
 // A source checked.
-ghost use mathlib.Core.Path.{_≡_};
 ghost use lib.ListN.{length};
 ghost use Rattle.cellang.specs.Promises.{ChecksOver, ChecksRows};
 use crate::rows::stored;

@@ -1,7 +1,6 @@
 // The calls for programs in other languages: numbers and flat slices alone. Each tells its numbers in a slice, as far as it has room.
 
 mod checking;
-mod entries;
 mod running;
 
 pub use checking::cellang_check;

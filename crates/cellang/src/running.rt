@@ -1,5 +1,4 @@
 // A source run on a grid.
-ghost use mathlib.Core.Path.{_≡_};
 ghost use lib.ListN.{length};
 ghost use Rattle.stepper.specs.Report.{full, quiet};
 ghost use Rattle.services.specs.Services.{run-source};

@@ -10,7 +10,7 @@ fn main() {
     let mut names = [0u32; 1024];
     let reply = checker::check(&source[..n], &mut words, &mut names);
     let mut line = [0u8; 33];
-    let end = checker::write_line(reply.number, reply.place, &mut line);
+    let end = reply_line::write_line(reply.number, reply.place, &mut line);
     let written = io::count(end as isize, &line);
     io::write_all(STDOUT_FILENO, &line[..written]);
 }

@@ -1,3 +1,2 @@
--- What checking a source and writing its line promise.
-pub mod Line
+-- What checking a source promises.
 pub mod Promises

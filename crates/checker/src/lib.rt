@@ -1,7 +1,7 @@
-// Checking a source: the core call, and the line that tells its reply.
+// Checking a source: the core call.
 ghost use mathlib.Core.Path.{_≡_};
 ghost use Prim.Native.Nat.{_≤_};
-ghost use lib.ListN.{length, replicate};
+ghost use lib.ListN.{length};
 ghost use Rattle.token.specs.Scanning.{most-tokens, table-words};
 ghost use Rattle.names.specs.Names.{most-names, name-words};
 ghost use Rattle.grammar.specs.Source.{has-kind, sized};
@@ -10,14 +10,12 @@ use names::write_value;
 use program::word_at;
 
 mod checking;
-mod line;
 
 pub use checking::Loaded;
 pub use checking::Outline;
 pub use checking::Reply;
 pub use checking::check;
 pub use checking::load;
-pub use line::write_line;
 
 // Whether one of n tokens of a table is of the kind.
 pub fn has_kind(words: &[u32], n: usize, kind: u32) -> bool

@@ -1,10 +1,10 @@
 -- Negatives, ranges and words: one law for each way through the code. Assumes nothing.
-use Prim.Native.Nat.{ℕ, _+_, _-_, _≤_, _<_}
+use Prim.Native.Nat.{ℕ, _-_, _≤_, _<_}
 use native.Mathlib.Omega.{arith}
 use mathlib.Core.Path.{_≡_, refl, sym, ap, _∙_}
 use mathlib.Core.List.{List}
-use mathlib.Core.Bool.{Bool, true, false, cond, _&&_}
-use lib.Dec.{ltb, leb}
+use mathlib.Core.Bool.{Bool, true, false, cond}
+use lib.Dec.{leb}
 use lib.IntN.{ℤ, pos, negℤ}
 use borrow.Author.Tests.{lt-ltb, le-ltb}
 use Rattle.value.specs.Number.{in-range, within}
@@ -18,7 +18,7 @@ use Rattle.grammar.specs.Constants.{negated}
 use Rattle.reader.specs.Reading.{number, Passes, refusal, Carries}
 use Rattle.reader.specs.declared.Reading.{Reading}
 use Rattle.reader.specs.declared.Read.{Read}
-use Rattle.reader.specs.declared.Read.the-variants.{Next, Refused}
+use Rattle.reader.specs.declared.Read.the-variants.{Next}
 use Rattle.reader.proofs.Steps.{so, other, carried, refused-last}
 use Rattle.reader.proofs.Going.{nowhere, goes-on}
 use Rattle.constants.specs.Fitting.{fits-of}

@@ -16,7 +16,7 @@ use Rattle.token.specs.Kind.{kind}
 use Rattle.program.specs.Syntax.{Range, no-range}
 use Rattle.program.specs.Table.{range-at}
 use Rattle.program.specs.Standing.{Stands}
-use Rattle.grammar.specs.Reader.{ok, _>>=_, _>>_, _▷_, Turn, again, repeat, turns, is-kind, advance}
+use Rattle.grammar.specs.Reader.{_>>=_, ok, _>>_, _▷_, Turn, again, repeat, turns, is-kind, advance}
 use Rattle.grammar.specs.Source.{with-ranges, put-ranges, read-group, field-turn, group-turn}
 use Rattle.reader.specs.Reading.{state, Gives, moved-of, carrying, Carries}
 use Rattle.reader.specs.declared.Reading.{Reading}

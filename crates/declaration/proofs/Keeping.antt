@@ -18,7 +18,7 @@ use Rattle.token.specs.Kind.{kind}
 use Rattle.names.specs.Names.{name-kind, is, find-name}
 use Rattle.program.specs.Syntax.{Range, range}
 use Rattle.program.specs.Table.{with-word}
-use Rattle.grammar.specs.Reader.{Input, State, Result, ok, fail, Reader, and-then, _>>=_, _>>_, return, refuse, refuse-last, is-kind, next-token, position, advance, put, expect-or, is-name, on-slot, by-name, entry-in, use-name}
+use Rattle.grammar.specs.Reader.{Input, State, Result, ok, fail, Reader, and-then, _>>=_, return, refuse, refuse-last, is-kind, next-token, position, advance, put, expect-or, is-name, on-slot, by-name, entry-in, use-name}
 use Rattle.grammar.specs.Constants.{named-constant, read-constant, negated, read-signed, read-range}
 use Rattle.reader.specs.Reading.{input, state, Gives}
 use Rattle.reader.specs.declared.Reading.{Reading}

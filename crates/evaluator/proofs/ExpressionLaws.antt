@@ -3,20 +3,17 @@ use Prim.Native.Nat.{ℕ, zero, suc, _+_, _≤_, _<_}
 use native.Mathlib.Decide.{decLt}
 use native.Mathlib.Omega.{arith}
 use mathlib.Core.Path.{_≡_, refl, sym, ap, _∙_, subst}
-use mathlib.Core.Bool.{Bool, true, false, _||_}
+use mathlib.Core.Bool.{Bool, true, false}
 use mathlib.Core.List.{List}
-use lib.Dec.{eqb}
 use lib.IntN.{ℤ}
-use borrow.Author.Tests.{lt-ltb, le-ltb, eqb-true}
 use Rattle.token.specs.Kind.{level-of}
-use Rattle.value.specs.Choice.{if_then_else_}
 use Rattle.value.specs.Worked.{value}
 use Rattle.value.specs.declared.Value.{Value}
 use Rattle.program.specs.Syntax.{Expr, element, unary, binary}
 use Rattle.semantics.specs.Operators.{Worth, worth, failed, placed, apply-unary, compare, apply-binary}
 use Rattle.semantics.specs.Evaluation.{Env, element-at, eval}
-use Rattle.semantics.specs.Stands.{Table, array-in, is-sign, is-unary, Decoded, parsed, nothing, and-then, decode-expression, decode-chain, decode-operand, decode-primary, decode-name, decode-bracket}
-use Rattle.operands.specs.Working.{told-of, Onward, primary-from, EvalsExpression, EvalsOperand, EvalsPrimary, EvalsName, EvalsPlain, EvalsBracket, Leaf, Quick, Joins}
+use Rattle.semantics.specs.Stands.{Table, array-in, is-unary, parsed, decode-expression, decode-chain, decode-operand, decode-primary, decode-bracket}
+use Rattle.operands.specs.Working.{told-of, Onward, primary-from, EvalsExpression, EvalsOperand, EvalsPrimary, EvalsBracket, Leaf, Quick, Joins}
 use Rattle.operands.specs.declared.Told.{Told}
 use Rattle.operands.specs.declared.Told.the-variants.{Found, Failed}
 use Rattle.operands.proofs.OperatorLaws.{level-some, told-compare}

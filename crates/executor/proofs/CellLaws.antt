@@ -6,7 +6,6 @@ use mathlib.Core.List.{List, [], _∷_, _++_}
 use lib.ListN.{length, set, take, replicate}
 use lib.Seq.{take-suc-set}
 use lib.IntN.{ℤ, pos}
-use Rattle.automaton.specs.Step as Step
 use Rattle.automaton.specs.Shape.{neighbour}
 use Rattle.automaton.specs.Grid.{cell-of}
 use Rattle.program.specs.Syntax.{Range, Program}

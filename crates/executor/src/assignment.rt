@@ -3,7 +3,6 @@ ghost use mathlib.Core.Path.{_≡_};
 ghost use Prim.Native.Nat.{_*_, _<_, _≤_};
 ghost use lib.ListN.{length, set, take};
 ghost use Rattle.value.specs.Worked.{truth};
-ghost use Rattle.program.specs.Syntax.{no-range};
 ghost use Rattle.semantics.specs.Evaluation.{in-field};
 ghost use Rattle.semantics.specs.Stands.{first-clause};
 ghost use Rattle.operands.specs.Working.{site-table, env-of, Ready, EvalsExpression, Quick};

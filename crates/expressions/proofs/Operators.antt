@@ -12,7 +12,7 @@ use Rattle.token.specs.declared.Token.{Token}
 use Rattle.token.specs.Scanning.{token-in}
 use Rattle.program.specs.Syntax.{Expr}
 use Rattle.program.specs.Standing.{Stands}
-use Rattle.grammar.specs.Reader.{Result, ok, fail, Input, State, Reader, and-then, _>>=_, return, next-token, Turn, done, turned, repeat, turns}
+use Rattle.grammar.specs.Reader.{_>>=_, Result, ok, fail, Input, State, Reader, and-then, return, next-token, Turn, done, turned, repeat, turns}
 use Rattle.grammar.specs.Expressions.{Left, left, read-right, operator-turn, climb}
 use Rattle.reader.specs.declared.Reading.{Reading}
 use Rattle.reader.specs.declared.Read.{Read}

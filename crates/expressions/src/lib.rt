@@ -3,7 +3,6 @@ ghost use mathlib.Core.Path.{_≡_};
 ghost use mathlib.Core.List.{List};
 ghost use Prim.Native.Nat.{ℕ, _≤_, _<_};
 ghost use lib.ListN.{length};
-ghost use Rattle.token.specs.Kind.{level-of};
 ghost use Rattle.token.specs.Scanning.{most-tokens, table-words};
 ghost use Rattle.token.specs.declared.Token.{Token};
 ghost use Rattle.names.specs.declared.Entry.{Entry};

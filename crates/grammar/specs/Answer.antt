@@ -1,5 +1,5 @@
 -- The line that the program writes for a checked source: `accepted`, or for example `refused 8 at 26`, and a line feed.
-use mathlib.Core.Bool.{Bool, true, false}
+use mathlib.Core.Bool.{true, false}
 use mathlib.Core.List.{List, [], _∷_, _++_}
 use Prim.Native.Nat.{ℕ, zero, suc, _+_, _/_, _%_}
 use lib.Dec.{eqb, ltb}

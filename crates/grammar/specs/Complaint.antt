@@ -1,5 +1,5 @@
 -- Complaints, and how the reply is chosen among them: the smallest place wins, then the lowest number.
-use mathlib.Core.Bool.{Bool, true, false, _&&_, _||_}
+use mathlib.Core.Bool.{Bool, _&&_, _||_}
 use Prim.Native.Nat.{ℕ, min}
 use lib.Dec.{eqb, leb, ltb}
 use Rattle.value.specs.Choice.{if_then_else_}

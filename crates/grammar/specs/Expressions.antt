@@ -13,7 +13,7 @@ use Rattle.names.specs.declared.Entry.{Entry}
 use Rattle.names.specs.Names.{name-kind, is}
 use Rattle.program.specs.Syntax.{Index, fixed, moving, Expr, number, time, variable, index, field, element, unary, binary}
 use Rattle.program.specs.Table.{word-at}
-use Rattle.grammar.specs.Reader.{State, Reader, _>>=_, _>>_, _<<_, _▷_, return, Turn, again, done, repeat, turns, get-state, refuse, note, is-kind, next-token, position, advance, put, put-both, expect, expect-or, forbid, opening, is-name, by-name, entry-in, reference, use-name}
+use Rattle.grammar.specs.Reader.{Reader, _>>=_, _>>_, _<<_, _▷_, return, Turn, again, done, repeat, turns, get-state, refuse, note, is-kind, next-token, position, advance, put, put-both, expect, expect-or, forbid, opening, is-name, by-name, entry-in, reference, use-name}
 use Rattle.grammar.specs.Constants.{is-sign, read-signed}
 
 -- what the cell declaration says of a cell: how many dimensions there are, and whether its fields are named

@@ -3,7 +3,7 @@
 -- Nearly every rule complains at the token that reading stands at, so that the first complaint met is the reply. Two rules speak of the
 -- token after something (an array constant without `[`, and too few values of an array): their complaint is noted and reading goes on;
 -- what is complained of at that very token with a lower number goes before it.
-use mathlib.Core.Bool.{Bool, true, false, not, _&&_, _||_}
+use mathlib.Core.Bool.{Bool, false, not, _||_}
 use mathlib.Core.List.{List}
 use mathlib.Core.Option.{Option, none, some}
 use Prim.Native.Nat.{ℕ, zero, suc, _+_, _-_}

@@ -1,6 +1,6 @@
 -- The whole source: constants, one cell declaration, statements.
 use mathlib.Core.Bool.{Bool, true, false, not, _&&_, _||_}
-use mathlib.Core.List.{List, [], _∷_, _++_}
+use mathlib.Core.List.{List, [], _++_}
 use Prim.Native.Nat.{ℕ, zero, suc, _+_, _-_}
 use lib.ListN.{length, replicate}
 use lib.Dec.{eqb, leb, ltb}
@@ -15,7 +15,7 @@ use Rattle.names.specs.Names.{name-kind, name-words, is, entry-at, with-value}
 use Rattle.program.specs.Syntax.{Range, Block, Program}
 use Rattle.program.specs.Table.{word-at, with-range}
 use Rattle.grammar.specs.Complaint.{no-complaint}
-use Rattle.grammar.specs.Reader.{Input, State, Result, ok, fail, Reader, _>>=_, _>>_, _▷_, return, unit, and-then, Turn, again, done, repeat, turns, get-state, refuse-with, refuse, refuse-last, is-kind, next-token, token-after, position, advance, expect, forbid, is-name, declare, fresh, token-of}
+use Rattle.grammar.specs.Reader.{Input, State, Result, ok, fail, Reader, _>>=_, _>>_, _▷_, return, Turn, again, done, repeat, turns, refuse-with, refuse, refuse-last, is-kind, next-token, token-after, position, advance, expect, forbid, is-name, declare, fresh, token-of}
 use Rattle.grammar.specs.Constants.{is-sign, read-constant, any-range, read-constants}
 use Rattle.grammar.specs.Expressions.{Cell}
 use Rattle.grammar.specs.Statements.{read-block}

@@ -1,5 +1,5 @@
 -- The loop over the steps of a run: how it begins, goes on and ends.
-use Prim.Native.Nat.{ℕ, zero, suc, _+_, _-_, _*_, _<_, _≤_}
+use Prim.Native.Nat.{ℕ, zero, suc, _+_, _*_, _<_, _≤_}
 use native.Mathlib.Numerals.{add-one}
 use native.Mathlib.Omega.{arith}
 use mathlib.Core.Path.{_≡_, refl, sym, ap, ap₂, _∙_, subst, fun-ext}
@@ -11,7 +11,7 @@ use lib.IntN.{ℤ}
 use borrow.Author.Tests.{not-true, not-false}
 use Rattle.value.specs.Laws.{never}
 use Rattle.automaton.specs.Listed.{list-of, length-list-of, getD-list-of, list-of-ext}
-use Rattle.automaton.specs.Step.{Fault, no-fault, fault-at, any-of, how-many, marks-of, non-zero, marked, Run, every-cell, quiet-step, changed, open-after, run-of, open-count}
+use Rattle.automaton.specs.Step.{Fault, any-of, marks-of, non-zero, marked, Run, every-cell, changed, open-after}
 use Rattle.automaton.specs.Quiet.{marked-marks-of, any-of-false}
 use Rattle.automaton.specs.Shape.{product, Bound, neighbour, reach-of, box-indices}
 use Rattle.automaton.specs.ShapeLaws.{Positive, Alike, alike-length, neighbour-lt, box-alike, own-in-reach}
@@ -21,20 +21,17 @@ use Rattle.automaton.specs.Going.{Going, going-start, going-on, going-stop, goi
 use Rattle.program.specs.Syntax.{Program}
 use Rattle.semantics.specs.declared.Rule.{Rule}
 use Rattle.semantics.specs.Leaves.{Leaves}
-use Rattle.semantics.specs.Stands.{Holds}
 use Rattle.stepper.specs.declared.Reach.{Reach}
 use Rattle.stepper.specs.Reach.{reach, running}
-use Rattle.stepper.specs.Report as report
 use Rattle.stepper.specs.Report.{ended}
 use Rattle.stepper.specs.Locality.{running-lawful}
 use Rattle.stepper.specs.Fitting.{held-fields, Shaped, bounds-of, bound-at}
 use Rattle.stepping.specs.declared.Step.{Step}
 use Rattle.stepping.specs.declared.Step.the-variants as Gives
 use Rattle.stepping.specs.Stepping as stepping
-use Rattle.stepping.specs.Stepping.{fault-in, count-in, Stepped}
+use Rattle.stepping.specs.Stepping.{Stepped}
 use Rattle.marking.specs.Opened as marking
 use Rattle.marking.specs.Opened.{opened, open-is}
-use Rattle.iteration.specs.declared.Report.{Report}
 use Rattle.iteration.specs.Stepwise.{Begins, Runs, Renewed, Underway, told, steps-report, Ran}
 
 -- ---- marks

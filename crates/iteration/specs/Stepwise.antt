@@ -1,11 +1,11 @@
 -- What the loop over the steps of a run promises.
 use mathlib.Core.Path.{_≡_}
-use mathlib.Core.Bool.{Bool, true, false, cond}
+use mathlib.Core.Bool.{Bool, true, cond}
 use mathlib.Core.List.{List}
 use Prim.Native.Nat.{ℕ, _+_, _*_, _<_, _≤_}
 use lib.ListN.{length, getD}
 use lib.IntN.{ℤ}
-use Rattle.automaton.specs.Step.{Run, every-cell, marks-of, run-of, open-count}
+use Rattle.automaton.specs.Step.{every-cell, marks-of, run-of, open-count}
 use Rattle.automaton.specs.Shape.{product}
 use Rattle.automaton.specs.Grid.{cell-of}
 use Rattle.automaton.specs.Going.{Going}

@@ -1,15 +1,13 @@
 // The steps of a run.
-ghost use mathlib.Core.Path.{_≡_};
-ghost use lib.ListN.{length};
 ghost use Rattle.marking.specs.Opened as marking;
 ghost use Rattle.iteration.specs.Stepwise.{Begins, Renewed, Ran};
 use crate::Report;
 use leaf_table::fill_leaves;
+use marked_cells::rooms::mark_all;
 use marking::mark_open;
 use semantics::Rule;
 use stepper::Reach;
 use stepping::Step;
-use stepping::rooms::mark_all;
 use stepping::steps::step;
 
 // The marks for the next step: all cells stay open, or those are marked that the last step opened. `old` holds the fields before it.

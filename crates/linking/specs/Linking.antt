@@ -14,7 +14,7 @@ use Rattle.automaton.specs.Listed.{length-list-of, getD-list-of}
 use Rattle.token.specs.declared.Token.{Token}
 use Rattle.token.specs.Kind.{kind}
 use Rattle.token.specs.Lexeme.{find-kind, keywords}
-use Rattle.token.specs.Scanning.{scan, scan-of, token-words, scanned-words}
+use Rattle.token.specs.Scanning.{scan, token-words, scanned-words}
 use Rattle.names.specs.Names.{letters}
 use mathlib.Core.Option.{Option}
 use Rattle.program.specs.Syntax.{range, no-range, Expr, Clause, Block}

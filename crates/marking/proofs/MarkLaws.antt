@@ -16,7 +16,7 @@ use Rattle.value.specs.Laws.{eqZ-true}
 use Rattle.automaton.specs.Listed.{getD-list-of, list-of-ext, last-or-below}
 use Rattle.automaton.specs.Grid.{cell-of, differ}
 use Rattle.automaton.specs.GridLaws.{differ-false}
-use Rattle.skipping.specs.Clear.{Clear}
+use Rattle.marked_cells.specs.Clear.{Clear}
 use Rattle.marking.specs.Noting.{NextOdd, Halved}
 
 -- ---- cells that changed

@@ -3,14 +3,13 @@ use Prim.Native.Nat.{ℕ, suc, _+_, _*_, _/_, _%_, _≤_, _<_}
 use native.Mathlib.Nat.{mod-lt, mul-le-mul}
 use native.Mathlib.Omega.{arith}
 use mathlib.Core.Path.{_≡_, refl, sym, ap, _∙_, subst}
-use mathlib.Core.Bool.{Bool, true, false, cond, _||_, true≢false}
-use mathlib.Core.Logic.{_⊎_, inl, inr}
-use mathlib.Core.List.{List, [], _∷_, List·Memᴰ, List·Memᴰ·head, List·Memᴰ·tail, List·Memᴰ·not-nil, Memᴰ·of-map}
+use mathlib.Core.Bool.{Bool, true, false, cond, true≢false}
+use mathlib.Core.List.{List, [], List·Memᴰ, List·Memᴰ·not-nil, Memᴰ·of-map}
 use lib.ListN.{length, getD}
 use lib.Seq.{ext-getD}
 use lib.IntN.{ℤ}
 use Rattle.automaton.specs.Listed.{length-list-of, getD-list-of}
-use Rattle.automaton.specs.Step.{any-of, marks-of}
+use Rattle.automaton.specs.Step.{marks-of}
 use Rattle.automaton.specs.Quiet.{any-of-false, any-of-true}
 use Rattle.automaton.specs.Shape.{product, neighbour, Bound, box-indices, reach-of}
 use Rattle.automaton.specs.ShapeLaws.{Alike, alike-length, neighbour-lt, box-alike}

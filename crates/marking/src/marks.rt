@@ -7,7 +7,7 @@ ghost use lib.IntN.{pos};
 ghost use Rattle.value.specs.Number.{eqZ};
 ghost use Rattle.automaton.specs.Grid.{cell-of, differ};
 ghost use Rattle.marking.specs.Noting.{NextOdd, Halved};
-use skipping::skip_clear;
+use marked_cells::skipping::skip_clear;
 
 // Whether two grids differ in an entry.
 fn entry_differs(old: &[i32], grid: &[i32], i: usize) -> bool

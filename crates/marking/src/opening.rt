@@ -4,7 +4,7 @@ ghost use Prim.Native.Nat.{suc, _+_, _-_, _*_, _%_, _<_, _≤_, min};
 ghost use lib.ListN.{length, getD};
 ghost use Rattle.automaton.specs.Shape.{product};
 ghost use Rattle.stepper.specs.Fitting.{bound-at};
-ghost use Rattle.marking.specs.Noting.{note-all, rows, line, lines, box-cells, opened-from, opened-count, cells-opened, Boxed, Shaped, Firsts, Counts};
+ghost use Rattle.marking.specs.Noting.{note-all, rows, line, lines, box-cells, cells-opened, Boxed, Shaped, Firsts, Counts};
 use stepper::Reach;
 
 fn wide(x: u32) -> usize

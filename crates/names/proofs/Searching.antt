@@ -1,12 +1,11 @@
 -- Which names are seen, and the search for one: one law for each way through the code. Assumes nothing.
-use Prim.Native.Nat.{ℕ, zero, suc, _+_, _-_, _≤_, _<_}
+use Prim.Native.Nat.{ℕ, suc, _+_, _-_, _≤_, _<_}
 use native.Mathlib.Omega.{arith}
 use native.Mathlib.Nat.{sub-zero}
 use mathlib.Core.Path.{_≡_, refl, sym, ap, _∙_}
-use mathlib.Core.List.{List, [], _∷_}
+use mathlib.Core.List.{List}
 use mathlib.Core.Bool.{Bool, true, false, not, _&&_}
-use mathlib.Core.Option.{Option, none, some}
-use lib.ListN.{getD}
+use mathlib.Core.Option.{none, some}
 use lib.Dec.{eqb}
 use borrow.Author.Tests.{ne-eqb}
 use Rattle.value.specs.Choice.{if_then_else_}
@@ -14,7 +13,6 @@ use Rattle.token.specs.Bytes.{same}
 use Rattle.names.specs.Names.{entry-at, entries-from, is-field, is-visible, in-space, letters, find, find-name}
 use Rattle.names.specs.Finding.{match-of, Matches, found-of, Finds}
 use Rattle.names.specs.declared.Entry.{Entry}
-use Rattle.names.specs.declared.Found.{Found}
 use Rattle.names.specs.declared.Found.the-variants.{At, Missing}
 use Rattle.names.proofs.Spelling.{unlike}
 

@@ -1,6 +1,5 @@
 // The name list on flat words: four words a name, in order of declaration.
 ghost use mathlib.Core.Path.{_≡_};
-ghost use mathlib.Core.Bool.{_&&_};
 ghost use Prim.Native.Nat.{_<_, _≤_};
 ghost use lib.ListN.{length, getD};
 ghost use Rattle.token.specs.Bytes.{fold, same};

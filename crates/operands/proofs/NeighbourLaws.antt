@@ -18,7 +18,7 @@ use Rattle.value.specs.Number.{modZ}
 use Rattle.value.specs.Laws.{sub-le, sub-lt}
 use Rattle.automaton.specs.Listed.{length-list-of, getD-list-of}
 use Rattle.automaton.specs.Shape.{product, cell-number, shift}
-use Rattle.automaton.specs.ShapeLaws.{Inside, Positive, Alike, product-pos, number-lt, shift-inside}
+use Rattle.automaton.specs.ShapeLaws.{inside-length, Inside, Positive, Alike, product-pos, number-lt, shift-inside}
 use Rattle.automaton.specs.Grid.{cell-of}
 use Rattle.program.specs.Syntax.{Index, fixed, moving}
 use Rattle.semantics.specs.Evaluation.{entry, offset, offsets}
@@ -119,15 +119,6 @@ module _ (t : Table) (at : ℕ) {k : ℕ} {b : Bool} (ek : k ≡ t .kind at) (eb
   after-other h = (sym (simp (← ek, ← eb, h)), omega arith)
 
 -- ---- the number of a neighbour, one dimension after the other
-
-pub inside-length : (ns is : List ℕ) → Inside ns is → length is ≡ length ns
-inside-length [] [] h = refl
-inside-length (n ∷ ns) (i ∷ is) h = ap suc (inside-length ns is (h .1))
-
-pub inside-at : (ns is : List ℕ) → Inside ns is → (k : ℕ) → k < length ns → getD is k 0 < getD ns k 0
-inside-at [] [] h k l = absurd (omega arith)
-inside-at (n ∷ ns) (i ∷ is) h zero l = h .0
-inside-at (n ∷ ns) (i ∷ is) h (suc k) l = inside-at ns is (h .1) k (omega arith)
 
 some-left : (ns is : List ℕ) → Inside ns is → (k : ℕ) → 0 < product (drop k ns)
 some-left [] [] h zero = omega arith

@@ -15,7 +15,7 @@ use Rattle.value.specs.declared.Value.{Value}
 use Rattle.value.specs.Laws.{wrap-below}
 use Rattle.value.specs.Number.{modZ}
 use Rattle.automaton.specs.Shape.{product, cell-number, shift, neighbour}
-use Rattle.automaton.specs.ShapeLaws.{Inside, wrap-mod}
+use Rattle.automaton.specs.ShapeLaws.{inside-at, Inside, wrap-mod}
 use Rattle.automaton.specs.Grid.{cell-of}
 use Rattle.program.specs.Syntax.{Expr, number, variable, field}
 use Rattle.semantics.specs.Operators.{worth}
@@ -28,7 +28,7 @@ use Rattle.operands.specs.declared.Told.{Told}
 use Rattle.operands.specs.declared.Told.the-variants.{Found, Failed}
 use Rattle.operands.proofs.TableLaws.{token}
 use Rattle.operands.proofs.OperatorLaws.{level-some}
-use Rattle.operands.proofs.NeighbourLaws.{Steps, steps-start, steps-more, steps-done, number-small, total-small, inside-at, front-entry}
+use Rattle.operands.proofs.NeighbourLaws.{Steps, steps-start, steps-more, steps-done, number-small, total-small, front-entry}
 use Rattle.automaton.specs.GridLaws.{cell-room}
 use Rattle.operands.proofs.PrimaryLaws.{ready-inside, neighbour-is, own-is, as-value}
 

@@ -7,7 +7,6 @@ use lib.Dec.{eqb}
 use lib.IntN.{ℤ}
 use borrow.Author.Tests.{ne-eqb}
 use Rattle.token.specs.Kind.{level-of}
-use Rattle.value.specs.Choice.{if_then_else_}
 use Rattle.value.specs.Worked.{add-of, equal-of}
 use Rattle.value.specs.declared.Value.{Value}
 use Rattle.value.specs.declared.Worked.{Worked}

@@ -1,6 +1,5 @@
 -- The laws of primaries, one for each way that their evaluators go.
-use Prim.Native.Nat.{ℕ, zero, suc, _+_, _-_, _*_, _≤_, _<_}
-use native.Mathlib.Nat.{mul-le-mul-right}
+use Prim.Native.Nat.{ℕ, zero, suc, _+_, _≤_, _<_}
 use native.Mathlib.Omega.{arith}
 use mathlib.Core.Path.{_≡_, refl, sym, ap, _∙_}
 use mathlib.Core.Bool.{true, false}
@@ -18,7 +17,7 @@ use Rattle.automaton.specs.Grid.{cell-of}
 use Rattle.program.specs.Syntax.{Expr, number, time, variable, index, field}
 use Rattle.semantics.specs.Operators.{Worth, worth}
 use Rattle.semantics.specs.Evaluation.{Env, entry, offsets, element-at, eval}
-use Rattle.semantics.specs.Stands.{Table, indices-in, values-in, array-in, parsed, nothing, decode-primary, decode-name}
+use Rattle.semantics.specs.Stands.{Table, indices-in, values-in, array-in, parsed, decode-primary, decode-name}
 use Rattle.operands.specs.Working.{Ready, told-of, EvalsName, EvalsPlain}
 use Rattle.operands.specs.declared.Site.{Site}
 use Rattle.operands.specs.declared.Told.the-variants.{Found, Failed}

@@ -8,16 +8,15 @@ use mathlib.Core.Option.{Option, none, some}
 use Rattle.value.specs.Choice.{if_then_else_}
 use Rattle.token.specs.declared.Scan.{Scan}
 use Rattle.token.specs.declared.Token.{Token}
-use Rattle.token.specs.Scanning.{token-in}
 use Rattle.names.specs.declared.Entry.{Entry}
 use Rattle.names.specs.declared.Found.{Found}
 use Rattle.names.specs.declared.Found.the-variants.{At, Missing}
-use Rattle.names.specs.Names.{entry-at, with-entry, with-value, find-name}
+use Rattle.names.specs.Names.{entry-at, with-value, find-name}
 use Rattle.names.specs.Finding.{found-of, Below, Finds}
 use Rattle.program.specs.Table.{with-word}
 use Rattle.program.specs.Standing.{Stands}
-use Rattle.grammar.specs.Reader.{Result, ok, fail, Input, State, Reader, and-then, _>>=_, _>>_, _▷_, return, unit, get-state, refuse, refuse-last, note, next-token, token-after, position, advance, put, on-slot, by-name, entry-in, declare, revalue, reference, use-name}
-use Rattle.reader.specs.Reading.{input, noted-in, state, exactly, anything, word, only, Told, Gives, refusal, moved-of, Moved, carrying, Carries, Noted, declared-of, entry-of, Declares, Uses}
+use Rattle.grammar.specs.Reader.{Result, ok, fail, Input, State, Reader, and-then, _>>=_, _▷_, return, unit, get-state, refuse, refuse-last, note, next-token, token-after, position, advance, put, on-slot, by-name, entry-in, declare, revalue, reference, use-name}
+use Rattle.reader.specs.Reading.{input, state, exactly, anything, word, only, Told, Gives, refusal, moved-of, Moved, Carries, Noted, declared-of, Declares, Uses}
 use Rattle.reader.specs.declared.Reading.{Reading}
 use Rattle.reader.specs.declared.Read.{Read}
 use Rattle.reader.specs.declared.Read.the-variants.{Next, Refused}

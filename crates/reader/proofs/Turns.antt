@@ -1,7 +1,7 @@
 -- The laws of repeated readers. Assumes nothing.
 use Prim.Native.Nat.{ℕ, zero, suc, _+_, _≤_, _<_}
 use native.Mathlib.Omega.{arith}
-use mathlib.Core.Path.{_≡_, refl, sym, ap, _∙_}
+use mathlib.Core.Path.{_≡_, refl, ap, _∙_}
 use mathlib.Core.List.{List}
 use Rattle.token.specs.declared.Scan.{Scan}
 use Rattle.grammar.specs.Reader.{ok, Reader, _>>=_, Turn, again, done, turned, repeat, turns}

@@ -11,7 +11,7 @@ use Rattle.token.specs.declared.Token.{Token}
 use Rattle.token.specs.declared.Scan.{Scan}
 use Rattle.token.specs.Scanning.{most-tokens, table-words, token-in}
 use Rattle.names.specs.declared.Entry.{Entry}
-use Rattle.names.specs.Names.{most-names, name-words, with-entry, with-value}
+use Rattle.names.specs.Names.{most-names, name-words, with-entry}
 use Rattle.program.specs.Syntax as syntax
 use Rattle.program.specs.Syntax.{Range}
 use Rattle.program.specs.Table.{with-word}

@@ -1,10 +1,9 @@
 // The steps from which the readers of the code are put together: each is the reader of the same name in the grammar's definition.
 ghost use mathlib.Core.Path.{_≡_};
-ghost use mathlib.Core.List.{List};
-ghost use Prim.Native.Nat.{ℕ, _≤_, _<_};
+ghost use Prim.Native.Nat.{_≤_, _<_};
 ghost use lib.ListN.{length};
 ghost use Rattle.token.specs.Scanning.{most-tokens, table-words};
-ghost use Rattle.names.specs.Names.{most-names, name-words, with-value};
+ghost use Rattle.names.specs.Names.{most-names, name-words};
 ghost use Rattle.grammar.specs.Complaint.{complaint, broken};
 ghost use Rattle.grammar.specs.Reader.{expect-or, forbid, opening, fresh, reference};
 ghost use Rattle.reader.specs.Reading.{anything, passed, Ready, Reads, Passes, first-refused, refusal, Moved, Carries, Noted, Named, Declares, Uses};
@@ -12,7 +11,6 @@ use names::Entry;
 use names::Found;
 use names::find_name;
 use names::write_entry;
-use names::write_value;
 use program::put_word;
 use program::token_at;
 use token::Scan;

@@ -1,3 +1,2 @@
--- The laws by which the functions are proved, by topic.
-pub mod RoomLaws
-pub mod RunLaws
+-- The laws by which the functions are proved.
+mod RunLaws

@@ -1,3 +1,2 @@
 -- What the functions promise.
-pub mod Rooms
 pub mod Runs

@@ -5,22 +5,19 @@
 ghost use lib.ListN.{length};
 ghost use Rattle.run_rule.specs.Runs.{Runs};
 
-mod arguments;
-mod grids;
-mod numbers;
-mod places;
-mod replies;
 mod reports;
-mod rooms;
 mod rows;
-mod shapes;
-mod texts;
 
-use arguments::Order;
-use arguments::Orders;
+use console::arguments;
+use console::arguments::Order;
+use console::arguments::Orders;
+use console::grids;
+use console::rooms;
+use console::shapes;
+use console::texts;
+use console::texts::Text;
 use iteration::Report;
 use rows::write_grid;
-use texts::Text;
 
 // A run of a source on a grid, as it was asked for. The report and the grid that is left are those of the definition.
 fn run(

@@ -1,12 +1,12 @@
 // The report of a run in words.
-use crate::places::position_of;
-use crate::places::quotient;
-use crate::places::remainder;
-use crate::places::say_cell;
-use crate::replies::say_meaning;
-use crate::shapes::fields_of;
-use crate::texts::say;
-use crate::texts::say_number;
+use console::places::position_of;
+use console::places::quotient;
+use console::places::remainder;
+use console::places::say_cell;
+use console::replies::say_meaning;
+use console::shapes::fields_of;
+use console::texts::say;
+use console::texts::say_number;
 use iteration::Report;
 
 fn wide(n: u32) -> u64 {

@@ -1,5 +1,5 @@
 // A grid that is written as text: a line for each row.
-use crate::texts::open_output;
+use console::texts::open_output;
 use text::put_byte;
 use text::put_value;
 

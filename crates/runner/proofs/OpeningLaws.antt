@@ -1,30 +1,29 @@
 -- The beginning of a run: what is known of a source that is read, and of a run that is admitted.
-use Prim.Native.Nat.{ℕ, _+_, _*_, _<_, _≤_}
+use Prim.Native.Nat.{ℕ, _+_, _<_, _≤_}
 use native.Mathlib.Omega.{arith}
 use mathlib.Core.Path.{_≡_, refl, sym, ap, ap₂, _∙_, subst, subst₂}
 use mathlib.Core.Bool.{Bool, true, false, not}
-use mathlib.Core.List.{List, []}
+use mathlib.Core.List.{List}
 use lib.ListN.{length}
-use lib.Dec.{eqb}
-use lib.IntN.{ℤ, pos, natAbs}
+use lib.IntN.{ℤ}
 use mir.Syntax.{w64}
 use mir.Val.{SFits, toZ, ofZ}
 use mir.Facts.{toZ-ofZ}
-use borrow.Author.Tests.{not-true, not-false, eq-eqb, ne-eqb}
+use borrow.Author.Tests.{not-true, not-false, ne-eqb}
 use Rattle.value.specs.Laws.{never}
 use Rattle.token.specs.Scanning.{scan, scan-of}
 use Rattle.program.specs.Syntax.{Program}
 use Rattle.grammar.specs.Complaint.{Complaint, complaint}
 use Rattle.grammar.specs.Source.{Accepted}
 use Rattle.grammar.specs.Checking as checking
-use Rattle.grammar.specs.Checking.{Outcome, turned-away, accepted, rooms-fit, read-source, check, room-left, words-after, names-after}
+use Rattle.grammar.specs.Checking.{Outcome, turned-away, accepted, rooms-fit, read-source, check, room-left, words-after}
 use Rattle.semantics.specs.declared.Rule.{Rule}
 use Rattle.semantics.specs.Stands.{Holds}
 use Rattle.semantics.specs.Written.{written-in}
 use Rattle.linking.specs.Linking.{Linked, linking}
-use Rattle.linking.specs.Accepted.{Parsed, rule-of, holds, written, flagged}
+use Rattle.linking.specs.Accepted.{Parsed, holds, written, flagged}
 use Rattle.stepper.specs.Admission.{Request, Refusal, refusal, admission}
-use Rattle.stepper.specs.Report.{Counting, Report, refused, run}
+use Rattle.stepper.specs.Report.{Counting, refused, run}
 use Rattle.stepper.specs.Locality.{Flagged}
 use Rattle.stepper.specs.Fitting.{Sized}
 use Rattle.services.specs.Services.{run-begins, run-read, run-source}
@@ -33,8 +32,7 @@ use Rattle.checker.specs.Promises.{Trace, Outlines, accepted-by, Loads, Checks,
 use Rattle.admission.specs.declared.admitting.Admitted.{Admitted}
 use Rattle.admission.specs.Admitting.{request-of, Lists, Admits}
 use Rattle.runner.specs.declared.opening.Opening.{Opening}
-use Rattle.iteration.specs.Stepwise.{Runs}
-use Rattle.runner.specs.Sourcewise.{Begun, Opens}
+use Rattle.runner.specs.Sourcewise.{Opens}
 use Rattle.runner.specs.Timing.{timing}
 
 -- ---- an accepted source

@@ -1,25 +1,22 @@
 -- A run as a whole: what its steps give is the report of the definition, and the rooms are left as it says.
-use Prim.Native.Nat.{ℕ, _+_, _<_, _≤_}
+use Prim.Native.Nat.{ℕ, _≤_}
 use native.Mathlib.Omega.{arith}
 use mathlib.Core.Path.{_≡_, refl, sym, ap, ap₂, _∙_, subst, subst₂}
 use mathlib.Core.Bool.{Bool, true, false, not}
 use mathlib.Core.List.{List}
 use lib.ListN.{length, replicate, length-replicate}
-use lib.Dec.{T, eqb}
+use lib.Dec.{T}
 use lib.IntN.{ℤ, pos, natAbs}
 use lib.Signed.{nonNeg}
 use mir.Syntax.{w32, w64}
 use mir.Val.{Fits, SFits, toZ, ofZ}
 use mir.Facts.{toZ-ofZ}
 use borrow.Author.Tests.{eq-eqb, not-true, not-false}
-use Rattle.value.specs.Choice.{if_then_else_}
-use Rattle.value.specs.Laws.{never}
 use Rattle.automaton.specs.Step.{Run, every-cell, run-of, open-count, full-count}
-use Rattle.automaton.specs.Shape.{product}
 use Rattle.automaton.specs.Grid.{automaton}
 use Rattle.automaton.specs.Going.{always-open, run-always, count-always}
 use Rattle.program.specs.Syntax.{Program}
-use Rattle.grammar.specs.Checking.{Outcome, accepted, rooms-fit, read-source}
+use Rattle.grammar.specs.Checking.{rooms-fit, read-source}
 use Rattle.semantics.specs.declared.Rule.{Rule}
 use Rattle.semantics.specs.Evaluation.{evaluate}
 use Rattle.semantics.specs.Written.{written-in}
@@ -27,7 +24,7 @@ use Rattle.stepper.specs.declared.Reach.{Reach}
 use Rattle.stepper.specs.Reach.{reach, running}
 use Rattle.stepper.specs.Admission.{Request, admission}
 use Rattle.stepper.specs.Report as report
-use Rattle.stepper.specs.Report.{Counting, full, quiet, ended, report-of, run}
+use Rattle.stepper.specs.Report.{Counting, full, ended, report-of, run}
 use Rattle.services.specs.Services.{run-begins, run-read, run-source, room-after}
 use Rattle.admission.specs.Admitting.{request-of}
 use Rattle.iteration.specs.declared.Report.{Report}

@@ -1,7 +1,7 @@
 -- Property 3, as one claim over all steps of a run of a source: the quiet run skips cells, and still gives the full run's answer and grid.
 -- That a quiet run gives the report `run-source quiet` is the contract of `run` (Sourcewise).
-use mathlib.Core.Path.{_≡_, refl, sym, ap, _∙_, subst}
-use mathlib.Core.Bool.{Bool, true, false, not}
+use mathlib.Core.Path.{_≡_, refl, sym, ap, _∙_}
+use mathlib.Core.Bool.{Bool, true, false}
 use mathlib.Core.List.{List}
 use Prim.Native.Nat.{ℕ, _≤_}
 use native.Mathlib.Nat.{le-refl}
@@ -23,7 +23,7 @@ use Rattle.grammar.specs.Checking.{Outcome, turned-away, accepted, outcome-of, 
 use Rattle.linking.specs.Accepted.{parsed, flagged}
 use Rattle.stepper.specs.Admission.{Request, admission}
 use Rattle.stepper.specs.Reach.{running}
-use Rattle.stepper.specs.Report.{Counting, full, quiet, Report, ended, count-of, report-of, run}
+use Rattle.stepper.specs.Report.{full, quiet, Report, ended, report-of, run}
 use Rattle.stepper.specs.Locality as locality
 use Rattle.services.specs.Services.{run-read, run-source}
 use Rattle.runner.specs.Timing.{timing}

@@ -11,8 +11,8 @@ ghost use Rattle.runner.specs.Property3.{Agree};
 use crate::opening::open_run;
 use iteration::Report;
 use iteration::run_steps;
-use stepping::rooms::clear_marks;
-use stepping::rooms::clear_numbers;
+use marked_cells::rooms::clear_marks;
+use marked_cells::rooms::clear_numbers;
 
 // Whether every cell is open in every step: in a full run, and where `time` stands in the source.
 fn all_open(quiet: bool, timed: bool) -> bool

@@ -1,5 +1,4 @@
 -- What an operator gives, by its kind of token. Relations and logic give 0 or 1.
-use mathlib.Core.Bool.{Bool, true, false, _||_}
 use Prim.Native.Nat.{ℕ}
 use lib.Dec.{eqb}
 use lib.IntN.{ℤ}

@@ -1,7 +1,6 @@
 -- The marked examples M1 to M13 of document 01, as one list with one claim.
 use mathlib.Core.Path.{_≡_, refl}
 use mathlib.Core.List.{List, [], _∷_, _++_}
-use Prim.Native.Nat.{ℕ}
 use Prim.Native.String.{String}
 use lib.IntN.{ℤ, pos, negsuc}
 use Rattle.token.specs.Bytes.{as-bytes}

@@ -1,11 +1,10 @@
 -- Running a source on a grid: what it gives, and what the lent memory holds afterwards.
-use mathlib.Core.Bool.{Bool, true, false}
+use mathlib.Core.Bool.{Bool, false}
 use mathlib.Core.List.{List}
 use Prim.Native.Nat.{ℕ}
 use lib.ListN.{length, replicate}
 use lib.Dec.{eqb}
 use Rattle.value.specs.Choice.{if_then_else_}
-use Rattle.grammar.specs.Source.{Accepted}
 use Rattle.grammar.specs.Checking as checking
 use Rattle.grammar.specs.Checking.{Outcome, turned-away, accepted, read-source}
 use Rattle.stepper.specs.Admission.{Request, admission}

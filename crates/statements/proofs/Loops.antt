@@ -9,7 +9,7 @@ use Rattle.token.specs.declared.Scan.{Scan}
 use Rattle.token.specs.Kind.{kind}
 use Rattle.names.specs.Names.{name-kind}
 use Rattle.program.specs.Syntax.{Range, Block, loop}
-use Rattle.grammar.specs.Reader.{Result, ok, fail, Input, State, Reader, and-then, _>>=_, _>>_, return, position, advance, put-both, opening, expect-or, declare, fresh-name}
+use Rattle.grammar.specs.Reader.{Result, ok, fail, Input, State, Reader, and-then, _>>=_, return, position, advance, put-both, opening, expect-or, declare, fresh-name}
 use Rattle.grammar.specs.Constants.{read-range}
 use Rattle.grammar.specs.Expressions.{Cell}
 use Rattle.grammar.specs.Statements.{read-forall, read-block}

@@ -1,5 +1,5 @@
 -- What is asked of a run before it begins: replies 20 to 24, tried in this order.
-use mathlib.Core.Bool.{Bool, true, false, not, _&&_, _||_}
+use mathlib.Core.Bool.{Bool, true, not, _&&_, _||_}
 use mathlib.Core.List.{List, [], _∷_}
 use Prim.Native.Nat.{ℕ, suc, _*_, _%_}
 use lib.ListN.{length, getD}

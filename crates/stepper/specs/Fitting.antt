@@ -3,7 +3,6 @@ use mathlib.Core.Path.{_≡_, ap, _∙_}
 use mathlib.Core.List.{List}
 use Prim.Native.Nat.{ℕ, zero, suc, _*_, _<_, _≤_}
 use lib.ListN.{length, getD}
-use lib.IntN.{ℤ}
 use Rattle.automaton.specs.Listed.{list-of, length-list-of}
 use Rattle.automaton.specs.Shape.{product, Bound}
 use Rattle.automaton.specs.ShapeLaws.{Positive}

@@ -1,22 +1,20 @@
 -- A cell reads nothing but the cells in its reach, and its next fields fit. So property 3 holds of every program whose flag `timed` is set
 -- where `time` stands in its statements.
-use Prim.Native.Nat.{ℕ, zero, suc, _+_, _-_, _≤_, _<_, max}
+use Prim.Native.Nat.{ℕ, zero, suc, _+_, _≤_, _<_}
 use native.Mathlib.Nat.{le-refl, le-trans}
 use native.Mathlib.Omega.{arith}
 use mathlib.Core.Path.{_≡_, refl, sym, ap, ap₂, _∙_, subst, fun-ext}
-use mathlib.Core.Bool.{Bool, true, false, _||_, _&&_, cond}
-use mathlib.Core.List.{List, [], _∷_, _++_, List·Memᴰ}
+use mathlib.Core.Bool.{Bool, true, false, _||_, cond}
+use mathlib.Core.List.{List, [], _∷_, _++_}
 use mathlib.Core.Option.{Option, none, some}
 use lib.ListN.{length, getD, set, replicate, length-set, length-replicate}
-use lib.Dec.{leb, ltb}
 use borrow.Author.Tests.{leb-true, le-leb}
 use lib.IntN.{ℤ, pos, negsuc, natAbs, _+ℤ_, _-ℤ_, +ℤ-assoc, +ℤ-idr}
 use lib.Signed.{leZ}
 use Rattle.value.specs.Choice.{if_then_else_}
-use Rattle.value.specs.Number.{within}
 use Rattle.value.specs.Worked.{truth, span-of}
 use Rattle.value.specs.Laws.{never, and-both, offset-within}
-use Rattle.automaton.specs.Step.{Outcome, state}
+use Rattle.automaton.specs.Step.{state}
 use Rattle.automaton.specs.Quiet.{Lawful, QuietAgrees, quiet-agrees}
 use Rattle.automaton.specs.Shape.{Bound, box-indices}
 use Rattle.automaton.specs.ShapeLaws.{Within, AllWithin, mem-box}
@@ -24,7 +22,7 @@ use Rattle.automaton.specs.GridLaws.{Bounded, lawful}
 use Rattle.program.specs.Syntax.{Range, no-range, Index, fixed, moving, Expr, number, time, variable, index, field, element, unary, binary, Target, to-field, to-variable, Clause, Block, empty, assign, select, loop, exit, constant, Program}
 use Rattle.semantics.specs.Operators.{Worth, worth, failed, placed, apply-unary, apply-binary}
 use Rattle.semantics.specs.Evaluation.{Env, with-worth, entry, offset, offsets, element-at, eval, Flow, on, leaving, faulted, Frame, frame, goes, when-on, onward, valued, in-field, store, branch, conditional, assign-first, turned, each, exec, outcome-of, evaluate}
-use Rattle.semantics.specs.Written.{Written, values-of, place-of, written-in-index, written-in-expr, written-in-condition, written-in-clauses, written-in-block, written-in}
+use Rattle.semantics.specs.Written.{Written, values-of, written-in-index, written-in-expr, written-in-condition, written-in-clauses, written-in-block, written-in}
 use Rattle.stepper.specs.Reach.{below, above, widen, own-only, widened, reach, running}
 
 -- ---- whether `time` stands in a tree

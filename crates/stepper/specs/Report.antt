@@ -1,13 +1,13 @@
 -- The answer of a run, and the grid that it leaves.
-use mathlib.Core.Bool.{Bool, true, false}
+use mathlib.Core.Bool.{true, false}
 use mathlib.Core.List.{List}
 use Prim.Native.Nat.{ℕ}
 use lib.Dec.{eqb}
 use lib.IntN.{ℤ, natAbs}
-use Rattle.automaton.specs.Step.{Fault, no-fault, fault-at, Run, Automaton, run-of, full-count, open-count, every-cell}
+use Rattle.automaton.specs.Step.{Fault, no-fault, fault-at, Automaton, run-of, full-count, open-count, every-cell}
 use Rattle.program.specs.Syntax.{Program}
 use Rattle.stepper.specs.Reach.{running}
-use Rattle.stepper.specs.Admission.{Request, Refusal, admission}
+use Rattle.stepper.specs.Admission.{Request, admission}
 
 -- the reply's number, its place, the faulting cell, the steps done, the count of evaluated cells, and the grid
 pub record Report : Type 0 where

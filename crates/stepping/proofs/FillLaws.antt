@@ -22,8 +22,9 @@ use Rattle.stepping.specs.declared.Evaluation.the-variants as Gave
 use Rattle.stepping.specs.declared.Step.the-variants as Gives
 use Rattle.stepping.specs.declared.Evaluation.{Evaluation}
 use Rattle.stepping.specs.Stepping.{Ready}
-use Rattle.stepping.specs.Turns.{NextMarked, Placed, given, outcome-in, count-after, Turning, Turned, Filled}
-use Rattle.stepping.proofs.ScanLaws.{below-or}
+use Rattle.marked_cells.specs.Marked.{NextMarked, Placed}
+use Rattle.stepping.specs.Turns.{given, outcome-in, count-after, Turning, Turned, Filled}
+use Rattle.marked_cells.proofs.ScanLaws.{below-or}
 
 -- ---- runs of cells
 

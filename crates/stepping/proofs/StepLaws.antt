@@ -18,8 +18,9 @@ use Rattle.stepper.specs.Fitting.{held-fields}
 use Rattle.stepping.specs.declared.Step.{Step}
 use Rattle.stepping.specs.declared.Step.the-variants as Gives
 use Rattle.stepping.specs.Stepping.{fault-in, count-in, Ready, Stepped}
-use Rattle.stepping.specs.Turns.{NextMarked, Placed, Moving, Filled, Exchanging, Exchanged}
-use Rattle.stepping.proofs.PartLaws.{flat-ext}
+use Rattle.marked_cells.specs.Marked.{NextMarked, Placed, Moving, Exchanging, Exchanged}
+use Rattle.stepping.specs.Turns.{Filled}
+use Rattle.marked_cells.proofs.PartLaws.{flat-ext}
 use Rattle.stepping.proofs.FillLaws.{outcome, of-marked, of-unmarked}
 
 module _ {leaves words : List ℕ} {rule : Rule} {sizes : List ℕ} {grid scratch : List ℤ} {marks : List ℕ} {time count : ℕ} (ready : Ready leaves words rule sizes grid scratch marks time count) where

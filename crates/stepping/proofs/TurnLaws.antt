@@ -1,5 +1,5 @@
 -- A cell's turn in a step.
-use Prim.Native.Nat.{ℕ, _+_, _-_, _*_, _≤_, _<_}
+use Prim.Native.Nat.{ℕ, _+_, _-_, _*_, _≤_}
 use native.Mathlib.Omega.{arith}
 use native.Mathlib.Nat.{mul-le-mul}
 use mathlib.Core.Path.{_≡_, refl, sym, ap, _∙_}
@@ -16,7 +16,7 @@ use Rattle.executor.specs.Running.{Fit, outcome-is, Evaluates}
 use Rattle.stepping.specs.declared.Evaluation.{Evaluation}
 use Rattle.stepping.specs.declared.Evaluation.the-variants as Gave
 use Rattle.stepping.specs.Turns.{Counted, outcome-in, Turning, Turned}
-use Rattle.stepping.proofs.PartLaws.{part-own, part-kept}
+use Rattle.marked_cells.proofs.PartLaws.{part-own, part-kept}
 
 -- an evaluated cell, counted
 module _ {words : List ℕ} {rule : Rule} {sizes : List ℕ} {cell : ℕ} {grid next : List ℤ} {time count : ℕ} {r : Outcome} (e : Evaluates words rule sizes cell grid next time r) where

@@ -1,10 +1,6 @@
 // One step of a rule under marks.
 
 pub mod cells;
-pub mod exchange;
-pub mod places;
-pub mod rooms;
-pub mod scan;
 pub mod steps;
 
 // What evaluating one cell gives: the count, one higher; and at a fault its number and place.

@@ -6,10 +6,10 @@ ghost use Rattle.stepping.specs.Stepping.{Ready, Stepped};
 use crate::Evaluation;
 use crate::Step;
 use crate::cells::evaluate_into;
-use crate::exchange::exchange_marked;
-use crate::places::move_place;
-use crate::places::set_place;
-use crate::scan::next_marked;
+use marked_cells::exchange::exchange_marked;
+use marked_cells::places::move_place;
+use marked_cells::places::set_place;
+use marked_cells::scan::next_marked;
 use semantics::Rule;
 
 // Evaluates the marked cells in rising order from the grid `old` into `new`, up to the first fault. `place` is room for a cell's coordinates.

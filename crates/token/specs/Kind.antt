@@ -1,5 +1,5 @@
 -- The kinds of tokens, and the levels of operators.
-use mathlib.Core.Bool.{Bool, true, false, _||_}
+use mathlib.Core.Bool.{_||_}
 use Prim.Native.Nat.{ℕ}
 use lib.Dec.{eqb}
 use Rattle.value.specs.Choice.{if_then_else_}

@@ -1,7 +1,7 @@
 // Checking a source.
 ghost use Rattle.cellang.specs.Told.{TellsCheck};
-use crate::exports::entries::put_reply;
 use checker::check;
+use entries::put_reply;
 
 // Checks a source, and gives the reply's number. `reply` is told number and place.
 #[no_mangle]

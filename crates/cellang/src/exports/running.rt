@@ -2,7 +2,7 @@
 ghost use Rattle.stepper.specs.Report.{full, quiet};
 ghost use Rattle.runner.specs.Property3.{Agree};
 ghost use Rattle.cellang.specs.Told.{told-run, TellsRun};
-use crate::exports::entries::put_report;
+use entries::put_report;
 use runner::run;
 
 // Runs a source on a grid, each step of which evaluates every cell, and gives the reply's number.

@@ -1,4 +1,4 @@
-use Prim.Native.Nat.{suc, _+_, _*_, _-_, _≤_, ℕ, _<_}
+use Prim.Native.Nat.{_<_, suc, _+_, _*_, _-_, _≤_, ℕ}
 use mathlib.Core.Path.{_≡_, refl, sym, _∙_}
 use native.Mathlib.Omega.{arith}
 use lib.Dec.{eqb}

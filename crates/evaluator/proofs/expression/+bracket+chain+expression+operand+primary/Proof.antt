@@ -1,4 +1,4 @@
-use Prim.Native.Nat.{_+_, _*_, _-_}
+use Prim.Native.Nat.{_<_, _+_, _*_, _-_}
 use native.Mathlib.Omega.{arith}
 use mathlib.Core.Path.{subst, _∙_}
 use borrow.Author.Needs.{needs}
@@ -8,7 +8,7 @@ use Rattle.operands.proofs.TableLaws.{token}
 use Rattle.operands.proofs.OperatorLaws.{level-some, from-within}
 use Rattle.token.proofs.Levels.{level-few}
 use Rattle.evaluator.proofs.ExpressionLaws.{Chain, bracket-fault, bracket-closed, bracket-open, primary-paren, primary-quick, primary-bare, primary-element-fault, primary-element, operand-bare, operand-fault, operand-unary, first-fault, first-found, chain-end, right-fault, operator-fault, chain-more, chain-less}
-use Prim.Native.Nat.{ℕ, _<_}
+use Prim.Native.Nat.{ℕ}
 use borrow.Fn.Kinds.{In}
 use borrow.Fn.PlainCycle.{Measures, is, falls, and}
 use Rattle.evaluator.proofs.expression.bracket.Reads as bracket

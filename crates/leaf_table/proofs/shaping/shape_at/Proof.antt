@@ -1,6 +1,6 @@
 use native.Mathlib.Omega.{arith}
 use borrow.Author.Needs.{needs}
-use Rattle.leaf_table.proofs.ShapingLaws.{behind-small, shape-one, shape-two, shape-none}
+use Rattle.leaf_table.proofs.ShapingLaws.{behind-small, shape-one, shape-two}
 use Rattle.leaf_table.proofs.shaping.shape_at.Statement.{statement}
 use Rattle.leaf_table.proofs.shaping.shape_at.Tie as tie
 

@@ -1,6 +1,6 @@
 use native.Mathlib.Omega.{arith}
-use Prim.Native.Nat.{ℕ, _-_}
 use mathlib.Core.Path.{_≡_}
+use Prim.Native.Nat.{ℕ, _-_}
 use lib.ListN.{length}
 use Rattle.semantics.specs.Stands.{table-of}
 use Rattle.leaf_table.proofs.WritingLaws.{some-size, Steps, steps-start, steps-more, steps-done}

@@ -1,4 +1,4 @@
-use Rattle.marking.specs.Noting.{lines, note-all, rows, line}
+use Rattle.marking.specs.Noting.{lines}
 use Rattle.marking.proofs.NotingLaws.{Noted, noted-start, noted-more, noted-done}
 use Rattle.marking.proofs.BoxLaws.{line-room, line-base, line-count, line-noted}
 use Prim.Native.Nat.{_≤_, _-_}

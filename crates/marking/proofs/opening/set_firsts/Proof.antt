@@ -1,5 +1,5 @@
 use Rattle.marking.proofs.PlaceLaws.{size-some, first-ready, Placing, placing-start, placing-more, placing-done}
-use Prim.Native.Nat.{_≤_, _-_}
+use Prim.Native.Nat.{_≤_}
 use mathlib.Core.Path.{refl, sym, _∙_}
 use native.Mathlib.Omega.{arith}
 use lib.ListN.{length}

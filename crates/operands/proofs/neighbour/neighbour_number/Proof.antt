@@ -3,8 +3,9 @@ use borrow.Author.Needs.{needs}
 use native.Mathlib.Omega.{arith}
 use Prim.Native.Nat.{_-_}
 use lib.ListN.{length, take}
+use Rattle.automaton.specs.ShapeLaws.{inside-at, inside-length}
 use Rattle.semantics.specs.Stands.{table-of}
-use Rattle.operands.proofs.NeighbourLaws.{Steps, steps-start, steps-more, steps-done, number-small, inside-at, inside-length}
+use Rattle.operands.proofs.NeighbourLaws.{Steps, steps-start, steps-more, steps-done, number-small}
 use Rattle.operands.proofs.neighbour.neighbour_number.Statement.{statement}
 use Rattle.operands.proofs.neighbour.neighbour_number.Tie as tie
 

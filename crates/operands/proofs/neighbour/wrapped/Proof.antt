@@ -1,7 +1,6 @@
 use Prim.Native.Nat.{_<_, _+_, _-_, _%_}
 use Prim.Native.Nat.{_<_, _+_, _-_}
 use Prim.Native.Nat.{_<_, _+_}
-use mathlib.Core.Path.{ap}
 use native.Mathlib.Omega.{arith}
 use native.Mathlib.Nat.{mod-lt}
 use Prim.Native.Nat.{_<_}

@@ -1,11 +1,11 @@
-use mathlib.Core.Path.{_≡_, refl, sym, _∙_}
+use mathlib.Core.Path.{_≡_, refl}
 use borrow.Author.Needs.{needs}
 use native.Mathlib.Omega.{arith}
 use Prim.Native.Nat.{_-_, _≤_}
 use lib.ListN.{length, take}
+use Rattle.automaton.specs.ShapeLaws.{inside-at, inside-length}
 use Rattle.semantics.specs.Stands.{table-of}
 use Rattle.semantics.specs.Leaves.{leaf-word}
-use Rattle.operands.proofs.NeighbourLaws.{inside-at, inside-length}
 use Rattle.operands.proofs.NotedLaws.{Walk, walk-start, offset-small, walk-small, walk-more, walk-done}
 use Rattle.operands.proofs.noted.noted_number.Statement.{statement}
 use Rattle.operands.proofs.noted.noted_number.Tie as tie

@@ -5,7 +5,7 @@ use lib.ListN.{length}
 use native.Mathlib.Omega.{arith}
 use borrow.Author.Needs.{needs}
 use Rattle.automaton.specs.Step.{marked}
-use Rattle.stepping.specs.Turns.{Placed}
+use Rattle.marked_cells.specs.Marked.{Placed}
 use Rattle.stepping.proofs.StepLaws.{cell-small, moving}
 use Rattle.stepping.proofs.FillLaws.{Filling, fill-start, turning, fill-skip, fill-turn, fill-stop, fill-done}
 use Rattle.stepping.proofs.steps.evaluate_marked.Statement.{statement}

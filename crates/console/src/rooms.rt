@@ -1,0 +1,61 @@
+// Rooms that a run is lent, and how much of them is used.
+ghost use mathlib.Core.Path.{_≡_};
+ghost use lib.ListN.{length};
+ghost use Rattle.console.specs.Rooms.{Kept};
+
+// How many entries, and how many cells, a grid may have here: as many entries as 512 x 512 cells with three fields have.
+pub const ROOM: usize = 786432;
+
+// Rooms of this size.
+pub fn numbers_room() -> [i32; ROOM]
+    ensures { λ r. ⌜ 786432 ≡ length r ⌝ }
+{
+    [0; ROOM]
+}
+
+pub fn bytes_room() -> [u8; ROOM]
+    ensures { λ r. ⌜ 786432 ≡ length r ⌝ }
+{
+    [0; ROOM]
+}
+
+// A word table and a name list of the right length.
+pub fn table_room() -> [u32; 16384]
+    ensures { λ r. ⌜ 16384 ≡ length r ⌝ }
+{
+    [0; 16384]
+}
+
+pub fn names_room() -> [u32; 1024]
+    ensures { λ r. ⌜ 1024 ≡ length r ⌝ }
+{
+    [0; 1024]
+}
+
+// Counts of the elements at the start of a slice: n of them, or as many as there are.
+pub fn of_bytes(n: usize, bytes: &[u8]) -> usize
+    ensures { λ r. ⌜ Kept r (now (bytes .entry)) ⌝ }
+{
+    if n <= bytes.len() {
+        return n;
+    }
+    bytes.len()
+}
+
+pub fn of_words(n: usize, words: &[u32]) -> usize
+    ensures { λ r. ⌜ Kept r (now (words .entry)) ⌝ }
+{
+    if n <= words.len() {
+        return n;
+    }
+    words.len()
+}
+
+pub fn of_numbers(n: usize, numbers: &[i32]) -> usize
+    ensures { λ r. ⌜ Kept r (now (numbers .entry)) ⌝ }
+{
+    if n <= numbers.len() {
+        return n;
+    }
+    numbers.len()
+}

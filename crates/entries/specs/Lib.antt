@@ -1,0 +1,2 @@
+-- Numbers told in a slice that is lent.
+pub mod Over

@@ -1,0 +1,42 @@
+// Entries of a slice that a caller lends for a call's numbers.
+ghost use mathlib.Core.Path.{_≡_};
+ghost use mathlib.Core.List.{[], _∷_};
+ghost use lib.ListN.{set};
+ghost use Rattle.entries.specs.Over.{over};
+
+// Sets an entry, if there is room for it.
+fn put_word(entries: &mut [u32], at: usize, n: u32)
+    ensures { λ _. ⌜ now (entries .exit) ≡ set (now (entries .entry)) at n ⌝ }
+{
+    if at < entries.len() {
+        entries[at] = n;
+    }
+}
+
+// Sets an entry, if there is room for it.
+fn put_number(entries: &mut [u64], at: usize, n: u64)
+    ensures { λ _. ⌜ now (entries .exit) ≡ set (now (entries .entry)) at n ⌝ }
+{
+    if at < entries.len() {
+        entries[at] = n;
+    }
+}
+
+// Tells a reply in the first entries.
+pub fn put_reply(entries: &mut [u32], number: u32, place: u32)
+    ensures { λ _. ⌜ now (entries .exit) ≡ over (number ∷ place ∷ []) (now (entries .entry)) ⌝ }
+{
+    put_word(entries, 0, number);
+    put_word(entries, 1, place);
+}
+
+// Tells a run's numbers in the first entries.
+pub fn put_report(entries: &mut [u64], number: u32, place: u32, cell: u32, steps: u32, count: u64)
+    ensures { λ _. ⌜ now (entries .exit) ≡ over (number ∷ place ∷ cell ∷ steps ∷ count ∷ []) (now (entries .entry)) ⌝ }
+{
+    put_number(entries, 0, number as u64);
+    put_number(entries, 1, place as u64);
+    put_number(entries, 2, cell as u64);
+    put_number(entries, 3, steps as u64);
+    put_number(entries, 4, count);
+}

@@ -1,0 +1,7 @@
+-- The laws by which the functions are proved, by topic.
+mod ClearLaws
+mod RoomLaws
+pub mod ScanLaws
+mod PlaceLaws
+pub mod PartLaws
+mod ExchangeLaws

@@ -1,0 +1,2 @@
+-- What writing the line of a reply promises.
+pub mod Line

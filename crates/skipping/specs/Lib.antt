@@ -1,2 +1,0 @@
--- What passing over cells without a mark promises.
-pub mod Clear
