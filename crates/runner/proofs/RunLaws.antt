@@ -40,7 +40,13 @@ always p = record { dims = p .dims; fields = p .fields; slots = p .slots; body =
 
 runs-always : {words : List ℕ} {rule : Rule} {r : Reach} {timed : Bool} {p : Program} → Runs words rule r timed p → Runs words rule r true (always p)
 unfolding reach written-in
-runs-always h = record { holds = record { dims = h .holds .dims; fields = h .holds .fields; slots = h .holds .slots; body = h .holds .body }; reaches = h .reaches; timed = refl; flagged = λ _. refl }
+runs-always h =
+    record {
+      holds = record { dims = h .holds .dims; fields = h .holds .fields; slots = h .holds .slots; body = h .holds .body };
+      reaches = h .reaches;
+      timed = refl;
+      flagged = λ _. refl;
+    }
 
 running-always : (p : Program) (sizes : List ℕ) → running (always p) sizes ≡ always-open (running p sizes)
 unfolding running automaton evaluate reach written-in

@@ -17,7 +17,11 @@ same-length c = search needs
 
 -- src/lib.rt:26:1
 returns : tie.Need-returns
-returns c = put-two (c .before .before .before .before .before .before .before .before .before .args .entries .now) (c .before .before .before .before .before .before .before .before .before .args .number) (c .before .before .before .before .before .before .before .before .before .args .place) (c .before .before .before .before .before .before .put-word .ensures) (c .before .before .put-word2 .ensures)
+returns c =
+    let u = c .before .before in
+    let t = u .before .before .before .before in
+    let s = t .before .before .before in
+    put-two (s .args .entries .now) (s .args .number) (s .args .place) (t .put-word .ensures) (u .put-word2 .ensures)
 
 pub put-reply-spec : {M : Type 1} → statement M
 put-reply-spec = tie.close (tie.spec put-word-requires put-word-requires-2 same-length returns)

@@ -29,7 +29,14 @@ same-length c = search needs
 
 -- src/lib.rt:34:1
 returns : tie.Need-returns
-returns c = put-five (c .before .before .before .before .before .before .before .before .before .before .before .before .before .before .before .before .before .before .before .before .before .args .entries .now) (c .before .before .before .before .before .before .before .before .before .before .before .before .before .before .before .before .before .before .before .before .before .args .number) (c .before .before .before .before .before .before .before .before .before .before .before .before .before .before .before .before .before .before .before .before .before .args .place) (c .before .before .before .before .before .before .before .before .before .before .before .before .before .before .before .before .before .before .before .before .before .args .cell) (c .before .before .before .before .before .before .before .before .before .before .before .before .before .before .before .before .before .before .before .before .before .args .steps) (c .before .before .before .before .before .before .before .before .before .before .before .before .before .before .before .before .before .before .before .before .before .args .count) (c .before .before .before .before .before .before .before .before .before .before .before .before .before .before .before .before .before .before .put-number .ensures) (c .before .before .before .before .before .before .before .before .before .before .before .before .before .before .put-number2 .ensures) (c .before .before .before .before .before .before .before .before .before .before .put-number3 .ensures) (c .before .before .before .before .before .before .put-number4 .ensures) (c .before .before .put-number5 .ensures)
+returns c =
+    let x = c .before .before in
+    let w = x .before .before .before .before in
+    let v = w .before .before .before .before in
+    let u = v .before .before .before .before in
+    let t = u .before .before .before .before in
+    let s = t .before .before .before in
+    put-five (s .args .entries .now) (s .args .number) (s .args .place) (s .args .cell) (s .args .steps) (s .args .count) (t .put-number .ensures) (u .put-number2 .ensures) (v .put-number3 .ensures) (w .put-number4 .ensures) (x .put-number5 .ensures)
 
 pub put-report-spec : {M : Type 1} → statement M
 put-report-spec =

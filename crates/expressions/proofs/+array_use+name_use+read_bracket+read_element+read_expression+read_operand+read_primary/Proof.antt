@@ -222,7 +222,8 @@ array-use-returns-2 t c =
     let if1 = c .before .before .before .if1 in
     let noting = c .before .noting in
     let plain = c .plain in
-    let n = noting .ensures in λ e. record { gives = token _ (token-at .ensures) (other _ _ (ne-eqb _ _ (if1 .left)) (made _ (on _ (noted _ n) refl (λ _ _. plain .ensures .gives _ _)) (λ _ _ _. tt))); onward = further (plain .ensures .onward) (omega (arith, n .at)) (omega (arith, n .count)) }
+    let n = noting .ensures in
+    λ e. record { gives = token _ (token-at .ensures) (other _ _ (ne-eqb _ _ (if1 .left)) (made _ (on _ (noted _ n) refl (λ _ _. plain .ensures .gives _ _)) (λ _ _ _. tt))); onward = further (plain .ensures .onward) (omega (arith, n .at)) (omega (arith, n .count)) }
 
 name-use-entry-in-requires : (t : ℕ) → name-use-lts.Need-entry-in-requires (name-use-calls t) (name-use-at t) name-use.Post
 name-use-entry-in-requires t c κs =
@@ -238,7 +239,8 @@ name-use-array-use-requires : (t : ℕ) → name-use-lts.Need-array-use-requires
 name-use-array-use-requires t c κs =
     let pre = c .before .before .before .before .before .before .before .before .before .before .before .pre in
     let use-name = c .before .before .before .before .before .use-name in
-    let u = use-name .ensures in (omega (arith, pre .0, u .at, pre .1 .1), record { tokens = pre .1 .0 .tokens; table = use-name .kept .0 ∙ pre .1 .0 .table; list = pre .1 .0 .list; here = omega (arith, u .at, pre .1 .1); few = omega (arith, u .count, pre .1 .0 .few) })
+    let u = use-name .ensures in
+    (omega (arith, pre .0, u .at, pre .1 .1), record { tokens = pre .1 .0 .tokens; table = use-name .kept .0 ∙ pre .1 .0 .table; list = pre .1 .0 .list; here = omega (arith, u .at, pre .1 .1); few = omega (arith, u .count, pre .1 .0 .few) })
 
 name-use-same-length : (t : ℕ) → name-use-lts.Need-same-length (name-use-calls t) (name-use-at t) name-use.Post
 name-use-same-length t c = search needs
@@ -250,7 +252,12 @@ name-use-returns t c =
     let use-name = c .before .before .before .before .before .before .before .before .use-name in
     let if1 = c .before .before .before .before .if1 in
     let array-use = c .before .before .array-use in
-    let u = use-name .ensures in let e = entry-in .result in record { gives = on-told {f = λ _. e} _ (used _ (entry-in .ensures) u) refl (so _ _ (eq-eqb _ _ (if1 .taken)) (array-use .ensures e .gives)); onward = further (array-use .ensures e .onward) (omega (arith, u .at)) (omega (arith, u .count)) }
+    let u = use-name .ensures in
+    let e = entry-in .result in
+    record {
+      gives = on-told {f = λ _. e} _ (used _ (entry-in .ensures) u) refl (so _ _ (eq-eqb _ _ (if1 .taken)) (array-use .ensures e .gives));
+      onward = further (array-use .ensures e .onward) (omega (arith, u .at)) (omega (arith, u .count));
+    }
 
 name-use-plain-requires : (t : ℕ) → name-use-lts.Need-plain-requires (name-use-calls t) (name-use-at t) name-use.Post
 name-use-plain-requires t c κs =
@@ -268,7 +275,12 @@ name-use-returns-2 t c =
     let use-name = c .before .before .before .before .before .before .use-name in
     let if1 = c .before .before .if1 in
     let plain = c .plain in
-    let u = use-name .ensures in let e = entry-in .result in record { gives = on-told {f = λ _. e} _ (used _ (entry-in .ensures) u) refl (other _ _ (ne-eqb _ _ (if1 .left)) (either _ _ (eqb (e .kind) 1) (made _ (plain .ensures .gives _ _) (λ _ _ _. tt)) (either _ _ (eqb (e .kind) 4) (made _ (plain .ensures .gives _ _) (λ _ _ _. tt)) (made _ (plain .ensures .gives _ _) (λ _ _ _. tt))))); onward = further (plain .ensures .onward) (omega (arith, u .at)) (omega (arith, u .count)) }
+    let u = use-name .ensures in
+    let e = entry-in .result in
+    record {
+      gives = on-told {f = λ _. e} _ (used _ (entry-in .ensures) u) refl (other _ _ (ne-eqb _ _ (if1 .left)) (either _ _ (eqb (e .kind) 1) (made _ (plain .ensures .gives _ _) (λ _ _ _. tt)) (either _ _ (eqb (e .kind) 4) (made _ (plain .ensures .gives _ _) (λ _ _ _. tt)) (made _ (plain .ensures .gives _ _) (λ _ _ _. tt)))));
+      onward = further (plain .ensures .onward) (omega (arith, u .at)) (omega (arith, u .count));
+    }
 
 read-bracket-refuse-requires : (t : ℕ) → read-bracket-lts.Need-refuse-requires (read-bracket-calls t) (read-bracket-at t) read-bracket.Post
 read-bracket-refuse-requires t c κs =
@@ -298,7 +310,8 @@ read-bracket-read-expression-requires : (t : ℕ) → read-bracket-lts.Need-read
 read-bracket-read-expression-requires t c κs =
     let pre = c .before .before .before .before .before .before .pre in
     let moved = c .moved in
-    let m = moved .ensures in (omega (arith, pre .0, m .at, pre .1 .1), (record { tokens = pre .1 .0 .tokens; table = pre .1 .0 .table; list = pre .1 .0 .list; here = omega (arith, m .at, pre .1 .1); few = omega (arith, m .count, pre .1 .0 .few) }, omega arith))
+    let m = moved .ensures in
+    (omega (arith, pre .0, m .at, pre .1 .1), (record { tokens = pre .1 .0 .tokens; table = pre .1 .0 .table; list = pre .1 .0 .list; here = omega (arith, m .at, pre .1 .1); few = omega (arith, m .count, pre .1 .0 .few) }, omega arith))
 
 read-bracket-enum-known-r : (t : ℕ) → read-bracket-lts.Need-enum-known-r (read-bracket-calls t) (read-bracket-at t) read-bracket.Post
 read-bracket-enum-known-r t c = search needs
@@ -335,7 +348,12 @@ read-bracket-returns-3 t c =
     let read-expression = c .before .before .before .before .before .before .before .read-expression in
     let r = c .before .before .before .r in
     let expect = c .expect in
-    let m = moved .ensures in let w = went (read-expression .ensures .onward) (r .given .1) in record { gives = on _ (entered _ _ (if1 .left) m (read-expression .ensures .gives 4 (omega arith))) (r .given .1) (λ _ _. made _ (expect .ensures .gives _ _) (λ _ _ _. tt)); onward = further (expect .ensures .onward) (omega (arith, m .at, w .past)) (omega (arith, m .count, w .few)) }
+    let m = moved .ensures in
+    let w = went (read-expression .ensures .onward) (r .given .1) in
+    record {
+      gives = on _ (entered _ _ (if1 .left) m (read-expression .ensures .gives 4 (omega arith))) (r .given .1) (λ _ _. made _ (expect .ensures .gives _ _) (λ _ _ _. tt));
+      onward = further (expect .ensures .onward) (omega (arith, m .at, w .past)) (omega (arith, m .count, w .few));
+    }
 
 read-element-read-bracket-requires : (t : ℕ) → read-element-lts.Need-read-bracket-requires (read-element-calls t) (read-element-at t) read-element.Post
 read-element-read-bracket-requires t c κs =
@@ -374,7 +392,8 @@ read-element-returns-2 t c =
     let read-bracket = c .before .before .before .before .before .before .before .read-bracket in
     let r = c .before .before .before .r in
     let forbid = c .forbid in
-    let w = went (read-bracket .ensures .onward) (r .given .1) in λ e. record { gives = looked _ (stated _ (on _ (read-bracket .ensures .gives) (r .given .1) (λ _ _. made _ (forbid .ensures .gives _ _) (λ _ _ _. tt)))); onward = further (forbid .ensures .onward) (omega (arith, w .past)) (w .few) }
+    let w = went (read-bracket .ensures .onward) (r .given .1) in
+    λ e. record { gives = looked _ (stated _ (on _ (read-bracket .ensures .gives) (r .given .1) (λ _ _. made _ (forbid .ensures .gives _ _) (λ _ _ _. tt)))); onward = further (forbid .ensures .onward) (omega (arith, w .past)) (w .few) }
 
 abbrev read-expression-Inv-loop : read-expression-lts.InvT-loop
 read-expression-Inv-loop source names words₀ scan cell level room here₀ last₀ words here last = ((more : ℕ) → 5 ≤ suc more + level → (e : Expr) → Turning (repeat turns (turn-in (operand-in (cell-of cell) room) level more) (left e 0)) (turn-in (operand-in (cell-of cell) room) level more) source scan here₀ names words₀ (λ l. l .level ≡ last) here names words) × (length words ≡ 16384) × (here₀ .at ≤ here .at) × (here .at ≤ scan .count) × (here .count ≤ here₀ .count)
@@ -408,7 +427,8 @@ read-expression-loop-holds t c =
     let pre = c .before .before .before .before .before .before .before .before .before .before .pre in
     let read-operand = c .before .before .before .before .before .read-operand in
     let first = c .before .first in
-    let w = went (read-operand .ensures .onward) (first .given .1) in (λ more h e. turn-first (left e 0) refl, read-operand .kept .1 .1 .0 ∙ pre .1 .0 .table, omega arith, w .within, omega arith)
+    let w = went (read-operand .ensures .onward) (first .given .1) in
+    (λ more h e. turn-first (left e 0) refl, read-operand .kept .1 .1 .0 ∙ pre .1 .0 .table, omega arith, w .within, omega arith)
 
 read-expression-token-at-requires : (t : ℕ) → read-expression-lts.Need-token-at-requires (read-expression-calls t) (read-expression-at t) read-expression.Post read-expression-Inv-loop read-expression-μ-loop
 read-expression-token-at-requires t c κs =
@@ -435,7 +455,11 @@ read-expression-returns-2 t c =
     let token-at = c .before .before .token-at in
     let level-of = c .before .level-of in
     let if1 = c .if1 in
-    let w = went (read-operand .ensures .onward) (first .given .1) in record { gives = climbed _ _ (λ more h. on _ (read-operand .ensures .gives) (first .given .1) (λ e _. turn-done (loop .inv .0 more h e) (omega (arith, loop .inv .3, pre .1 .0 .tokens)) (λ l p. turn-ends _ _ (token-at .ensures) (level-of .ensures) l p (if1 .taken)))); onward = goes-on (omega (arith, w .past, loop .inv .2)) (loop .inv .3) (omega (arith, w .few, loop .inv .4)) }
+    let w = went (read-operand .ensures .onward) (first .given .1) in
+    record {
+      gives = climbed _ _ (λ more h. on _ (read-operand .ensures .gives) (first .given .1) (λ e _. turn-done (loop .inv .0 more h e) (omega (arith, loop .inv .3, pre .1 .0 .tokens)) (λ l p. turn-ends _ _ (token-at .ensures) (level-of .ensures) l p (if1 .taken))));
+      onward = goes-on (omega (arith, w .past, loop .inv .2)) (loop .inv .3) (omega (arith, w .few, loop .inv .4));
+    }
 
 read-expression-are-relations-requires : (t : ℕ) → read-expression-lts.Need-are-relations-requires (read-expression-calls t) (read-expression-at t) read-expression.Post read-expression-Inv-loop read-expression-μ-loop
 read-expression-are-relations-requires t c κs = search needs
@@ -465,7 +489,11 @@ read-expression-returns-3 t c =
     let are-relations = c .before .before .before .are-relations in
     let if2 = c .before .before .if2 in
     let refuse = c .refuse in
-    let y = refuse .ensures in record { gives = climbed _ _ (λ more h. on _ (read-operand .ensures .gives) (first .given .1) (λ e _. turn-refused (loop .inv .0 more h e) (omega (arith, loop .inv .3, pre .1 .0 .tokens)) (λ l p. turn-clashes _ _ (token-at .ensures) (level-of .ensures) l p (if1 .left) (are-relations .ensures) (if2 .taken) y) y)); onward = nowhere y }
+    let y = refuse .ensures in
+    record {
+      gives = climbed _ _ (λ more h. on _ (read-operand .ensures .gives) (first .given .1) (λ e _. turn-refused (loop .inv .0 more h e) (omega (arith, loop .inv .3, pre .1 .0 .tokens)) (λ l p. turn-clashes _ _ (token-at .ensures) (level-of .ensures) l p (if1 .left) (are-relations .ensures) (if2 .taken) y) y));
+      onward = nowhere y;
+    }
 
 read-expression-moved-requires : (t : ℕ) → read-expression-lts.Need-moved-requires (read-expression-calls t) (read-expression-at t) read-expression.Post read-expression-Inv-loop read-expression-μ-loop
 read-expression-moved-requires t c κs =
@@ -491,7 +519,10 @@ read-expression-read-expression-requires t c κs =
     let level-of = c .before .before .before .before .before .level-of in
     let if1 = c .before .before .before .before .if1 in
     let moved = c .moved in
-    let i = operator-inside (token-at .ensures) (level-of .ensures) (omega (arith, if1 .left, pre .1 .1)) in let w = went (read-operand .ensures .onward) (first .given .1) in let m = moved .ensures in (omega (arith, pre .0, w .past, loop .inv .2, m .at, i), (record { tokens = pre .1 .0 .tokens; table = loop .inv .1; list = pre .1 .0 .list; here = omega (arith, m .at, i); few = omega (arith, m .count, loop .inv .4, w .few, pre .1 .0 .few) }, omega arith))
+    let i = operator-inside (token-at .ensures) (level-of .ensures) (omega (arith, if1 .left, pre .1 .1)) in
+    let w = went (read-operand .ensures .onward) (first .given .1) in
+    let m = moved .ensures in
+    (omega (arith, pre .0, w .past, loop .inv .2, m .at, i), (record { tokens = pre .1 .0 .tokens; table = loop .inv .1; list = pre .1 .0 .list; here = omega (arith, m .at, i); few = omega (arith, m .count, loop .inv .4, w .few, pre .1 .0 .few) }, omega arith))
 
 read-expression-enum-known-right : (t : ℕ) → read-expression-lts.Need-enum-known-right (read-expression-calls t) (read-expression-at t) read-expression.Post read-expression-Inv-loop read-expression-μ-loop
 read-expression-enum-known-right t c = search needs
@@ -521,7 +552,11 @@ read-expression-returns-4 t c =
     let moved = c .before .before .before .before .before .moved in
     let read-expression = c .before .before .before .before .read-expression in
     let enum-told2 = c .enum-told2 in
-    let d = enum-told2 .given .1 in record { gives = climbed _ _ (λ more h. on _ (read-operand .ensures .gives) (first .given .1) (λ e _. turn-refused (loop .inv .0 more h e) (omega (arith, loop .inv .3, pre .1 .0 .tokens)) (λ l p. no-further (turn-right _ _ (token-at .ensures) (level-of .ensures) l p (if1 .left) (are-relations .ensures) (if2 .left) (moved .ensures) (read-expression .ensures .gives more (omega (arith, h, if1 .left)))) d) d)); onward = nowhere d }
+    let d = enum-told2 .given .1 in
+    record {
+      gives = climbed _ _ (λ more h. on _ (read-operand .ensures .gives) (first .given .1) (λ e _. turn-refused (loop .inv .0 more h e) (omega (arith, loop .inv .3, pre .1 .0 .tokens)) (λ l p. no-further (turn-right _ _ (token-at .ensures) (level-of .ensures) l p (if1 .left) (are-relations .ensures) (if2 .left) (moved .ensures) (read-expression .ensures .gives more (omega (arith, h, if1 .left)))) d) d));
+      onward = nowhere d;
+    }
 
 read-expression-loop-less : (t : ℕ) → read-expression-lts.Need-loop-less (read-expression-calls t) (read-expression-at t) read-expression.Post read-expression-Inv-loop read-expression-μ-loop
 read-expression-loop-less t c =
@@ -544,7 +579,9 @@ read-expression-loop-again t c =
     let moved = c .before .before .before .before .before .before .moved in
     let read-expression = c .before .before .before .before .before .read-expression in
     let right = c .before .right in
-    let w = went (read-expression .ensures .onward) (right .given .1) in let m = moved .ensures in (λ more h e. turn-again (loop .inv .0 more h e) (omega (arith, loop .inv .3, pre .1 .0 .tokens)) (λ l p. went-on (turn-right _ _ (token-at .ensures) (level-of .ensures) l p (if1 .left) (are-relations .ensures) (if2 .left) m (read-expression .ensures .gives more (omega (arith, h, if1 .left)))) (right .given .1)) (omega (arith, w .past, m .at)), read-expression .kept .1 .1 .0 ∙ loop .inv .1, omega (arith, w .past, m .at, loop .inv .2), w .within, omega (arith, w .few, m .count, loop .inv .4))
+    let w = went (read-expression .ensures .onward) (right .given .1) in
+    let m = moved .ensures in
+    (λ more h e. turn-again (loop .inv .0 more h e) (omega (arith, loop .inv .3, pre .1 .0 .tokens)) (λ l p. went-on (turn-right _ _ (token-at .ensures) (level-of .ensures) l p (if1 .left) (are-relations .ensures) (if2 .left) m (read-expression .ensures .gives more (omega (arith, h, if1 .left)))) (right .given .1)) (omega (arith, w .past, m .at)), read-expression .kept .1 .1 .0 ∙ loop .inv .1, omega (arith, w .past, m .at, loop .inv .2), w .within, omega (arith, w .few, m .count, loop .inv .4))
 
 read-operand-token-at-requires : (t : ℕ) → read-operand-lts.Need-token-at-requires (read-operand-calls t) (read-operand-at t) read-operand.Post
 read-operand-token-at-requires t c κs =
@@ -569,7 +606,8 @@ read-operand-read-primary-requires t c κs =
     let is-unary = c .before .before .before .is-unary in
     let if1 = c .before .before .if1 in
     let moved = c .moved in
-    let m = moved .ensures in (omega (arith, pre .0, m .at), record { tokens = pre .1 .tokens; table = pre .1 .table; list = pre .1 .list; here = omega (arith, m .at, token-at .ensures .inside, is-unary .ensures .kind (if1 .taken)); few = omega (arith, m .count, pre .1 .few) })
+    let m = moved .ensures in
+    (omega (arith, pre .0, m .at), record { tokens = pre .1 .tokens; table = pre .1 .table; list = pre .1 .list; here = omega (arith, m .at, token-at .ensures .inside, is-unary .ensures .kind (if1 .taken)); few = omega (arith, m .count, pre .1 .few) })
 
 read-operand-same-length : (t : ℕ) → read-operand-lts.Need-same-length (read-operand-calls t) (read-operand-at t) read-operand.Post
 read-operand-same-length t c = search needs
@@ -582,7 +620,11 @@ read-operand-returns t c =
     let if1 = c .before .before .before .before .before .if1 in
     let moved = c .before .before .before .moved in
     let read-primary = c .before .before .read-primary in
-    let m = moved .ensures in record { gives = operand-by _ _ (token _ (token-at .ensures) (so _ _ (sym (is-unary .ensures .is) ∙ if1 .taken) (made _ (on _ (advanced m) refl (λ _ _. read-primary .ensures .gives)) (λ _ _ _. tt)))); onward = further (read-primary .ensures .onward) (omega (arith, m .at)) (omega (arith, m .count)) }
+    let m = moved .ensures in
+    record {
+      gives = operand-by _ _ (token _ (token-at .ensures) (so _ _ (sym (is-unary .ensures .is) ∙ if1 .taken) (made _ (on _ (advanced m) refl (λ _ _. read-primary .ensures .gives)) (λ _ _ _. tt))));
+      onward = further (read-primary .ensures .onward) (omega (arith, m .at)) (omega (arith, m .count));
+    }
 
 read-operand-read-primary-requires-2 : (t : ℕ) → read-operand-lts.Need-read-primary-requires-2 (read-operand-calls t) (read-operand-at t) read-operand.Post
 read-operand-read-primary-requires-2 t c κs =
@@ -599,7 +641,10 @@ read-operand-returns-2 t c =
     let is-unary = c .before .before .before .before .before .is-unary in
     let if1 = c .before .before .before .before .if1 in
     let read-primary2 = c .before .before .read-primary2 in
-    record { gives = operand-by _ _ (token _ (token-at .ensures) (other _ _ (sym (is-unary .ensures .is) ∙ if1 .left) (read-primary2 .ensures .gives))); onward = read-primary2 .ensures .onward }
+    record {
+      gives = operand-by _ _ (token _ (token-at .ensures) (other _ _ (sym (is-unary .ensures .is) ∙ if1 .left) (read-primary2 .ensures .gives)));
+      onward = read-primary2 .ensures .onward;
+    }
 
 read-primary-token-at-requires : (t : ℕ) → read-primary-lts.Need-token-at-requires (read-primary-calls t) (read-primary-at t) read-primary.Post
 read-primary-token-at-requires t c κs =
@@ -622,7 +667,11 @@ read-primary-returns t c =
     let token-at = c .before .before .before .token-at in
     let if1 = c .before .if1 in
     let moved = c .moved in
-    let m = moved .ensures in record { gives = token _ (token-at .ensures) (so _ _ (eq-eqb _ _ (if1 .taken)) (made _ (advanced m) (λ _ _ _. tt))); onward = goes-on (omega (arith, m .at)) (omega (arith, m .at, token-at .ensures .inside, if1 .taken)) (omega (arith, m .count)) }
+    let m = moved .ensures in
+    record {
+      gives = token _ (token-at .ensures) (so _ _ (eq-eqb _ _ (if1 .taken)) (made _ (advanced m) (λ _ _ _. tt)));
+      onward = goes-on (omega (arith, m .at)) (omega (arith, m .at, token-at .ensures .inside, if1 .taken)) (omega (arith, m .count));
+    }
 
 read-primary-read-bracket-requires : (t : ℕ) → read-primary-lts.Need-read-bracket-requires (read-primary-calls t) (read-primary-at t) read-primary.Post
 read-primary-read-bracket-requires t c κs =
@@ -641,7 +690,10 @@ read-primary-returns-2 t c =
     let if1 = c .before .before .before .before .before .before .if1 in
     let if2 = c .before .before .before .before .if2 in
     let read-bracket = c .before .before .read-bracket in
-    record { gives = token _ (token-at .ensures) (other _ _ (ne-eqb _ _ (if1 .left)) (so _ _ (eq-eqb _ _ (if2 .taken)) (read-bracket .ensures .gives))); onward = read-bracket .ensures .onward }
+    record {
+      gives = token _ (token-at .ensures) (other _ _ (ne-eqb _ _ (if1 .left)) (so _ _ (eq-eqb _ _ (if2 .taken)) (read-bracket .ensures .gives)));
+      onward = read-bracket .ensures .onward;
+    }
 
 read-primary-read-neighbour-requires : (t : ℕ) → read-primary-lts.Need-read-neighbour-requires (read-primary-calls t) (read-primary-at t) read-primary.Post
 read-primary-read-neighbour-requires t c κs =
@@ -661,7 +713,10 @@ read-primary-returns-3 t c =
     let if2 = c .before .before .before .before .before .before .if2 in
     let if3 = c .before .before .before .before .if3 in
     let read-neighbour = c .before .before .read-neighbour in
-    record { gives = token _ (token-at .ensures) (other _ _ (ne-eqb _ _ (if1 .left)) (other _ _ (ne-eqb _ _ (if2 .left)) (so _ _ (eq-eqb _ _ (if3 .taken)) (read-neighbour .ensures .gives)))); onward = read-neighbour .ensures .onward }
+    record {
+      gives = token _ (token-at .ensures) (other _ _ (ne-eqb _ _ (if1 .left)) (other _ _ (ne-eqb _ _ (if2 .left)) (so _ _ (eq-eqb _ _ (if3 .taken)) (read-neighbour .ensures .gives))));
+      onward = read-neighbour .ensures .onward;
+    }
 
 read-primary-read-own-requires : (t : ℕ) → read-primary-lts.Need-read-own-requires (read-primary-calls t) (read-primary-at t) read-primary.Post
 read-primary-read-own-requires t c κs =
@@ -682,7 +737,10 @@ read-primary-returns-4 t c =
     let if3 = c .before .before .before .before .before .before .if3 in
     let if4 = c .before .before .before .before .if4 in
     let read-own = c .before .before .read-own in
-    record { gives = token _ (token-at .ensures) (other _ _ (ne-eqb _ _ (if1 .left)) (other _ _ (ne-eqb _ _ (if2 .left)) (other _ _ (ne-eqb _ _ (if3 .left)) (so _ _ (eq-eqb _ _ (if4 .taken)) (read-own .ensures .gives))))); onward = read-own .ensures .onward }
+    record {
+      gives = token _ (token-at .ensures) (other _ _ (ne-eqb _ _ (if1 .left)) (other _ _ (ne-eqb _ _ (if2 .left)) (other _ _ (ne-eqb _ _ (if3 .left)) (so _ _ (eq-eqb _ _ (if4 .taken)) (read-own .ensures .gives)))));
+      onward = read-own .ensures .onward;
+    }
 
 read-primary-moved-requires-2 : (t : ℕ) → read-primary-lts.Need-moved-requires-2 (read-primary-calls t) (read-primary-at t) read-primary.Post
 read-primary-moved-requires-2 t c κs =
@@ -713,7 +771,11 @@ read-primary-returns-5 t c =
     let if5 = c .before .before .before .if5 in
     let moved2 = c .before .moved2 in
     let plain = c .plain in
-    let m = moved2 .ensures in record { gives = token _ (token-at .ensures) (other _ _ (ne-eqb _ _ (if1 .left)) (other _ _ (ne-eqb _ _ (if2 .left)) (other _ _ (ne-eqb _ _ (if3 .left)) (other _ _ (ne-eqb _ _ (if4 .left)) (so _ _ (eq-eqb _ _ (if5 .taken)) (made _ (on _ (advanced m) refl (λ _ _. plain .ensures .gives _ _)) (λ _ _ _. tt))))))); onward = further (plain .ensures .onward) (omega (arith, m .at)) (omega (arith, m .count)) }
+    let m = moved2 .ensures in
+    record {
+      gives = token _ (token-at .ensures) (other _ _ (ne-eqb _ _ (if1 .left)) (other _ _ (ne-eqb _ _ (if2 .left)) (other _ _ (ne-eqb _ _ (if3 .left)) (other _ _ (ne-eqb _ _ (if4 .left)) (so _ _ (eq-eqb _ _ (if5 .taken)) (made _ (on _ (advanced m) refl (λ _ _. plain .ensures .gives _ _)) (λ _ _ _. tt)))))));
+      onward = further (plain .ensures .onward) (omega (arith, m .at)) (omega (arith, m .count));
+    }
 
 read-primary-find-name-requires : (t : ℕ) → read-primary-lts.Need-find-name-requires (read-primary-calls t) (read-primary-at t) read-primary.Post
 read-primary-find-name-requires t c κs =
@@ -747,7 +809,11 @@ read-primary-returns-6 t c =
     let find-name = c .before .before .before .before .find-name in
     let enum-told = c .before .before .enum-told in
     let refuse = c .refuse in
-    let y = refuse .ensures in record { gives = token _ (token-at .ensures) (other _ _ (ne-eqb _ _ (if1 .left)) (other _ _ (ne-eqb _ _ (if2 .left)) (other _ _ (ne-eqb _ _ (if3 .left)) (other _ _ (ne-eqb _ _ (if4 .left)) (other _ _ (ne-eqb _ _ (if5 .left)) (so _ _ (eq-eqb _ _ (if6 .taken)) (missed-it _ _ _ (find-name .ensures) (enum-told .given .1) (refused _ y)))))))); onward = nowhere y }
+    let y = refuse .ensures in
+    record {
+      gives = token _ (token-at .ensures) (other _ _ (ne-eqb _ _ (if1 .left)) (other _ _ (ne-eqb _ _ (if2 .left)) (other _ _ (ne-eqb _ _ (if3 .left)) (other _ _ (ne-eqb _ _ (if4 .left)) (other _ _ (ne-eqb _ _ (if5 .left)) (so _ _ (eq-eqb _ _ (if6 .taken)) (missed-it _ _ _ (find-name .ensures) (enum-told .given .1) (refused _ y))))))));
+      onward = nowhere y;
+    }
 
 read-primary-name-use-requires : (t : ℕ) → read-primary-lts.Need-name-use-requires (read-primary-calls t) (read-primary-at t) read-primary.Post
 read-primary-name-use-requires t c κs =
@@ -774,7 +840,10 @@ read-primary-returns-7 t c =
     let find-name = c .before .before .before .before .before .before .before .find-name in
     let f = c .before .before .before .before .before .f in
     let name-use = c .before .before .name-use in
-    record { gives = token _ (token-at .ensures) (other _ _ (ne-eqb _ _ (if1 .left)) (other _ _ (ne-eqb _ _ (if2 .left)) (other _ _ (ne-eqb _ _ (if3 .left)) (other _ _ (ne-eqb _ _ (if4 .left)) (other _ _ (ne-eqb _ _ (if5 .left)) (so _ _ (eq-eqb _ _ (if6 .taken)) (found-it _ _ _ (find-name .ensures) (f .given .1) (name-use .ensures .gives)))))))); onward = name-use .ensures .onward }
+    record {
+      gives = token _ (token-at .ensures) (other _ _ (ne-eqb _ _ (if1 .left)) (other _ _ (ne-eqb _ _ (if2 .left)) (other _ _ (ne-eqb _ _ (if3 .left)) (other _ _ (ne-eqb _ _ (if4 .left)) (other _ _ (ne-eqb _ _ (if5 .left)) (so _ _ (eq-eqb _ _ (if6 .taken)) (found-it _ _ _ (find-name .ensures) (f .given .1) (name-use .ensures .gives))))))));
+      onward = name-use .ensures .onward;
+    }
 
 read-primary-refuse-requires-2 : (t : ℕ) → read-primary-lts.Need-refuse-requires-2 (read-primary-calls t) (read-primary-at t) read-primary.Post
 read-primary-refuse-requires-2 t c κs =
@@ -795,7 +864,11 @@ read-primary-returns-8 t c =
     let if5 = c .before .before .before .before .if5 in
     let if6 = c .before .before .if6 in
     let refuse2 = c .refuse2 in
-    let y = refuse2 .ensures in record { gives = token _ (token-at .ensures) (other _ _ (ne-eqb _ _ (if1 .left)) (other _ _ (ne-eqb _ _ (if2 .left)) (other _ _ (ne-eqb _ _ (if3 .left)) (other _ _ (ne-eqb _ _ (if4 .left)) (other _ _ (ne-eqb _ _ (if5 .left)) (other _ _ (ne-eqb _ _ (if6 .left)) (refused _ y))))))); onward = nowhere y }
+    let y = refuse2 .ensures in
+    record {
+      gives = token _ (token-at .ensures) (other _ _ (ne-eqb _ _ (if1 .left)) (other _ _ (ne-eqb _ _ (if2 .left)) (other _ _ (ne-eqb _ _ (if3 .left)) (other _ _ (ne-eqb _ _ (if4 .left)) (other _ _ (ne-eqb _ _ (if5 .left)) (other _ _ (ne-eqb _ _ (if6 .left)) (refused _ y)))))));
+      onward = nowhere y;
+    }
 
 pub +array-use+name-use+read-bracket+read-element+read-expression+read-operand+read-primary-spec :
     {M : Type 1} → statement M

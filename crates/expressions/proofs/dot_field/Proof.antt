@@ -36,7 +36,11 @@ returns-2 c =
     let expect = c .before .before .before .before .expect in
     let r = c .before .before .r in
     let field-name = c .field-name in
-    let w = went (expect .ensures .onward) (r .given .1) in record { gives = on _ (expect .ensures .gives _ _) (r .given .1) (λ _ _. field-name .ensures .gives); onward = further (field-name .ensures .onward) (omega (arith, w .past)) (w .few) }
+    let w = went (expect .ensures .onward) (r .given .1) in
+    record {
+      gives = on _ (expect .ensures .gives _ _) (r .given .1) (λ _ _. field-name .ensures .gives);
+      onward = further (field-name .ensures .onward) (omega (arith, w .past)) (w .few);
+    }
 
 pub dot-field-spec : {M : Type 1} → statement M
 dot-field-spec =

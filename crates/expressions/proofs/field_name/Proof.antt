@@ -34,7 +34,11 @@ returns c =
     let find-name = c .before .before .before .find-name in
     let enum-told = c .before .enum-told in
     let refuse = c .refuse in
-    let y = refuse .ensures in record { gives = token _ (token-at .ensures) (so _ _ (sym (is-name .ensures .is) ∙ if1 .taken) (missed-it _ _ _ (find-name .ensures) (enum-told .given .1) (refused _ y))); onward = nowhere y }
+    let y = refuse .ensures in
+    record {
+      gives = token _ (token-at .ensures) (so _ _ (sym (is-name .ensures .is) ∙ if1 .taken) (missed-it _ _ _ (find-name .ensures) (enum-told .given .1) (refused _ y)));
+      onward = nowhere y;
+    }
 
 moved-requires : tie.Need-moved-requires
 moved-requires c κs =
@@ -64,7 +68,13 @@ returns-2 c =
     let f = c .before .before .before .f in
     let moved = c .before .moved in
     let carrying = c .carrying in
-    let m = moved .ensures in let k = carrying .ensures in let l = below-slot (find-name .ensures .below) (f .given .1) in record { gives = token _ (token-at .ensures) (so _ _ (sym (is-name .ensures .is) ∙ if1 .taken) (found-it _ _ _ (find-name .ensures) (f .given .1) (on _ (advanced m) refl (λ _ _. carried _ k (sym (k .word), omega (arith, k .word, k .count, m .count, l)))))); onward = goes-on (omega (arith, m .at, k .at)) (omega (arith, m .at, k .at, token-at .ensures .inside, is-name .ensures .kind (if1 .taken))) (omega (arith, k .count, m .count)) }
+    let m = moved .ensures in
+    let k = carrying .ensures in
+    let l = below-slot (find-name .ensures .below) (f .given .1) in
+    record {
+      gives = token _ (token-at .ensures) (so _ _ (sym (is-name .ensures .is) ∙ if1 .taken) (found-it _ _ _ (find-name .ensures) (f .given .1) (on _ (advanced m) refl (λ _ _. carried _ k (sym (k .word), omega (arith, k .word, k .count, m .count, l))))));
+      onward = goes-on (omega (arith, m .at, k .at)) (omega (arith, m .at, k .at, token-at .ensures .inside, is-name .ensures .kind (if1 .taken))) (omega (arith, k .count, m .count));
+    }
 
 refuse-requires-2 : tie.Need-refuse-requires-2
 refuse-requires-2 c κs = search needs

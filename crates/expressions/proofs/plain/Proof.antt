@@ -35,7 +35,11 @@ returns-2 c =
     let forbid = c .before .before .before .before .forbid in
     let r = c .before .before .r in
     let forbid2 = c .forbid2 in
-    let w = went (forbid .ensures .onward) (r .given .1) in record { gives = λ source ns. on _ (forbid .ensures .gives _ _) (r .given .1) (λ _ _. forbid2 .ensures .gives _ _); onward = further (forbid2 .ensures .onward) (omega (arith, w .past)) (w .few) }
+    let w = went (forbid .ensures .onward) (r .given .1) in
+    record {
+      gives = λ source ns. on _ (forbid .ensures .gives _ _) (r .given .1) (λ _ _. forbid2 .ensures .gives _ _);
+      onward = further (forbid2 .ensures .onward) (omega (arith, w .past)) (w .few);
+    }
 
 pub plain-spec : {M : Type 1} → statement M
 plain-spec =

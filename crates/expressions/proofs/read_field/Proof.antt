@@ -24,7 +24,10 @@ returns c =
     let if1 = c .before .before .before .if1 in
     let dot-field = c .before .before .dot-field in
     let enum-told = c .enum-told in
-    record { gives = so _ _ (if1 .taken) (off _ (off {Q = anything} _ (dot-field .ensures .gives) (enum-told .given .1)) (enum-told .given .1)); onward = nowhere (enum-told .given .1) }
+    record {
+      gives = so _ _ (if1 .taken) (off _ (off {Q = anything} _ (dot-field .ensures .gives) (enum-told .given .1)) (enum-told .given .1));
+      onward = nowhere (enum-told .given .1);
+    }
 
 forbid-requires : tie.Need-forbid-requires
 forbid-requires c κs =
@@ -47,7 +50,10 @@ returns-2 c =
     let r = c .before .before .before .before .r in
     let forbid = c .before .before .forbid in
     let enum-told2 = c .enum-told2 in
-    record { gives = so _ _ (if1 .taken) (off _ (on {Q = anything} _ (dot-field .ensures .gives) (r .given .1) (λ _ _. off _ (forbid .ensures .gives _ _) (enum-told2 .given .1))) (enum-told2 .given .1)); onward = nowhere (enum-told2 .given .1) }
+    record {
+      gives = so _ _ (if1 .taken) (off _ (on {Q = anything} _ (dot-field .ensures .gives) (r .given .1) (λ _ _. off _ (forbid .ensures .gives _ _) (enum-told2 .given .1))) (enum-told2 .given .1));
+      onward = nowhere (enum-told2 .given .1);
+    }
 
 cast-entry-in : tie.Need-cast-entry-in
 cast-entry-in c = search needs
@@ -72,7 +78,13 @@ returns-3 c =
     let q = c .before .before .before .before .q in
     let entry-in = c .before .entry-in in
     let carrying = c .carrying in
-    let w = went (dot-field .ensures .onward) (r .given .1) in let v = went (forbid .ensures .onward) (q .given .1) in let k = carrying .ensures in record { gives = so _ _ (if1 .taken) (field-read (dot-field .ensures .gives) (r .given .1) (forbid .ensures .gives _ _) (q .given .1) (entry-in .ensures) k); onward = goes-on (omega (arith, w .past, v .past, k .at)) (omega (arith, v .within, k .at)) (omega (arith, w .few, v .few, k .count)) }
+    let w = went (dot-field .ensures .onward) (r .given .1) in
+    let v = went (forbid .ensures .onward) (q .given .1) in
+    let k = carrying .ensures in
+    record {
+      gives = so _ _ (if1 .taken) (field-read (dot-field .ensures .gives) (r .given .1) (forbid .ensures .gives _ _) (q .given .1) (entry-in .ensures) k);
+      onward = goes-on (omega (arith, w .past, v .past, k .at)) (omega (arith, v .within, k .at)) (omega (arith, w .few, v .few, k .count));
+    }
 
 unnamed-requires : tie.Need-unnamed-requires
 unnamed-requires c κs = search needs
@@ -101,7 +113,12 @@ returns-5 c =
     let unnamed = c .before .before .before .before .unnamed in
     let r2 = c .before .before .r2 in
     let carrying2 = c .carrying2 in
-    let w = went (unnamed .ensures .onward) (r2 .given .1) in let k = carrying2 .ensures in record { gives = other _ _ (if1 .left) (on _ (unnamed .ensures .gives _ _) (r2 .given .1) (λ _ _. carried _ k (sym (k .word)))); onward = goes-on (omega (arith, w .past, k .at)) (omega (arith, w .within, k .at)) (omega (arith, w .few, k .count)) }
+    let w = went (unnamed .ensures .onward) (r2 .given .1) in
+    let k = carrying2 .ensures in
+    record {
+      gives = other _ _ (if1 .left) (on _ (unnamed .ensures .gives _ _) (r2 .given .1) (λ _ _. carried _ k (sym (k .word))));
+      onward = goes-on (omega (arith, w .past, k .at)) (omega (arith, w .within, k .at)) (omega (arith, w .few, k .count));
+    }
 
 pub read-field-spec : {M : Type 1} → statement M
 read-field-spec =

@@ -38,7 +38,11 @@ returns c =
     let find-name = c .before .before .before .before .find-name in
     let enum-told = c .before .before .enum-told in
     let refuse = c .refuse in
-    let y = refuse .ensures in record { gives = token _ (token-at .ensures) (so _ _ (sym (is-name .ensures .is) ∙ if1 .taken) (missed-it _ _ _ (find-name .ensures) (enum-told .given .1) (refused _ y))); onward = nowhere y }
+    let y = refuse .ensures in
+    record {
+      gives = token _ (token-at .ensures) (so _ _ (sym (is-name .ensures .is) ∙ if1 .taken) (missed-it _ _ _ (find-name .ensures) (enum-told .given .1) (refused _ y)));
+      onward = nowhere y;
+    }
 
 named-index-requires : tie.Need-named-index-requires
 named-index-requires c κs =
@@ -62,7 +66,10 @@ returns-2 c =
     let find-name = c .before .before .before .before .before .before .before .find-name in
     let f = c .before .before .before .before .before .f in
     let named-index = c .before .before .named-index in
-    record { gives = token _ (token-at .ensures) (so _ _ (sym (is-name .ensures .is) ∙ if1 .taken) (found-it _ _ _ (find-name .ensures) (f .given .1) (named-index .ensures _ (token-at .result) .gives))); onward = named-index .ensures [] (token-at .result) .onward }
+    record {
+      gives = token _ (token-at .ensures) (so _ _ (sym (is-name .ensures .is) ∙ if1 .taken) (found-it _ _ _ (find-name .ensures) (f .given .1) (named-index .ensures _ (token-at .result) .gives)));
+      onward = named-index .ensures [] (token-at .result) .onward;
+    }
 
 fixed-index-requires : tie.Need-fixed-index-requires
 fixed-index-requires c κs = search needs
@@ -77,7 +84,10 @@ returns-3 c =
     let is-name = c .before .before .before .before .before .is-name in
     let if1 = c .before .before .before .before .if1 in
     let fixed-index = c .before .before .fixed-index in
-    record { gives = token _ (token-at .ensures) (other _ _ (sym (is-name .ensures .is) ∙ if1 .left) (fixed-index .ensures (token-at .result) .gives)); onward = fixed-index .ensures (token-at .result) .onward }
+    record {
+      gives = token _ (token-at .ensures) (other _ _ (sym (is-name .ensures .is) ∙ if1 .left) (fixed-index .ensures (token-at .result) .gives));
+      onward = fixed-index .ensures (token-at .result) .onward;
+    }
 
 pub read-index-spec : {M : Type 1} → statement M
 read-index-spec =

@@ -53,7 +53,8 @@ returns c =
     let loop = c .before .before .before .before .before .before .loop in
     let read-index = c .before .before .before .before .read-index in
     let enum-told = c .enum-told in
-    let e = enum-told .given .1 in record { gives = turn-refused (loop .inv .0) (omega (arith, loop .inv .3, pre .tokens)) (λ x p. off _ (read-index .ensures .gives) e) e; onward = nowhere e }
+    let e = enum-told .given .1 in
+    record { gives = turn-refused (loop .inv .0) (omega (arith, loop .inv .3, pre .tokens)) (λ x p. off _ (read-index .ensures .gives) e) e; onward = nowhere e }
 
 add-k : tie.Need-add-k Inv-loop μ-loop
 add-k c =
@@ -93,7 +94,11 @@ returns-2 c =
     let if1 = c .before .before .before .before .if1 in
     let if2 = c .before .before .if2 in
     let refuse = c .refuse in
-    let y = refuse .ensures in record { gives = turn-refused (loop .inv .0) (omega (arith, loop .inv .3, pre .tokens)) (λ x p. on _ (read-index .ensures .gives) (r .given .1) (λ i _. token _ (token-at .ensures) (other _ _ (first-not _ (ne-eqb _ _ (if1 .taken))) (other _ _ (first-not _ (ne-eqb _ _ (if2 .taken))) (other _ _ (neither (ne-eqb _ _ (if1 .taken)) (ne-eqb _ _ (if2 .taken))) (refused _ y)))))) y; onward = nowhere y }
+    let y = refuse .ensures in
+    record {
+      gives = turn-refused (loop .inv .0) (omega (arith, loop .inv .3, pre .tokens)) (λ x p. on _ (read-index .ensures .gives) (r .given .1) (λ i _. token _ (token-at .ensures) (other _ _ (first-not _ (ne-eqb _ _ (if1 .taken))) (other _ _ (first-not _ (ne-eqb _ _ (if2 .taken))) (other _ _ (neither (ne-eqb _ _ (if1 .taken)) (ne-eqb _ _ (if2 .taken))) (refused _ y)))))) y;
+      onward = nowhere y;
+    }
 
 moved-requires : tie.Need-moved-requires Inv-loop μ-loop
 moved-requires c κs =
@@ -121,7 +126,12 @@ returns-3 c =
     let if2 = c .before .before .before .if2 in
     let if3 = c .before .if3 in
     let moved = c .moved in
-    let m = moved .ensures in let w = went (read-index .ensures .onward) (r .given .1) in record { gives = turn-done (loop .inv .0) (omega (arith, loop .inv .3, pre .tokens)) (λ x p. on _ (read-index .ensures .gives) (r .given .1) (λ i _. token _ (token-at .ensures) (other _ _ (first-not _ (ne-eqb _ _ (if1 .taken))) (so _ _ (both-hold (eq-eqb _ _ (if2 .left)) (full x i p (if3 .taken))) (on _ (advanced m) refl (λ _ _. returned (done _) tt)))))); onward = goes-on (omega (arith, w .past, m .at, loop .inv .2)) (omega (arith, m .at, token-at .ensures .inside, if2 .left)) (omega (arith, m .count, w .few, loop .inv .4)) }
+    let m = moved .ensures in
+    let w = went (read-index .ensures .onward) (r .given .1) in
+    record {
+      gives = turn-done (loop .inv .0) (omega (arith, loop .inv .3, pre .tokens)) (λ x p. on _ (read-index .ensures .gives) (r .given .1) (λ i _. token _ (token-at .ensures) (other _ _ (first-not _ (ne-eqb _ _ (if1 .taken))) (so _ _ (both-hold (eq-eqb _ _ (if2 .left)) (full x i p (if3 .taken))) (on _ (advanced m) refl (λ _ _. returned (done _) tt))))));
+      onward = goes-on (omega (arith, w .past, m .at, loop .inv .2)) (omega (arith, m .at, token-at .ensures .inside, if2 .left)) (omega (arith, m .count, w .few, loop .inv .4));
+    }
 
 refuse-requires-2 : tie.Need-refuse-requires-2 Inv-loop μ-loop
 refuse-requires-2 c κs =
@@ -149,7 +159,11 @@ returns-4 c =
     let if2 = c .before .before .before .before .if2 in
     let if3 = c .before .before .if3 in
     let refuse2 = c .refuse2 in
-    let y = refuse2 .ensures in record { gives = turn-refused (loop .inv .0) (omega (arith, loop .inv .3, pre .tokens)) (λ x p. on _ (read-index .ensures .gives) (r .given .1) (λ i _. token _ (token-at .ensures) (other _ _ (first-not _ (ne-eqb _ _ (if1 .taken))) (other _ _ (second-not (eq-eqb _ _ (if2 .left)) (not-full x i p (if3 .left))) (so _ _ (second-holds (eqb (token-at .result .kind) 44) (eq-eqb _ _ (if2 .left))) (refused _ y)))))) y; onward = nowhere y }
+    let y = refuse2 .ensures in
+    record {
+      gives = turn-refused (loop .inv .0) (omega (arith, loop .inv .3, pre .tokens)) (λ x p. on _ (read-index .ensures .gives) (r .given .1) (λ i _. token _ (token-at .ensures) (other _ _ (first-not _ (ne-eqb _ _ (if1 .taken))) (other _ _ (second-not (eq-eqb _ _ (if2 .left)) (not-full x i p (if3 .left))) (so _ _ (second-holds (eqb (token-at .result .kind) 44) (eq-eqb _ _ (if2 .left))) (refused _ y)))))) y;
+      onward = nowhere y;
+    }
 
 refuse-requires-3 : tie.Need-refuse-requires-3 Inv-loop μ-loop
 refuse-requires-3 c κs =
@@ -176,7 +190,11 @@ returns-5 c =
     let if1 = c .before .before .before .before .if1 in
     let if4 = c .before .before .if4 in
     let refuse3 = c .refuse3 in
-    let y = refuse3 .ensures in record { gives = turn-refused (loop .inv .0) (omega (arith, loop .inv .3, pre .tokens)) (λ x p. on _ (read-index .ensures .gives) (r .given .1) (λ i _. token _ (token-at .ensures) (other _ _ (second-not (eq-eqb _ _ (if1 .left)) (not-false (full x i p (if4 .taken)))) (other _ _ (first-not _ (ne-eqb (token-at .result .kind) 93 (λ e. omega (arith, e, if1 .left)))) (so _ _ (first-holds _ (eq-eqb _ _ (if1 .left))) (refused _ y)))))) y; onward = nowhere y }
+    let y = refuse3 .ensures in
+    record {
+      gives = turn-refused (loop .inv .0) (omega (arith, loop .inv .3, pre .tokens)) (λ x p. on _ (read-index .ensures .gives) (r .given .1) (λ i _. token _ (token-at .ensures) (other _ _ (second-not (eq-eqb _ _ (if1 .left)) (not-false (full x i p (if4 .taken)))) (other _ _ (first-not _ (ne-eqb (token-at .result .kind) 93 (λ e. omega (arith, e, if1 .left)))) (so _ _ (first-holds _ (eq-eqb _ _ (if1 .left))) (refused _ y)))))) y;
+      onward = nowhere y;
+    }
 
 moved-requires-2 : tie.Need-moved-requires-2 Inv-loop μ-loop
 moved-requires-2 c κs =
@@ -205,7 +223,9 @@ loop-again c =
     let if1 = c .before .before .before .if1 in
     let if4 = c .before .if4 in
     let moved2 = c .moved2 in
-    let m = moved2 .ensures in let w = went (read-index .ensures .onward) (r .given .1) in (turn-again (loop .inv .0) (omega (arith, loop .inv .3, pre .tokens)) (λ x p. on _ (read-index .ensures .gives) (r .given .1) (λ i _. token _ (token-at .ensures) (so _ _ (both-hold (eq-eqb _ _ (if1 .left)) (not-true (not-full x i p (if4 .left)))) (on _ (advanced m) refl (λ _ _. returned (again _) (counted x i p)))))) (omega (arith, w .past, m .at)), read-index .kept .1 .1 .0 ∙ loop .inv .1, omega (arith, w .past, m .at, loop .inv .2), omega (arith, m .at, token-at .ensures .inside, if1 .left), omega (arith, m .count, w .few, loop .inv .4), omega (arith, w .past, m .at, loop .inv .5))
+    let m = moved2 .ensures in
+    let w = went (read-index .ensures .onward) (r .given .1) in
+    (turn-again (loop .inv .0) (omega (arith, loop .inv .3, pre .tokens)) (λ x p. on _ (read-index .ensures .gives) (r .given .1) (λ i _. token _ (token-at .ensures) (so _ _ (both-hold (eq-eqb _ _ (if1 .left)) (not-true (not-full x i p (if4 .left)))) (on _ (advanced m) refl (λ _ _. returned (again _) (counted x i p)))))) (omega (arith, w .past, m .at)), read-index .kept .1 .1 .0 ∙ loop .inv .1, omega (arith, w .past, m .at, loop .inv .2), omega (arith, m .at, token-at .ensures .inside, if1 .left), omega (arith, m .count, w .few, loop .inv .4), omega (arith, w .past, m .at, loop .inv .5))
 
 pub read-indices-spec : {M : Type 1} → statement M
 read-indices-spec =

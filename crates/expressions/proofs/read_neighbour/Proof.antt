@@ -52,7 +52,10 @@ returns-2 c =
     let o = c .before .before .before .before .before .before .before .o in
     let read-indices = c .before .before .before .before .read-indices in
     let enum-told2 = c .enum-told2 in
-    record { gives = here _ (on _ (opening-as (args .room) (opening .ensures) .gives _ _) (o .given .1) (λ _ _. off _ (read-indices .ensures .gives) (enum-told2 .given .1))); onward = nowhere (enum-told2 .given .1) }
+    record {
+      gives = here _ (on _ (opening-as (args .room) (opening .ensures) .gives _ _) (o .given .1) (λ _ _. off _ (read-indices .ensures .gives) (enum-told2 .given .1)));
+      onward = nowhere (enum-told2 .given .1);
+    }
 
 read-field-requires : tie.Need-read-field-requires
 read-field-requires c κs =
@@ -61,7 +64,9 @@ read-field-requires c κs =
     let o = c .before .before .before .before .before .before .before .before .before .o in
     let read-indices = c .before .before .before .before .before .before .read-indices in
     let q = c .before .before .q in
-    let u = went (opening .ensures .onward) (o .given .1) in let v = went (read-indices .ensures .onward) (q .given .1) in still (pre .0) refl (read-indices .kept .1 .1 .0) v (omega (arith, u .few, pre .0 .few))
+    let u = went (opening .ensures .onward) (o .given .1) in
+    let v = went (read-indices .ensures .onward) (q .given .1) in
+    still (pre .0) refl (read-indices .kept .1 .1 .0) v (omega (arith, u .few, pre .0 .few))
 
 enum-known-r : tie.Need-enum-known-r
 enum-known-r c = search needs
@@ -82,7 +87,10 @@ returns-3 c =
     let q = c .before .before .before .before .before .q in
     let read-field = c .before .before .read-field in
     let enum-told3 = c .enum-told3 in
-    record { gives = here _ (on _ (opening-as (args .room) (opening .ensures) .gives _ _) (o .given .1) (λ _ _. on _ (read-indices .ensures .gives) (q .given .1) (λ _ _. off _ (read-field .ensures .gives) (enum-told3 .given .1)))); onward = nowhere (enum-told3 .given .1) }
+    record {
+      gives = here _ (on _ (opening-as (args .room) (opening .ensures) .gives _ _) (o .given .1) (λ _ _. on _ (read-indices .ensures .gives) (q .given .1) (λ _ _. off _ (read-field .ensures .gives) (enum-told3 .given .1))));
+      onward = nowhere (enum-told3 .given .1);
+    }
 
 put-field-requires : tie.Need-put-field-requires
 put-field-requires c κs =
@@ -106,7 +114,13 @@ returns-4 c =
     let read-field = c .before .before .before .before .before .before .before .read-field in
     let r = c .before .before .before .before .before .r in
     let put-field = c .before .before .put-field in
-    let u = went (opening .ensures .onward) (o .given .1) in let v = went (read-indices .ensures .onward) (q .given .1) in let w = went (read-field .ensures .onward) (r .given .1) in record { gives = here _ (on _ (opening-as (args .room) (opening .ensures) .gives _ _) (o .given .1) (λ _ _. on _ (read-indices .ensures .gives) (q .given .1) (λ _ _. on-told _ (read-field .ensures .gives) (r .given .1) (on _ (put-field .ensures _ _ _) refl (λ _ _. returned _ tt))))); onward = goes-on (omega (arith, u .past, v .past, w .past)) (w .within) (omega (arith, u .few, v .few, w .few)) }
+    let u = went (opening .ensures .onward) (o .given .1) in
+    let v = went (read-indices .ensures .onward) (q .given .1) in
+    let w = went (read-field .ensures .onward) (r .given .1) in
+    record {
+      gives = here _ (on _ (opening-as (args .room) (opening .ensures) .gives _ _) (o .given .1) (λ _ _. on _ (read-indices .ensures .gives) (q .given .1) (λ _ _. on-told _ (read-field .ensures .gives) (r .given .1) (on _ (put-field .ensures _ _ _) refl (λ _ _. returned _ tt)))));
+      onward = goes-on (omega (arith, u .past, v .past, w .past)) (w .within) (omega (arith, u .few, v .few, w .few));
+    }
 
 pub read-neighbour-spec : {M : Type 1} → statement M
 read-neighbour-spec =

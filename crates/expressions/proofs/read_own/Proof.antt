@@ -47,7 +47,12 @@ returns-2 c =
     let read-field = c .before .before .before .before .before .before .before .read-field in
     let r = c .before .before .before .before .before .r in
     let put-field = c .before .before .put-field in
-    let m = moved .ensures in let w = went (read-field .ensures .onward) (r .given .1) in record { gives = here _ (on _ (advanced m) refl (λ _ _. on-told _ (read-field .ensures .gives) (r .given .1) (on _ (put-field .ensures _ _ _) refl (λ _ _. returned _ tt)))); onward = goes-on (omega (arith, w .past, m .at)) (w .within) (omega (arith, w .few, m .count)) }
+    let m = moved .ensures in
+    let w = went (read-field .ensures .onward) (r .given .1) in
+    record {
+      gives = here _ (on _ (advanced m) refl (λ _ _. on-told _ (read-field .ensures .gives) (r .given .1) (on _ (put-field .ensures _ _ _) refl (λ _ _. returned _ tt))));
+      onward = goes-on (omega (arith, w .past, m .at)) (w .within) (omega (arith, w .few, m .count));
+    }
 
 pub read-own-spec : {M : Type 1} → statement M
 read-own-spec =

@@ -166,7 +166,12 @@ arm-end-returns t c =
     let token-at = c .before .before .before .token-at in
     let if1 = c .before .if1 in
     let carrying = c .carrying in
-    let z = pre .1 .0 in let k = carrying .ensures in record { gives = λ arms _. token _ (token-at .ensures) (so _ _ (eq-eqb _ _ (if1 .taken)) (carried _ k (once (k .word, omega (arith, k .at, token-at .ensures .inside, if1 .taken))))); onward = goes-on (omega (arith, k .at)) (omega (arith, k .at, z .here)) (omega (arith, k .count, z .few)) }
+    let z = pre .1 .0 in
+    let k = carrying .ensures in
+    record {
+      gives = λ arms _. token _ (token-at .ensures) (so _ _ (eq-eqb _ _ (if1 .taken)) (carried _ k (once (k .word, omega (arith, k .at, token-at .ensures .inside, if1 .taken)))));
+      onward = goes-on (omega (arith, k .at)) (omega (arith, k .at, z .here)) (omega (arith, k .count, z .few));
+    }
 
 arm-end-moved-requires : (t : ℕ) → arm-end-lts.Need-moved-requires (arm-end-calls t) (arm-end-at t) arm-end-fn.Post
 arm-end-moved-requires t c κs =
@@ -181,7 +186,9 @@ arm-end-read-block-requires t c κs =
     let token-at = c .before .before .before .before .before .before .before .token-at in
     let if2 = c .before .before .before .if2 in
     let moved = c .moved in
-    let z = pre .1 in let m = moved .ensures in (omega (arith, pre .0, m .at, token-at .ensures .inside, if2 .taken), (record { tokens = z .0 .tokens; table = z .0 .table; list = z .0 .list; here = omega (arith, m .at, token-at .ensures .inside, if2 .taken); few = omega (arith, m .count, z .0 .few) }, z .1))
+    let z = pre .1 in
+    let m = moved .ensures in
+    (omega (arith, pre .0, m .at, token-at .ensures .inside, if2 .taken), (record { tokens = z .0 .tokens; table = z .0 .table; list = z .0 .list; here = omega (arith, m .at, token-at .ensures .inside, if2 .taken); few = omega (arith, m .count, z .0 .few) }, z .1))
 
 arm-end-enum-known-r : (t : ℕ) → arm-end-lts.Need-enum-known-r (arm-end-calls t) (arm-end-at t) arm-end-fn.Post
 arm-end-enum-known-r t c = search needs
@@ -208,7 +215,10 @@ arm-end-returns-2 t c =
     let moved = c .before .before .before .before .before .before .before .moved in
     let read-block′ = c .before .before .before .before .before .before .read-block in
     let enum-told = c .enum-told in
-    record { gives = λ arms _. token _ (token-at .ensures) (other _ _ (ne-eqb _ _ (if1 .left)) (so _ _ (eq-eqb _ _ (if2 .taken)) (off {R = anything} _ (off _ (on _ (advanced (moved .ensures)) refl (λ _ _. read-block′ .ensures .gives)) (enum-told .given .1)) (enum-told .given .1)))); onward = nowhere (enum-told .given .1) }
+    record {
+      gives = λ arms _. token _ (token-at .ensures) (other _ _ (ne-eqb _ _ (if1 .left)) (so _ _ (eq-eqb _ _ (if2 .taken)) (off {R = anything} _ (off _ (on _ (advanced (moved .ensures)) refl (λ _ _. read-block′ .ensures .gives)) (enum-told .given .1)) (enum-told .given .1))));
+      onward = nowhere (enum-told .given .1);
+    }
 
 arm-end-read-end-requires : (t : ℕ) → arm-end-lts.Need-read-end-requires (arm-end-calls t) (arm-end-at t) arm-end-fn.Post
 arm-end-read-end-requires t c κs =
@@ -236,7 +246,12 @@ arm-end-returns-3 t c =
     let read-block′ = c .before .before .before .before .before .before .before .before .before .read-block in
     let r = c .before .before .before .r in
     let read-end = c .read-end in
-    let m = moved .ensures in let w = went (read-block′ .ensures .onward) (r .given .1) in record { gives = λ arms _. token _ (token-at .ensures) (other _ _ (ne-eqb _ _ (if1 .left)) (so _ _ (eq-eqb _ _ (if2 .taken)) (made {R = zero-in} (λ b. done (choices arms b)) (on _ (on _ (advanced m) refl (λ _ _. read-block′ .ensures .gives)) (r .given .1) (λ b _. made (λ _. b) (read-end .ensures .gives _ _) (λ _ _ p. p))) (λ _ _ p. ends p)))); onward = further (read-end .ensures .onward) (omega (arith, m .at, w .past)) (w .few) }
+    let m = moved .ensures in
+    let w = went (read-block′ .ensures .onward) (r .given .1) in
+    record {
+      gives = λ arms _. token _ (token-at .ensures) (other _ _ (ne-eqb _ _ (if1 .left)) (so _ _ (eq-eqb _ _ (if2 .taken)) (made {R = zero-in} (λ b. done (choices arms b)) (on _ (on _ (advanced m) refl (λ _ _. read-block′ .ensures .gives)) (r .given .1) (λ b _. made (λ _. b) (read-end .ensures .gives _ _) (λ _ _ p. p))) (λ _ _ p. ends p))));
+      onward = further (read-end .ensures .onward) (omega (arith, m .at, w .past)) (w .few);
+    }
 
 arm-end-read-end-requires-2 : (t : ℕ) → arm-end-lts.Need-read-end-requires-2 (arm-end-calls t) (arm-end-at t) arm-end-fn.Post
 arm-end-read-end-requires-2 t c κs =
@@ -254,7 +269,10 @@ arm-end-returns-4 t c =
     let if1 = c .before .before .before .before .if1 in
     let if2 = c .before .before .if2 in
     let read-end2 = c .read-end2 in
-    record { gives = λ arms _. token _ (token-at .ensures) (other _ _ (ne-eqb _ _ (if1 .left)) (other _ _ (ne-eqb _ _ (if2 .left)) (made (λ _. done (choices arms _)) (read-end2 .ensures .gives _ _) (λ _ _ p. ends p)))); onward = further (read-end2 .ensures .onward) (omega arith) (pre .1 .0 .few) }
+    record {
+      gives = λ arms _. token _ (token-at .ensures) (other _ _ (ne-eqb _ _ (if1 .left)) (other _ _ (ne-eqb _ _ (if2 .left)) (made (λ _. done (choices arms _)) (read-end2 .ensures .gives _ _) (λ _ _ p. ends p))));
+      onward = further (read-end2 .ensures .onward) (omega arith) (pre .1 .0 .few);
+    }
 
 read-arm-moved-requires : (t : ℕ) → read-arm-lts.Need-moved-requires (read-arm-calls t) (read-arm-at t) read-arm-fn.Post
 read-arm-moved-requires t c κs =
@@ -265,7 +283,9 @@ read-arm-read-expression-requires : (t : ℕ) → read-arm-lts.Need-read-express
 read-arm-read-expression-requires t c κs =
     let pre = c .before .before .before .before .before .before .pre in
     let moved = c .moved in
-    let z = pre .1 in let m = moved .ensures in (record { tokens = z .0 .tokens; table = z .0 .table; list = z .0 .list; here = omega (arith, m .at, z .1); few = omega (arith, m .count, z .0 .few) }, omega arith)
+    let z = pre .1 in
+    let m = moved .ensures in
+    (record { tokens = z .0 .tokens; table = z .0 .table; list = z .0 .list; here = omega (arith, m .at, z .1); few = omega (arith, m .count, z .0 .few) }, omega arith)
 
 read-arm-enum-known-r : (t : ℕ) → read-arm-lts.Need-enum-known-r (read-arm-calls t) (read-arm-at t) read-arm-fn.Post
 read-arm-enum-known-r t c = search needs
@@ -287,7 +307,10 @@ read-arm-returns t c =
     let moved = c .before .before .before .before .before .moved in
     let read-expression′ = c .before .before .before .before .read-expression in
     let enum-told = c .enum-told in
-    record { gives = λ got _. here _ (on _ (advanced (moved .ensures)) refl (λ _ _. off _ (expression (read-expression′ .ensures) .gives) (enum-told .given .1))); onward = nowhere (enum-told .given .1) }
+    record {
+      gives = λ got _. here _ (on _ (advanced (moved .ensures)) refl (λ _ _. off _ (expression (read-expression′ .ensures) .gives) (enum-told .given .1)));
+      onward = nowhere (enum-told .given .1);
+    }
 
 read-arm-expect-requires : (t : ℕ) → read-arm-lts.Need-expect-requires (read-arm-calls t) (read-arm-at t) read-arm-fn.Post
 read-arm-expect-requires t c κs =
@@ -317,7 +340,10 @@ read-arm-returns-2 t c =
     let r = c .before .before .before .before .before .r in
     let expect = c .before .before .expect in
     let enum-told2 = c .enum-told2 in
-    record { gives = λ got _. here _ (on _ (advanced (moved .ensures)) refl (λ _ _. on _ (expression (read-expression′ .ensures) .gives) (r .given .1) (λ _ _. off _ (expect .ensures .gives _ _) (enum-told2 .given .1)))); onward = nowhere (enum-told2 .given .1) }
+    record {
+      gives = λ got _. here _ (on _ (advanced (moved .ensures)) refl (λ _ _. on _ (expression (read-expression′ .ensures) .gives) (r .given .1) (λ _ _. off _ (expect .ensures .gives _ _) (enum-told2 .given .1))));
+      onward = nowhere (enum-told2 .given .1);
+    }
 
 read-arm-read-block-requires : (t : ℕ) → read-arm-lts.Need-read-block-requires (read-arm-calls t) (read-arm-at t) read-arm-fn.Post
 read-arm-read-block-requires t c κs =
@@ -327,7 +353,11 @@ read-arm-read-block-requires t c κs =
     let r = c .before .before .before .before .before .before .before .before .r in
     let expect = c .before .before .before .before .before .expect in
     let q = c .before .before .before .q in
-    let z = pre .1 in let m = moved .ensures in let v = went (read-expression′ .ensures .onward) (r .given .1) in let w = went (expect .ensures .onward) (q .given .1) in (omega (arith, pre .0, m .at, v .past, w .past, w .within), (record { tokens = z .0 .tokens; table = read-expression′ .kept .1 .1 .0 ∙ z .0 .table; list = z .0 .list; here = w .within; few = omega (arith, m .count, v .few, w .few, z .0 .few) }, z .2))
+    let z = pre .1 in
+    let m = moved .ensures in
+    let v = went (read-expression′ .ensures .onward) (r .given .1) in
+    let w = went (expect .ensures .onward) (q .given .1) in
+    (omega (arith, pre .0, m .at, v .past, w .past, w .within), (record { tokens = z .0 .tokens; table = read-expression′ .kept .1 .1 .0 ∙ z .0 .table; list = z .0 .list; here = w .within; few = omega (arith, m .count, v .few, w .few, z .0 .few) }, z .2))
 
 read-arm-enum-known-p : (t : ℕ) → read-arm-lts.Need-enum-known-p (read-arm-calls t) (read-arm-at t) read-arm-fn.Post
 read-arm-enum-known-p t c = search needs
@@ -356,7 +386,10 @@ read-arm-returns-3 t c =
     let q = c .before .before .before .before .before .before .before .before .before .before .q in
     let read-block′ = c .before .before .before .before .before .before .read-block in
     let enum-told3 = c .enum-told3 in
-    record { gives = λ got _. here _ (on _ (advanced (moved .ensures)) refl (λ _ _. on _ (expression (read-expression′ .ensures) .gives) (r .given .1) (λ _ _. on _ (expect .ensures .gives _ _) (q .given .1) (λ _ _. off _ (read-block′ .ensures .gives) (enum-told3 .given .1))))); onward = nowhere (enum-told3 .given .1) }
+    record {
+      gives = λ got _. here _ (on _ (advanced (moved .ensures)) refl (λ _ _. on _ (expression (read-expression′ .ensures) .gives) (r .given .1) (λ _ _. on _ (expect .ensures .gives _ _) (q .given .1) (λ _ _. off _ (read-block′ .ensures .gives) (enum-told3 .given .1)))));
+      onward = nowhere (enum-told3 .given .1);
+    }
 
 read-arm-cast-put-word : (t : ℕ) → read-arm-lts.Need-cast-put-word (read-arm-calls t) (read-arm-at t) read-arm-fn.Post
 read-arm-cast-put-word t c =
@@ -383,7 +416,12 @@ read-arm-arm-end-requires t c κs =
     let read-block′ = c .before .before .before .before .before .before .before .before .before .before .before .before .before .before .read-block in
     let p = c .before .before .before .before .before .before .before .before .p in
     let put-word = c .before .before .before .before .put-word in
-    let z = pre .1 in let m = moved .ensures in let u = went (read-expression′ .ensures .onward) (r .given .1) in let v = went (expect .ensures .onward) (q .given .1) in let w = went (read-block′ .ensures .onward) (p .given .1) in (omega (arith, pre .0, m .at, u .past, v .past, w .past, w .within), (record { tokens = z .0 .tokens; table = put-word .kept .0 ∙ read-block′ .kept .1 .1 .0 ∙ read-expression′ .kept .1 .1 .0 ∙ z .0 .table; list = read-block′ .kept .1 .0 ∙ z .0 .list; here = w .within; few = w .few }, z .2))
+    let z = pre .1 in
+    let m = moved .ensures in
+    let u = went (read-expression′ .ensures .onward) (r .given .1) in
+    let v = went (expect .ensures .onward) (q .given .1) in
+    let w = went (read-block′ .ensures .onward) (p .given .1) in
+    (omega (arith, pre .0, m .at, u .past, v .past, w .past, w .within), (record { tokens = z .0 .tokens; table = put-word .kept .0 ∙ read-block′ .kept .1 .1 .0 ∙ read-expression′ .kept .1 .1 .0 ∙ z .0 .table; list = read-block′ .kept .1 .0 ∙ z .0 .list; here = w .within; few = w .few }, z .2))
 
 read-arm-same-length-7 : (t : ℕ) → read-arm-lts.Need-same-length-7 (read-arm-calls t) (read-arm-at t) read-arm-fn.Post
 read-arm-same-length-7 t c =
@@ -411,7 +449,14 @@ read-arm-returns-4 t c =
     let p = c .before .before .before .before .before .before .before .before .before .before .before .before .before .p in
     let put-word = c .before .before .before .before .before .before .before .before .before .put-word in
     let arm-end′ = c .before .before .before .before .arm-end in
-    let m = moved .ensures in let u = went (read-expression′ .ensures .onward) (r .given .1) in let v = went (expect .ensures .onward) (q .given .1) in let w = went (read-block′ .ensures .onward) (p .given .1) in record { gives = λ got _. here _ (on _ (advanced m) refl (λ _ _. on _ (expression (read-expression′ .ensures) .gives) (r .given .1) (λ _ _. on _ (expect .ensures .gives _ _) (q .given .1) (λ _ _. on _ (read-block′ .ensures .gives) (p .given .1) (λ _ _. here _ (on _ (put-in _ _ _ (put-word .ensures)) refl (λ _ _. arm-end′ .ensures .gives _ tt))))))); onward = further (arm-end′ .ensures .onward) (omega (arith, m .at, u .past, v .past, w .past)) (omega arith) }
+    let m = moved .ensures in
+    let u = went (read-expression′ .ensures .onward) (r .given .1) in
+    let v = went (expect .ensures .onward) (q .given .1) in
+    let w = went (read-block′ .ensures .onward) (p .given .1) in
+    record {
+      gives = λ got _. here _ (on _ (advanced m) refl (λ _ _. on _ (expression (read-expression′ .ensures) .gives) (r .given .1) (λ _ _. on _ (expect .ensures .gives _ _) (q .given .1) (λ _ _. on _ (read-block′ .ensures .gives) (p .given .1) (λ _ _. here _ (on _ (put-in _ _ _ (put-word .ensures)) refl (λ _ _. arm-end′ .ensures .gives _ tt)))))));
+      onward = further (arm-end′ .ensures .onward) (omega (arith, m .at, u .past, v .past, w .past)) (omega arith);
+    }
 
 abbrev read-block-Inv-loop : read-block-lts.InvT-loop
 read-block-Inv-loop source names₀ words₀ scan cell loops room here₀ names words here = Turning (read-block (cell-of cell) room loops) (statement-turn (cell-of cell) (parts-of (cell-of cell) room) loops) source scan here₀ names₀ words₀ whatever here names words × (length names ≡ length names₀) × (length words ≡ length words₀) × (here₀ .at ≤ here .at) × (here .at ≤ scan .count) × (here .count ≤ 256)
@@ -428,7 +473,9 @@ read-block-read-statement-requires : (t : ℕ) → read-block-lts.Need-read-stat
 read-block-read-statement-requires t c κs =
     let pre = c .before .before .before .before .before .before .pre in
     let loop = c .before .before .loop in
-    let z = pre .1 in let v = loop .inv in (omega (arith, pre .0, v .3), (record { tokens = z .0 .tokens; table = v .2 ∙ z .0 .table; list = v .1 ∙ z .0 .list; here = v .4; few = v .5 }, z .1))
+    let z = pre .1 in
+    let v = loop .inv in
+    (omega (arith, pre .0, v .3), (record { tokens = z .0 .tokens; table = v .2 ∙ z .0 .table; list = v .1 ∙ z .0 .list; here = v .4; few = v .5 }, z .1))
 
 read-block-enum-known-r : (t : ℕ) → read-block-lts.Need-enum-known-r (read-block-calls t) (read-block-at t) read-block-fn.Post read-block-Inv-loop read-block-μ-loop
 read-block-enum-known-r t c = search needs
@@ -454,7 +501,11 @@ read-block-returns t c =
     let loop = c .before .before .before .before .before .before .before .before .before .loop in
     let read-statement = c .before .before .before .before .before .before .read-statement in
     let enum-told = c .enum-told in
-    let v = loop .inv in record { gives = turn-refused (v .0) (omega (arith, v .4, pre .1 .0 .tokens)) (λ x p. told-as (read-statement .ensures .gives x p) (λ _ _ _. tt)) (enum-told .given .1); onward = nowhere (enum-told .given .1) }
+    let v = loop .inv in
+    record {
+      gives = turn-refused (v .0) (omega (arith, v .4, pre .1 .0 .tokens)) (λ x p. told-as (read-statement .ensures .gives x p) (λ _ _ _. tt)) (enum-told .given .1);
+      onward = nowhere (enum-told .given .1);
+    }
 
 read-block-same-length-3 : (t : ℕ) → read-block-lts.Need-same-length-3 (read-block-calls t) (read-block-at t) read-block-fn.Post read-block-Inv-loop read-block-μ-loop
 read-block-same-length-3 t c =
@@ -475,7 +526,12 @@ read-block-returns-2 t c =
     let read-statement = c .before .before .before .before .before .before .before .before .before .before .read-statement in
     let r = c .before .before .before .before .r in
     let if1 = c .if1 in
-    let v = loop .inv in let w = went (read-statement .ensures .onward) (r .given .1) in record { gives = turn-done (v .0) (omega (arith, v .4, pre .1 .0 .tokens)) (λ x p. went-done (read-statement .ensures .gives x p) (r .given .1) (λ y q. omega (arith, q, if1 .taken))); onward = goes-on (omega (arith, w .past, v .3)) (w .within) (w .few) }
+    let v = loop .inv in
+    let w = went (read-statement .ensures .onward) (r .given .1) in
+    record {
+      gives = turn-done (v .0) (omega (arith, v .4, pre .1 .0 .tokens)) (λ x p. went-done (read-statement .ensures .gives x p) (r .given .1) (λ y q. omega (arith, q, if1 .taken)));
+      onward = goes-on (omega (arith, w .past, v .3)) (w .within) (w .few);
+    }
 
 read-block-loop-less : (t : ℕ) → read-block-lts.Need-loop-less (read-block-calls t) (read-block-at t) read-block-fn.Post read-block-Inv-loop read-block-μ-loop
 read-block-loop-less t c =
@@ -491,7 +547,9 @@ read-block-loop-again t c =
     let read-statement = c .before .before .before .before .before .before .before .before .before .before .read-statement in
     let r = c .before .before .before .before .r in
     let if1 = c .if1 in
-    let v = loop .inv in let w = went (read-statement .ensures .onward) (r .given .1) in (turn-again (v .0) (omega (arith, v .4, pre .1 .0 .tokens)) (λ x p. went-again (read-statement .ensures .gives x p) (r .given .1) (if1 .left) (λ y q. tt)) (omega (arith, w .past, if1 .left)), read-statement .kept .1 .0 ∙ v .1, read-statement .kept .1 .1 .0 ∙ v .2, omega (arith, w .past, v .3), w .within, w .few)
+    let v = loop .inv in
+    let w = went (read-statement .ensures .onward) (r .given .1) in
+    (turn-again (v .0) (omega (arith, v .4, pre .1 .0 .tokens)) (λ x p. went-again (read-statement .ensures .gives x p) (r .given .1) (if1 .left) (λ y q. tt)) (omega (arith, w .past, if1 .left)), read-statement .kept .1 .0 ∙ v .1, read-statement .kept .1 .1 .0 ∙ v .2, omega (arith, w .past, v .3), w .within, w .few)
 
 read-forall-refuse-requires : (t : ℕ) → read-forall-lts.Need-refuse-requires (read-forall-calls t) (read-forall-at t) read-forall-fn.Post
 read-forall-refuse-requires t c κs =
@@ -517,7 +575,9 @@ read-forall-loop-head-requires : (t : ℕ) → read-forall-lts.Need-loop-head-re
 read-forall-loop-head-requires t c κs =
     let pre = c .before .before .before .before .before .before .before .pre in
     let moved = c .moved in
-    let z = pre .1 in let m = moved .ensures in (record { tokens = z .0 .tokens; table = z .0 .table; list = z .0 .list; here = omega (arith, m .at, z .1); few = omega (arith, m .count, z .0 .few) }, omega (arith, z .2))
+    let z = pre .1 in
+    let m = moved .ensures in
+    (record { tokens = z .0 .tokens; table = z .0 .table; list = z .0 .list; here = omega (arith, m .at, z .1); few = omega (arith, m .count, z .0 .few) }, omega (arith, z .2))
 
 read-forall-enum-known-r : (t : ℕ) → read-forall-lts.Need-enum-known-r (read-forall-calls t) (read-forall-at t) read-forall-fn.Post
 read-forall-enum-known-r t c = search needs
@@ -542,7 +602,10 @@ read-forall-returns-2 t c =
     let moved = c .before .before .before .before .before .before .before .moved in
     let loop-head = c .before .before .before .before .before .before .loop-head in
     let enum-told = c .enum-told in
-    record { gives = forall-open _ (args .room) (args .loops) (omega (arith, if1 .left)) (here _ (on _ (advanced (moved .ensures)) refl (λ _ _. off _ (loop-head .ensures .gives) (enum-told .given .1)))); onward = nowhere (enum-told .given .1) }
+    record {
+      gives = forall-open _ (args .room) (args .loops) (omega (arith, if1 .left)) (here _ (on _ (advanced (moved .ensures)) refl (λ _ _. off _ (loop-head .ensures .gives) (enum-told .given .1))));
+      onward = nowhere (enum-told .given .1);
+    }
 
 read-forall-add-read-block : (t : ℕ) → read-forall-lts.Need-add-read-block (read-forall-calls t) (read-forall-at t) read-forall-fn.Post
 read-forall-add-read-block t c =
@@ -561,7 +624,10 @@ read-forall-read-block-requires t c κs =
     let moved = c .before .before .before .before .before .before .before .before .before .before .moved in
     let loop-head = c .before .before .before .before .before .before .before .before .before .loop-head in
     let r = c .before .before .before .r in
-    let z = pre .1 in let m = moved .ensures in let w = went (loop-head .ensures .onward) (r .given .1) in (omega (arith, pre .0, m .at, w .past, w .within), (record { tokens = z .0 .tokens; table = loop-head .kept .1 .1 .0 ∙ z .0 .table; list = loop-head .kept .1 .0 ∙ z .0 .list; here = w .within; few = w .few }, omega (arith, z .2, if1 .left)))
+    let z = pre .1 in
+    let m = moved .ensures in
+    let w = went (loop-head .ensures .onward) (r .given .1) in
+    (omega (arith, pre .0, m .at, w .past, w .within), (record { tokens = z .0 .tokens; table = loop-head .kept .1 .1 .0 ∙ z .0 .table; list = loop-head .kept .1 .0 ∙ z .0 .list; here = w .within; few = w .few }, omega (arith, z .2, if1 .left)))
 
 read-forall-enum-known-q : (t : ℕ) → read-forall-lts.Need-enum-known-q (read-forall-calls t) (read-forall-at t) read-forall-fn.Post
 read-forall-enum-known-q t c = search needs
@@ -590,7 +656,10 @@ read-forall-returns-3 t c =
     let r = c .before .before .before .before .before .before .before .before .before .before .r in
     let read-block′ = c .before .before .before .before .before .before .read-block in
     let enum-told2 = c .enum-told2 in
-    record { gives = forall-open _ (args .room) (args .loops) (omega (arith, if1 .left)) (here _ (on _ (advanced (moved .ensures)) refl (λ _ _. on _ (loop-head .ensures .gives) (r .given .1) (λ _ _. here _ (off _ (read-block′ .ensures .gives) (enum-told2 .given .1)))))); onward = nowhere (enum-told2 .given .1) }
+    record {
+      gives = forall-open _ (args .room) (args .loops) (omega (arith, if1 .left)) (here _ (on _ (advanced (moved .ensures)) refl (λ _ _. on _ (loop-head .ensures .gives) (r .given .1) (λ _ _. here _ (off _ (read-block′ .ensures .gives) (enum-told2 .given .1))))));
+      onward = nowhere (enum-told2 .given .1);
+    }
 
 read-forall-cast-loop-end : (t : ℕ) → read-forall-lts.Need-cast-loop-end (read-forall-calls t) (read-forall-at t) read-forall-fn.Post
 read-forall-cast-loop-end t c =
@@ -609,7 +678,9 @@ read-forall-loop-end-requires t c κs =
     let r = c .before .before .before .before .before .before .before .before .before .before .before .before .before .before .before .r in
     let read-block′ = c .before .before .before .before .before .before .before .before .before .before .before .read-block in
     let q = c .before .before .before .before .before .q in
-    let z = pre .1 in let w = went (read-block′ .ensures .onward) (q .given .1) in (record { tokens = z .0 .tokens; table = read-block′ .kept .1 .1 .0 ∙ loop-head .kept .1 .1 .0 ∙ z .0 .table; list = read-block′ .kept .1 .0 ∙ loop-head .kept .1 .0 ∙ z .0 .list; here = w .within; few = w .few }, went-on (loop-head .ensures .gives) (r .given .1) .is .1 .1)
+    let z = pre .1 in
+    let w = went (read-block′ .ensures .onward) (q .given .1) in
+    (record { tokens = z .0 .tokens; table = read-block′ .kept .1 .1 .0 ∙ loop-head .kept .1 .1 .0 ∙ z .0 .table; list = read-block′ .kept .1 .0 ∙ loop-head .kept .1 .0 ∙ z .0 .list; here = w .within; few = w .few }, went-on (loop-head .ensures .gives) (r .given .1) .is .1 .1)
 
 read-forall-same-length-6 : (t : ℕ) → read-forall-lts.Need-same-length-6 (read-forall-calls t) (read-forall-at t) read-forall-fn.Post
 read-forall-same-length-6 t c =
@@ -635,7 +706,13 @@ read-forall-returns-4 t c =
     let read-block′ = c .before .before .before .before .before .before .before .before .before .before .before .before .before .before .before .before .read-block in
     let q = c .before .before .before .before .before .before .before .before .before .before .q in
     let loop-end = c .before .before .before .before .loop-end in
-    let m = moved .ensures in let v = went (loop-head .ensures .onward) (r .given .1) in let w = went (read-block′ .ensures .onward) (q .given .1) in record { gives = forall-open _ (args .room) (args .loops) (omega (arith, if1 .left)) (here _ (on _ (advanced m) refl (λ _ _. on _ (loop-head .ensures .gives) (r .given .1) (λ _ e. here _ (on _ (read-block′ .ensures .gives) (q .given .1) (λ _ _. ended-at _ _ _ (e .0) (loop-end .ensures _ .gives _ tt))))))); onward = further (loop-end .ensures (args .source .now) .onward) (omega (arith, m .at, v .past, w .past)) (w .few) }
+    let m = moved .ensures in
+    let v = went (loop-head .ensures .onward) (r .given .1) in
+    let w = went (read-block′ .ensures .onward) (q .given .1) in
+    record {
+      gives = forall-open _ (args .room) (args .loops) (omega (arith, if1 .left)) (here _ (on _ (advanced m) refl (λ _ _. on _ (loop-head .ensures .gives) (r .given .1) (λ _ e. here _ (on _ (read-block′ .ensures .gives) (q .given .1) (λ _ _. ended-at _ _ _ (e .0) (loop-end .ensures _ .gives _ tt)))))));
+      onward = further (loop-end .ensures (args .source .now) .onward) (omega (arith, m .at, v .past, w .past)) (w .few);
+    }
 
 abbrev read-if-Inv-loop : read-if-lts.InvT-loop
 read-if-Inv-loop source names₀ words₀ scan cell loops room i here₀ names words here = Turning (repeat turns (arm-turn (read-expression (cell-of cell) (room - 1)) (read-block (cell-of cell) (room - 1) loops)) []) (arm-turn (read-expression (cell-of cell) (room - 1)) (read-block (cell-of cell) (room - 1) loops)) source scan here₀ names₀ words₀ whatever here names words × (length names ≡ length names₀) × (length words ≡ length words₀) × (here₀ .at ≤ here .at) × (here .at < scan .count) × (here .count ≤ 256)
@@ -673,7 +750,9 @@ read-if-read-arm-requires t c κs =
     let pre = c .before .before .before .before .before .before .before .pre in
     let if1 = c .before .before .before .if1 in
     let loop = c .before .before .loop in
-    let z = pre .1 in let v = loop .inv in (omega (arith, pre .0, v .3), (record { tokens = z .0 .tokens; table = v .2 ∙ z .0 .table; list = v .1 ∙ z .0 .list; here = omega (arith, v .4); few = v .5 }, v .4, omega (arith, z .2, if1 .left)))
+    let z = pre .1 in
+    let v = loop .inv in
+    (omega (arith, pre .0, v .3), (record { tokens = z .0 .tokens; table = v .2 ∙ z .0 .table; list = v .1 ∙ z .0 .list; here = omega (arith, v .4); few = v .5 }, v .4, omega (arith, z .2, if1 .left)))
 
 read-if-enum-known-r : (t : ℕ) → read-if-lts.Need-enum-known-r (read-if-calls t) (read-if-at t) read-if-fn.Post read-if-Inv-loop read-if-μ-loop
 read-if-enum-known-r t c = search needs
@@ -701,7 +780,11 @@ read-if-returns-2 t c =
     let loop = c .before .before .before .before .before .before .before .before .before .loop in
     let read-arm = c .before .before .before .before .before .before .read-arm in
     let enum-told = c .enum-told in
-    let v = loop .inv in record { gives = if-open _ (args .room) (args .loops) (omega (arith, if1 .left)) (here _ (off {R = anything} _ (turn-refused (v .0) (omega (arith, v .4, pre .1 .0 .tokens)) (λ x p. told-as (read-arm .ensures .gives x p) (λ _ _ _. tt)) (enum-told .given .1)) (enum-told .given .1))); onward = nowhere (enum-told .given .1) }
+    let v = loop .inv in
+    record {
+      gives = if-open _ (args .room) (args .loops) (omega (arith, if1 .left)) (here _ (off {R = anything} _ (turn-refused (v .0) (omega (arith, v .4, pre .1 .0 .tokens)) (λ x p. told-as (read-arm .ensures .gives x p) (λ _ _ _. tt)) (enum-told .given .1)) (enum-told .given .1)));
+      onward = nowhere (enum-told .given .1);
+    }
 
 read-if-cast-put-word : (t : ℕ) → read-if-lts.Need-cast-put-word (read-if-calls t) (read-if-at t) read-if-fn.Post read-if-Inv-loop read-if-μ-loop
 read-if-cast-put-word t c =
@@ -740,7 +823,12 @@ read-if-returns-3 t c =
     let r = c .before .before .before .before .before .before .before .before .r in
     let if2 = c .before .before .before .before .before .if2 in
     let put-word = c .before .before .put-word in
-    let v = loop .inv in let w = went (read-arm .ensures .onward) (r .given .1) in record { gives = if-open _ (args .room) (args .loops) (omega (arith, if1 .left)) (here _ (on {R = anything} _ (turn-done (v .0) (omega (arith, v .4, pre .1 .0 .tokens)) (λ x p. went-done (read-arm .ensures .gives x p) (r .given .1) (λ y q. omega (arith, q .0, if2 .taken)))) refl (λ _ _. here _ (on _ (put-in _ _ _ (put-word .ensures)) refl (λ _ _. returned _ tt))))); onward = goes-on (omega (arith, w .past, v .3)) (w .within) (w .few) }
+    let v = loop .inv in
+    let w = went (read-arm .ensures .onward) (r .given .1) in
+    record {
+      gives = if-open _ (args .room) (args .loops) (omega (arith, if1 .left)) (here _ (on {R = anything} _ (turn-done (v .0) (omega (arith, v .4, pre .1 .0 .tokens)) (λ x p. went-done (read-arm .ensures .gives x p) (r .given .1) (λ y q. omega (arith, q .0, if2 .taken)))) refl (λ _ _. here _ (on _ (put-in _ _ _ (put-word .ensures)) refl (λ _ _. returned _ tt)))));
+      onward = goes-on (omega (arith, w .past, v .3)) (w .within) (w .few);
+    }
 
 read-if-loop-less : (t : ℕ) → read-if-lts.Need-loop-less (read-if-calls t) (read-if-at t) read-if-fn.Post read-if-Inv-loop read-if-μ-loop
 read-if-loop-less t c =
@@ -755,7 +843,9 @@ read-if-loop-again t c =
     let read-arm = c .before .before .before .before .before .before .before .before .before .read-arm in
     let r = c .before .before .before .r in
     let if2 = c .if2 in
-    let v = loop .inv in let w = went (read-arm .ensures .onward) (r .given .1) in (turn-again (v .0) (omega (arith, v .4, pre .1 .0 .tokens)) (λ x p. went-again (read-arm .ensures .gives x p) (r .given .1) (if2 .left) (λ y q. tt)) (omega (arith, w .past)), read-arm .kept .1 .0 ∙ v .1, read-arm .kept .1 .1 .0 ∙ v .2, omega (arith, w .past, v .3), arm-inside (read-arm .ensures .gives [] tt) (r .given .1) (if2 .left), w .few)
+    let v = loop .inv in
+    let w = went (read-arm .ensures .onward) (r .given .1) in
+    (turn-again (v .0) (omega (arith, v .4, pre .1 .0 .tokens)) (λ x p. went-again (read-arm .ensures .gives x p) (r .given .1) (if2 .left) (λ y q. tt)) (omega (arith, w .past)), read-arm .kept .1 .0 ∙ v .1, read-arm .kept .1 .1 .0 ∙ v .2, omega (arith, w .past, v .3), arm-inside (read-arm .ensures .gives [] tt) (r .given .1) (if2 .left), w .few)
 
 read-statement-token-at-requires : (t : ℕ) → read-statement-lts.Need-token-at-requires (read-statement-calls t) (read-statement-at t) read-statement-fn.Post
 read-statement-token-at-requires t c κs =
@@ -790,7 +880,10 @@ read-statement-returns t c =
     let is-name = c .before .before .before .before .before .before .before .before .is-name in
     let if1 = c .before .before .before .before .before .before .before .if1 in
     let read-assignment = c .before .before .before .before .read-assignment in
-    record { gives = λ before _. token _ (token-at .ensures) (so _ _ (sym (is-name .ensures .is) ∙ if1 .taken) (one-more _ (assigned-in _ _ (read-assignment .ensures)))); onward = further (read-assignment .ensures .onward) (omega arith) (omega arith) }
+    record {
+      gives = λ before _. token _ (token-at .ensures) (so _ _ (sym (is-name .ensures .is) ∙ if1 .taken) (one-more _ (assigned-in _ _ (read-assignment .ensures))));
+      onward = further (read-assignment .ensures .onward) (omega arith) (omega arith);
+    }
 
 read-statement-read-declaration-requires : (t : ℕ) → read-statement-lts.Need-read-declaration-requires (read-statement-calls t) (read-statement-at t) read-statement-fn.Post
 read-statement-read-declaration-requires t c κs =
@@ -818,7 +911,10 @@ read-statement-returns-2 t c =
     let if1 = c .before .before .before .before .before .before .before .before .before .if1 in
     let if2 = c .before .before .before .before .before .before .before .if2 in
     let read-declaration = c .before .before .before .before .read-declaration in
-    record { gives = λ before _. token _ (token-at .ensures) (other _ _ (sym (is-name .ensures .is) ∙ if1 .left) (so _ _ (eq-eqb _ _ (if2 .taken)) (one-more (λ _ after. before (constant after)) (declared-in (cell-of (args .cell)) (args .room) (read-declaration .ensures))))); onward = further (read-declaration .ensures .onward) (omega arith) (omega arith) }
+    record {
+      gives = λ before _. token _ (token-at .ensures) (other _ _ (sym (is-name .ensures .is) ∙ if1 .left) (so _ _ (eq-eqb _ _ (if2 .taken)) (one-more (λ _ after. before (constant after)) (declared-in (cell-of (args .cell)) (args .room) (read-declaration .ensures)))));
+      onward = further (read-declaration .ensures .onward) (omega arith) (omega arith);
+    }
 
 read-statement-read-if-requires : (t : ℕ) → read-statement-lts.Need-read-if-requires (read-statement-calls t) (read-statement-at t) read-statement-fn.Post
 read-statement-read-if-requires t c κs =
@@ -846,7 +942,10 @@ read-statement-returns-3 t c =
     let if2 = c .before .before .before .before .before .before .before .before .before .if2 in
     let if3 = c .before .before .before .before .before .before .before .if3 in
     let read-if = c .before .before .before .before .read-if in
-    record { gives = λ before _. token _ (token-at .ensures) (other _ _ (sym (is-name .ensures .is) ∙ if1 .left) (other _ _ (ne-eqb _ _ (if2 .left)) (so _ _ (eq-eqb _ _ (if3 .taken)) (one-more _ (read-if .ensures))))); onward = further (read-if .ensures .onward) (omega arith) (omega arith) }
+    record {
+      gives = λ before _. token _ (token-at .ensures) (other _ _ (sym (is-name .ensures .is) ∙ if1 .left) (other _ _ (ne-eqb _ _ (if2 .left)) (so _ _ (eq-eqb _ _ (if3 .taken)) (one-more _ (read-if .ensures)))));
+      onward = further (read-if .ensures .onward) (omega arith) (omega arith);
+    }
 
 read-statement-read-forall-requires : (t : ℕ) → read-statement-lts.Need-read-forall-requires (read-statement-calls t) (read-statement-at t) read-statement-fn.Post
 read-statement-read-forall-requires t c κs =
@@ -875,7 +974,10 @@ read-statement-returns-4 t c =
     let if3 = c .before .before .before .before .before .before .before .before .before .if3 in
     let if4 = c .before .before .before .before .before .before .before .if4 in
     let read-forall = c .before .before .before .before .read-forall in
-    record { gives = λ before _. token _ (token-at .ensures) (other _ _ (sym (is-name .ensures .is) ∙ if1 .left) (other _ _ (ne-eqb _ _ (if2 .left)) (other _ _ (ne-eqb _ _ (if3 .left)) (so _ _ (eq-eqb _ _ (if4 .taken)) (one-more _ (read-forall .ensures)))))); onward = further (read-forall .ensures .onward) (omega arith) (omega arith) }
+    record {
+      gives = λ before _. token _ (token-at .ensures) (other _ _ (sym (is-name .ensures .is) ∙ if1 .left) (other _ _ (ne-eqb _ _ (if2 .left)) (other _ _ (ne-eqb _ _ (if3 .left)) (so _ _ (eq-eqb _ _ (if4 .taken)) (one-more _ (read-forall .ensures))))));
+      onward = further (read-forall .ensures .onward) (omega arith) (omega arith);
+    }
 
 read-statement-same-length-9 : (t : ℕ) → read-statement-lts.Need-same-length-9 (read-statement-calls t) (read-statement-at t) read-statement-fn.Post
 read-statement-same-length-9 t c = search needs
@@ -891,7 +993,11 @@ read-statement-returns-5 t c =
     let if3 = c .before .before .before .before .if3 in
     let if4 = c .before .before .if4 in
     let if5 = c .if5 in
-    let z = pre .1 .0 in record { gives = λ before _. token _ (token-at .ensures) (other _ _ (sym (is-name .ensures .is) ∙ if1 .left) (other _ _ (ne-eqb _ _ (if2 .left)) (other _ _ (ne-eqb _ _ (if3 .left)) (other _ _ (ne-eqb _ _ (if4 .left)) (other _ _ (first-not _ (ne-eqb _ _ (if5 .taken))) (returned _ (ends refl))))))); onward = goes-on (omega arith) (z .here) (z .few) }
+    let z = pre .1 .0 in
+    record {
+      gives = λ before _. token _ (token-at .ensures) (other _ _ (sym (is-name .ensures .is) ∙ if1 .left) (other _ _ (ne-eqb _ _ (if2 .left)) (other _ _ (ne-eqb _ _ (if3 .left)) (other _ _ (ne-eqb _ _ (if4 .left)) (other _ _ (first-not _ (ne-eqb _ _ (if5 .taken))) (returned _ (ends refl)))))));
+      onward = goes-on (omega arith) (z .here) (z .few);
+    }
 
 read-statement-same-length-10 : (t : ℕ) → read-statement-lts.Need-same-length-10 (read-statement-calls t) (read-statement-at t) read-statement-fn.Post
 read-statement-same-length-10 t c = search needs
@@ -909,7 +1015,11 @@ read-statement-returns-6 t c =
     let if4 = c .before .before .before .if4 in
     let if5 = c .before .if5 in
     let if6 = c .if6 in
-    let z = pre .1 .0 in record { gives = λ before _. token _ (token-at .ensures) (other _ _ (sym (is-name .ensures .is) ∙ if1 .left) (other _ _ (ne-eqb _ _ (if2 .left)) (other _ _ (ne-eqb _ _ (if3 .left)) (other _ _ (ne-eqb _ _ (if4 .left)) (other _ _ (second-not (eq-eqb _ _ (if5 .left)) (le-ltb 0 (args .loops) (omega (arith, if6 .taken)))) (returned _ (ends refl))))))); onward = goes-on (omega arith) (z .here) (z .few) }
+    let z = pre .1 .0 in
+    record {
+      gives = λ before _. token _ (token-at .ensures) (other _ _ (sym (is-name .ensures .is) ∙ if1 .left) (other _ _ (ne-eqb _ _ (if2 .left)) (other _ _ (ne-eqb _ _ (if3 .left)) (other _ _ (ne-eqb _ _ (if4 .left)) (other _ _ (second-not (eq-eqb _ _ (if5 .left)) (le-ltb 0 (args .loops) (omega (arith, if6 .taken)))) (returned _ (ends refl)))))));
+      onward = goes-on (omega arith) (z .here) (z .few);
+    }
 
 read-statement-read-exit-requires : (t : ℕ) → read-statement-lts.Need-read-exit-requires (read-statement-calls t) (read-statement-at t) read-statement-fn.Post
 read-statement-read-exit-requires t c κs =
@@ -937,7 +1047,12 @@ read-statement-returns-7 t c =
     let if5 = c .before .before .before .before .before .if5 in
     let if6 = c .before .before .before .before .if6 in
     let read-exit = c .before .before .read-exit in
-    let z = pre .1 .0 in let x = read-exit .ensures in record { gives = λ before _. token _ (token-at .ensures) (other _ _ (sym (is-name .ensures .is) ∙ if1 .left) (other _ _ (ne-eqb _ _ (if2 .left)) (other _ _ (ne-eqb _ _ (if3 .left)) (other _ _ (ne-eqb _ _ (if4 .left)) (so _ _ (both-hold (eq-eqb _ _ (if5 .left)) (lt-ltb 0 (args .loops) (omega (arith, if6 .left)))) (on _ (x .gives _ _ _) refl (λ _ _. returned _ (once (omega (arith, x .at)))))))))); onward = goes-on (omega (arith, x .at)) (omega (arith, x .at, token-at .ensures .inside, if5 .left)) (omega (arith, x .count, z .few)) }
+    let z = pre .1 .0 in
+    let x = read-exit .ensures in
+    record {
+      gives = λ before _. token _ (token-at .ensures) (other _ _ (sym (is-name .ensures .is) ∙ if1 .left) (other _ _ (ne-eqb _ _ (if2 .left)) (other _ _ (ne-eqb _ _ (if3 .left)) (other _ _ (ne-eqb _ _ (if4 .left)) (so _ _ (both-hold (eq-eqb _ _ (if5 .left)) (lt-ltb 0 (args .loops) (omega (arith, if6 .left)))) (on _ (x .gives _ _ _) refl (λ _ _. returned _ (once (omega (arith, x .at))))))))));
+      onward = goes-on (omega (arith, x .at)) (omega (arith, x .at, token-at .ensures .inside, if5 .left)) (omega (arith, x .count, z .few));
+    }
 
 pub +arm-end+read-arm+read-block+read-forall+read-if+read-statement-spec :
     {M : Type 1} → statement M

@@ -24,7 +24,10 @@ returns c =
     let token-at = c .before .before .before .before .before .before .token-at in
     let if1 = c .before .before .before .before .if1 in
     let when-clause = c .before .before .when-clause in
-    record { gives = λ b h. token _ (token-at .ensures) (so _ _ (eq-eqb _ _ (if1 .taken)) (when-clause .ensures .gives b tt)); onward = further (when-clause .ensures .onward) (omega arith) (omega arith) }
+    record {
+      gives = λ b h. token _ (token-at .ensures) (so _ _ (eq-eqb _ _ (if1 .taken)) (when-clause .ensures .gives b tt));
+      onward = further (when-clause .ensures .onward) (omega arith) (omega arith);
+    }
 
 refuse-requires : tie.Need-refuse-requires
 refuse-requires c κs = search needs
@@ -39,7 +42,8 @@ returns-2 c =
     let if1 = c .before .before .before .before .if1 in
     let if2 = c .before .before .if2 in
     let refuse = c .refuse in
-    let y = refuse .ensures in record { gives = λ b h. token _ (token-at .ensures) (other _ _ (ne-eqb _ _ (if1 .left)) (so _ _ (eq-eqb _ _ (if2 .taken)) (refused _ y))); onward = nowhere y }
+    let y = refuse .ensures in
+    record { gives = λ b h. token _ (token-at .ensures) (other _ _ (ne-eqb _ _ (if1 .left)) (so _ _ (eq-eqb _ _ (if2 .taken)) (refused _ y))); onward = nowhere y }
 
 carrying-requires : tie.Need-carrying-requires
 carrying-requires c κs = search needs
@@ -56,7 +60,12 @@ returns-3 c =
     let if2 = c .before .before .if2 in
     let if3 = c .before .if3 in
     let carrying = c .carrying in
-    let p = pre in let k = carrying .ensures in record { gives = λ b h. token _ (token-at .ensures) (other _ _ (ne-eqb _ _ (if1 .left)) (other _ _ (ne-eqb _ _ (if2 .left)) (so _ _ (h ∙ if3 .taken) (carried _ k (ends (k .word)))))); onward = goes-on (omega (arith, k .at)) (omega (arith, k .at, p .here)) (omega (arith, k .count)) }
+    let p = pre in
+    let k = carrying .ensures in
+    record {
+      gives = λ b h. token _ (token-at .ensures) (other _ _ (ne-eqb _ _ (if1 .left)) (other _ _ (ne-eqb _ _ (if2 .left)) (so _ _ (h ∙ if3 .taken) (carried _ k (ends (k .word))))));
+      onward = goes-on (omega (arith, k .at)) (omega (arith, k .at, p .here)) (omega (arith, k .count));
+    }
 
 expect-requires : tie.Need-expect-requires
 expect-requires c κs = search needs
@@ -79,7 +88,10 @@ returns-4 c =
     let if3 = c .before .before .before .before .if3 in
     let expect = c .before .before .expect in
     let enum-told = c .enum-told in
-    record { gives = λ b h. token _ (token-at .ensures) (other _ _ (ne-eqb _ _ (if1 .left)) (other _ _ (ne-eqb _ _ (if2 .left)) (other _ _ (h ∙ if3 .left) (off _ (expect .ensures .gives _ _) (enum-told .given .1))))); onward = nowhere (enum-told .given .1) }
+    record {
+      gives = λ b h. token _ (token-at .ensures) (other _ _ (ne-eqb _ _ (if1 .left)) (other _ _ (ne-eqb _ _ (if2 .left)) (other _ _ (h ∙ if3 .left) (off _ (expect .ensures .gives _ _) (enum-told .given .1)))));
+      onward = nowhere (enum-told .given .1);
+    }
 
 carrying-requires-2 : tie.Need-carrying-requires-2
 carrying-requires-2 c κs = search needs
@@ -97,7 +109,12 @@ returns-5 c =
     let expect = c .before .before .before .before .expect in
     let r = c .before .before .r in
     let carrying2 = c .carrying2 in
-    let w = went (expect .ensures .onward) (r .given .1) in let k = carrying2 .ensures in record { gives = λ b h. token _ (token-at .ensures) (other _ _ (ne-eqb _ _ (if1 .left)) (other _ _ (ne-eqb _ _ (if2 .left)) (other _ _ (h ∙ if3 .left) (on _ (expect .ensures .gives _ _) (r .given .1) (λ _ _. carried _ k (ends (k .word))))))); onward = goes-on (omega (arith, w .past, k .at)) (omega (arith, w .within, k .at)) (omega (arith, w .few, k .count)) }
+    let w = went (expect .ensures .onward) (r .given .1) in
+    let k = carrying2 .ensures in
+    record {
+      gives = λ b h. token _ (token-at .ensures) (other _ _ (ne-eqb _ _ (if1 .left)) (other _ _ (ne-eqb _ _ (if2 .left)) (other _ _ (h ∙ if3 .left) (on _ (expect .ensures .gives _ _) (r .given .1) (λ _ _. carried _ k (ends (k .word)))))));
+      onward = goes-on (omega (arith, w .past, k .at)) (omega (arith, w .within, k .at)) (omega (arith, w .few, k .count));
+    }
 
 pub clause-end-spec : {M : Type 1} → statement M
 clause-end-spec =

@@ -19,7 +19,11 @@ returns c =
     let moved = c .before .before .moved in
     let if1 = c .before .if1 in
     let named-target = c .named-target in
-    let m = moved .ensures in record { gives = so _ _ (if1 .taken) (on _ (advanced m) refl (λ _ _. named-target .ensures .gives)); onward = further (named-target .ensures .onward) (omega (arith, m .at)) (omega (arith, m .count)) }
+    let m = moved .ensures in
+    record {
+      gives = so _ _ (if1 .taken) (on _ (advanced m) refl (λ _ _. named-target .ensures .gives));
+      onward = further (named-target .ensures .onward) (omega (arith, m .at)) (omega (arith, m .count));
+    }
 
 forbid-requires : tie.Need-forbid-requires
 forbid-requires c κs = search needs
@@ -37,7 +41,8 @@ returns-2 c =
     let if1 = c .before .before .before .if1 in
     let forbid = c .before .before .forbid in
     let enum-told = c .enum-told in
-    let m = moved .ensures in record { gives = other _ _ (if1 .left) (off _ (on _ (advanced m) refl (λ _ _. forbid .ensures .gives _ _)) (enum-told .given .1)); onward = nowhere (enum-told .given .1) }
+    let m = moved .ensures in
+    record { gives = other _ _ (if1 .left) (off _ (on _ (advanced m) refl (λ _ _. forbid .ensures .gives _ _)) (enum-told .given .1)); onward = nowhere (enum-told .given .1) }
 
 carrying-requires : tie.Need-carrying-requires
 carrying-requires c κs = search needs
@@ -50,7 +55,13 @@ returns-3 c =
     let forbid = c .before .before .before .before .forbid in
     let r = c .before .before .r in
     let carrying = c .carrying in
-    let m = moved .ensures in let w = went (forbid .ensures .onward) (r .given .1) in let k = carrying .ensures in record { gives = other _ _ (if1 .left) (on _ (on _ (advanced m) refl (λ _ _. forbid .ensures .gives _ _)) (r .given .1) (λ _ _. carried _ k (sym (k .word)))); onward = goes-on (omega (arith, w .past, k .at, m .at)) (omega (arith, w .within, k .at)) (omega (arith, w .few, k .count, m .count)) }
+    let m = moved .ensures in
+    let w = went (forbid .ensures .onward) (r .given .1) in
+    let k = carrying .ensures in
+    record {
+      gives = other _ _ (if1 .left) (on _ (on _ (advanced m) refl (λ _ _. forbid .ensures .gives _ _)) (r .given .1) (λ _ _. carried _ k (sym (k .word))));
+      onward = goes-on (omega (arith, w .past, k .at, m .at)) (omega (arith, w .within, k .at)) (omega (arith, w .few, k .count, m .count));
+    }
 
 pub field-target-spec : {M : Type 1} → statement M
 field-target-spec =

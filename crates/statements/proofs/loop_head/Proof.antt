@@ -75,7 +75,10 @@ declare-requires c κs =
     let r = c .before .before .before .before .before .before .before .before .before .before .before .before .r in
     let loop-range = c .before .before .before .before .before .before .before .loop-range in
     let q = c .before .before .before .q in
-    let z = pre .0 in let v = went (fresh .ensures .onward) (r .given .1) in let w = went (loop-range .ensures .onward) (q .given .1) in (z .tokens, loop-range .kept .1 .1 .0 ∙ z .table, omega (arith, v .few, w .few), z .list)
+    let z = pre .0 in
+    let v = went (fresh .ensures .onward) (r .given .1) in
+    let w = went (loop-range .ensures .onward) (q .given .1) in
+    (z .tokens, loop-range .kept .1 .1 .0 ∙ z .table, omega (arith, v .few, w .few), z .list)
 
 same-length-5 : tie.Need-same-length-5
 same-length-5 c = search needs
@@ -91,7 +94,13 @@ returns-3 c =
     let loop-range = c .before .before .before .before .before .before .before .before .before .before .loop-range in
     let q = c .before .before .before .before .before .before .q in
     let declare = c .before .before .declare in
-    let d = declare .ensures in let v = went (fresh .ensures .onward) (r .given .1) in let w = went (loop-range .ensures .onward) (q .given .1) in record { gives = on-told _ (fresh .ensures .gives) (r .given .1) (on _ (loop-range .ensures .gives) (q .given .1) (λ _ _. on _ (declared _ _ _ d) refl (λ _ p. returned _ (p, omega (arith, d .word, v .few, w .few))))); onward = goes-on (omega (arith, v .past, w .past, d .at)) (omega (arith, w .within, d .at)) (omega (arith, v .few, w .few, d .count)) }
+    let d = declare .ensures in
+    let v = went (fresh .ensures .onward) (r .given .1) in
+    let w = went (loop-range .ensures .onward) (q .given .1) in
+    record {
+      gives = on-told _ (fresh .ensures .gives) (r .given .1) (on _ (loop-range .ensures .gives) (q .given .1) (λ _ _. on _ (declared _ _ _ d) refl (λ _ p. returned _ (p, omega (arith, d .word, v .few, w .few)))));
+      onward = goes-on (omega (arith, v .past, w .past, d .at)) (omega (arith, w .within, d .at)) (omega (arith, v .few, w .few, d .count));
+    }
 
 pub loop-head-spec : {M : Type 1} → statement M
 loop-head-spec =

@@ -76,7 +76,12 @@ returns-3 c =
     let known-told2 = c .before .before .before .before .before .before .before .before .known-told2 in
     let put-word = c .before .before .before .before .before .before .put-word in
     let put-word2 = c .before .before .put-word2 in
-    let v = went (expect .ensures .onward) (r .given .1) in let w = went (read-range .ensures .onward) (q .given .1) in record { gives = on _ (expect .ensures .gives _ _) (r .given .1) (λ _ _. on-told _ (read-range .ensures .gives) (q .given .1) (on _ (on _ (put-as _ _ _ (encode-decode (q .given .0 .0 .low) (omega (arith, known-told2 .given))) (put-word .ensures)) refl (λ _ _. put-as _ _ _ (encode-decode (q .given .0 .0 .word) (omega (arith, known-told2 .given))) (put-word2 .ensures))) refl (λ _ _. returned _ tt))); onward = goes-on (omega (arith, v .past, w .past)) (w .within) (omega (arith, v .few, w .few)) }
+    let v = went (expect .ensures .onward) (r .given .1) in
+    let w = went (read-range .ensures .onward) (q .given .1) in
+    record {
+      gives = on _ (expect .ensures .gives _ _) (r .given .1) (λ _ _. on-told _ (read-range .ensures .gives) (q .given .1) (on _ (on _ (put-as _ _ _ (encode-decode (q .given .0 .0 .low) (omega (arith, known-told2 .given))) (put-word .ensures)) refl (λ _ _. put-as _ _ _ (encode-decode (q .given .0 .0 .word) (omega (arith, known-told2 .given))) (put-word2 .ensures))) refl (λ _ _. returned _ tt)));
+      onward = goes-on (omega (arith, v .past, w .past)) (w .within) (omega (arith, v .few, w .few));
+    }
 
 pub loop-range-spec : {M : Type 1} → statement M
 loop-range-spec =

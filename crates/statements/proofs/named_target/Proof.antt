@@ -34,7 +34,10 @@ entry-in-requires c κs =
     let pre = c .before .before .before .before .before .before .before .before .pre in
     let dot-field = c .before .before .before .before .dot-field in
     let r = c .before .before .r in
-    let p = pre in let w = went (dot-field .ensures .onward) (r .given .1) in let b = slot-below (dot-field .ensures .gives) (r .given .1) in (omega (arith, b, w .few, p .few), p .list)
+    let p = pre in
+    let w = went (dot-field .ensures .onward) (r .given .1) in
+    let b = slot-below (dot-field .ensures .gives) (r .given .1) in
+    (omega (arith, b, w .few, p .few), p .list)
 
 sub-refuse : tie.Need-sub-refuse
 sub-refuse c =
@@ -53,7 +56,11 @@ returns-2 c =
     let entry-in = c .before .before .before .before .entry-in in
     let if1 = c .before .before .if1 in
     let refuse = c .refuse in
-    let y = refuse .ensures in record { gives = on-told _ (slot-told (dot-field .ensures .gives)) (r .given .1) (named _ _ (entry-in .ensures) (so _ _ (eq-eqb _ _ (if1 .taken)) (refused-last _ y))); onward = nowhere y }
+    let y = refuse .ensures in
+    record {
+      gives = on-told _ (slot-told (dot-field .ensures .gives)) (r .given .1) (named _ _ (entry-in .ensures) (so _ _ (eq-eqb _ _ (if1 .taken)) (refused-last _ y)));
+      onward = nowhere y;
+    }
 
 carrying-requires : tie.Need-carrying-requires
 carrying-requires c κs = search needs
@@ -66,7 +73,12 @@ returns-3 c =
     let entry-in = c .before .before .before .entry-in in
     let if1 = c .before .if1 in
     let carrying = c .carrying in
-    let w = went (dot-field .ensures .onward) (r .given .1) in let k = carrying .ensures in record { gives = on-told _ (slot-told (dot-field .ensures .gives)) (r .given .1) (named _ _ (entry-in .ensures) (other _ _ (ne-eqb _ _ (if1 .left)) (carried _ k (sym (k .word))))); onward = goes-on (omega (arith, w .past, k .at)) (omega (arith, w .within, k .at)) (omega (arith, w .few, k .count)) }
+    let w = went (dot-field .ensures .onward) (r .given .1) in
+    let k = carrying .ensures in
+    record {
+      gives = on-told _ (slot-told (dot-field .ensures .gives)) (r .given .1) (named _ _ (entry-in .ensures) (other _ _ (ne-eqb _ _ (if1 .left)) (carried _ k (sym (k .word)))));
+      onward = goes-on (omega (arith, w .past, k .at)) (omega (arith, w .within, k .at)) (omega (arith, w .few, k .count));
+    }
 
 pub named-target-spec : {M : Type 1} → statement M
 named-target-spec =

@@ -56,7 +56,10 @@ returns-2 c =
     let r = c .before .before .before .before .before .r in
     let forbid = c .before .before .forbid in
     let enum-told2 = c .enum-told2 in
-    record { gives = here _ (on _ (read-target .ensures .gives) (r .given .1) (λ to _. off _ (forbid .ensures .gives _ _) (enum-told2 .given .1))); onward = nowhere (enum-told2 .given .1) }
+    record {
+      gives = here _ (on _ (read-target .ensures .gives) (r .given .1) (λ to _. off _ (forbid .ensures .gives _ _) (enum-told2 .given .1)));
+      onward = nowhere (enum-told2 .given .1);
+    }
 
 read-clauses-requires : tie.Need-read-clauses-requires
 read-clauses-requires c κs =
@@ -65,7 +68,10 @@ read-clauses-requires c κs =
     let r = c .before .before .before .before .before .before .before .before .r in
     let forbid = c .before .before .before .before .before .forbid in
     let q = c .before .before .before .q in
-    let p = pre .0 in let v = went (read-target .ensures .onward) (r .given .1) in let w = went (forbid .ensures .onward) (q .given .1) in record { tokens = p .tokens; table = p .table; list = read-target .kept .1 .0 ∙ p .list; here = w .within; few = omega (arith, v .few, w .few) }
+    let p = pre .0 in
+    let v = went (read-target .ensures .onward) (r .given .1) in
+    let w = went (forbid .ensures .onward) (q .given .1) in
+    record { tokens = p .tokens; table = p .table; list = read-target .kept .1 .0 ∙ p .list; here = w .within; few = omega (arith, v .few, w .few) }
 
 enum-known-p : tie.Need-enum-known-p
 enum-known-p c = search needs
@@ -88,7 +94,10 @@ returns-3 c =
     let q = c .before .before .before .before .before .before .before .before .q in
     let read-clauses = c .before .before .before .before .read-clauses in
     let enum-told3 = c .enum-told3 in
-    record { gives = here _ (on _ (read-target .ensures .gives) (r .given .1) (λ to _. on _ (forbid .ensures .gives _ _) (q .given .1) (λ _ _. off _ (read-clauses .ensures .gives) (enum-told3 .given .1)))); onward = nowhere (enum-told3 .given .1) }
+    record {
+      gives = here _ (on _ (read-target .ensures .gives) (r .given .1) (λ to _. on _ (forbid .ensures .gives _ _) (q .given .1) (λ _ _. off _ (read-clauses .ensures .gives) (enum-told3 .given .1))));
+      onward = nowhere (enum-told3 .given .1);
+    }
 
 put-word-requires : tie.Need-put-word-requires
 put-word-requires c κs =
@@ -129,7 +138,13 @@ returns-4 c =
     let p = c .before .before .before .before .before .before .before .before .before .before .p in
     let put-word = c .before .before .before .before .before .before .before .put-word in
     let put-word2 = c .before .before .put-word2 in
-    let t = went (read-target .ensures .onward) (r .given .1) in let v = went (forbid .ensures .onward) (q .given .1) in let w = went (read-clauses .ensures .onward) (p .given .1) in record { gives = here _ (on _ (read-target .ensures .gives) (r .given .1) (λ to e. on _ (forbid .ensures .gives _ _) (q .given .1) (λ _ _. on _ (read-clauses .ensures .gives) (p .given .1) (λ cs _. here _ (on _ (on _ (put-as _ _ _ e (put-word .ensures)) refl (λ _ _. put-in _ _ _ (put-word2 .ensures))) refl (λ _ _. returned _ tt)))))); onward = goes-on (omega (arith, t .past, v .past, w .past)) (w .within) (omega (arith, t .few, v .few, w .few)) }
+    let t = went (read-target .ensures .onward) (r .given .1) in
+    let v = went (forbid .ensures .onward) (q .given .1) in
+    let w = went (read-clauses .ensures .onward) (p .given .1) in
+    record {
+      gives = here _ (on _ (read-target .ensures .gives) (r .given .1) (λ to e. on _ (forbid .ensures .gives _ _) (q .given .1) (λ _ _. on _ (read-clauses .ensures .gives) (p .given .1) (λ cs _. here _ (on _ (on _ (put-as _ _ _ e (put-word .ensures)) refl (λ _ _. put-in _ _ _ (put-word2 .ensures))) refl (λ _ _. returned _ tt))))));
+      onward = goes-on (omega (arith, t .past, v .past, w .past)) (w .within) (omega (arith, t .few, v .few, w .few));
+    }
 
 pub read-assignment-spec : {M : Type 1} → statement M
 read-assignment-spec =

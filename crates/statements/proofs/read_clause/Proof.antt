@@ -51,7 +51,10 @@ returns-2 c =
     let r = c .before .before .before .before .before .before .before .r in
     let read-expression = c .before .before .before .before .read-expression in
     let enum-told2 = c .enum-told2 in
-    record { gives = λ got h. here _ (looked _ (on _ (expect .ensures .gives _ _) (r .given .1) (λ _ _. off _ (expression (read-expression .ensures) .gives) (enum-told2 .given .1)))); onward = nowhere (enum-told2 .given .1) }
+    record {
+      gives = λ got h. here _ (looked _ (on _ (expect .ensures .gives _ _) (r .given .1) (λ _ _. off _ (expression (read-expression .ensures) .gives) (enum-told2 .given .1))));
+      onward = nowhere (enum-told2 .given .1);
+    }
 
 clause-end-requires : tie.Need-clause-end-requires
 clause-end-requires c κs =
@@ -60,7 +63,10 @@ clause-end-requires c κs =
     let r = c .before .before .before .before .before .before .before .before .before .r in
     let read-expression = c .before .before .before .before .before .before .read-expression in
     let q = c .before .before .q in
-    let p = pre in let v = went (expect .ensures .onward) (r .given .1) in let w = went (read-expression .ensures .onward) (q .given .1) in still p refl (read-expression .kept .1 .1 .0) w (omega (arith, v .few, p .few))
+    let p = pre in
+    let v = went (expect .ensures .onward) (r .given .1) in
+    let w = went (read-expression .ensures .onward) (q .given .1) in
+    still p refl (read-expression .kept .1 .1 .0) w (omega (arith, v .few, p .few))
 
 enum-known-p : tie.Need-enum-known-p
 enum-known-p c = search needs
@@ -80,7 +86,10 @@ returns-3 c =
     let q = c .before .before .before .before .before .before .before .q in
     let clause-end = c .before .before .before .before .clause-end in
     let enum-told3 = c .enum-told3 in
-    record { gives = λ got h. here _ (looked _ (on _ (expect .ensures .gives _ _) (r .given .1) (λ _ _. on _ (expression (read-expression .ensures) .gives) (q .given .1) (λ e _. off _ (clause-end .ensures .gives (record { got = got; token = _; expr = e }) h) (enum-told3 .given .1))))); onward = nowhere (enum-told3 .given .1) }
+    record {
+      gives = λ got h. here _ (looked _ (on _ (expect .ensures .gives _ _) (r .given .1) (λ _ _. on _ (expression (read-expression .ensures) .gives) (q .given .1) (λ e _. off _ (clause-end .ensures .gives (record { got = got; token = _; expr = e }) h) (enum-told3 .given .1)))));
+      onward = nowhere (enum-told3 .given .1);
+    }
 
 cast-put-word : tie.Need-cast-put-word
 cast-put-word c =
@@ -109,7 +118,13 @@ returns-4 c =
     let clause-end = c .before .before .before .before .before .before .before .before .before .before .clause-end in
     let p = c .before .before .before .before .before .before .p in
     let put-word = c .before .before .put-word in
-    let u = went (expect .ensures .onward) (r .given .1) in let v = went (read-expression .ensures .onward) (q .given .1) in let w = went (clause-end .ensures .onward) (p .given .1) in record { gives = λ got h. here _ (looked _ (on _ (expect .ensures .gives _ _) (r .given .1) (λ _ _. on _ (expression (read-expression .ensures) .gives) (q .given .1) (λ e _. on _ (clause-end .ensures .gives (record { got = got; token = _; expr = e }) h) (p .given .1) (λ turn t. here _ (on _ (put-in _ _ _ (put-word .ensures)) refl (λ _ _. returned turn t))))))); onward = goes-on (omega (arith, u .past, v .past, w .past)) (w .within) (omega (arith, u .few, v .few, w .few)) }
+    let u = went (expect .ensures .onward) (r .given .1) in
+    let v = went (read-expression .ensures .onward) (q .given .1) in
+    let w = went (clause-end .ensures .onward) (p .given .1) in
+    record {
+      gives = λ got h. here _ (looked _ (on _ (expect .ensures .gives _ _) (r .given .1) (λ _ _. on _ (expression (read-expression .ensures) .gives) (q .given .1) (λ e _. on _ (clause-end .ensures .gives (record { got = got; token = _; expr = e }) h) (p .given .1) (λ turn t. here _ (on _ (put-in _ _ _ (put-word .ensures)) refl (λ _ _. returned turn t)))))));
+      onward = goes-on (omega (arith, u .past, v .past, w .past)) (w .within) (omega (arith, u .few, v .few, w .few));
+    }
 
 pub read-clause-spec : {M : Type 1} → statement M
 read-clause-spec =

@@ -51,7 +51,10 @@ returns c =
     let loop = c .before .before .before .before .before .before .loop in
     let read-clause = c .before .before .before .before .read-clause in
     let enum-told = c .enum-told in
-    record { gives = turn-refused (loop .inv .0) (omega (arith, loop .inv .3, pre .tokens)) (λ x p. told-as (read-clause .ensures .gives x p) (λ _ _ _. tt)) (enum-told .given .1); onward = nowhere (enum-told .given .1) }
+    record {
+      gives = turn-refused (loop .inv .0) (omega (arith, loop .inv .3, pre .tokens)) (λ x p. told-as (read-clause .ensures .gives x p) (λ _ _ _. tt)) (enum-told .given .1);
+      onward = nowhere (enum-told .given .1);
+    }
 
 same-length-2 : tie.Need-same-length-2 Inv-loop μ-loop
 same-length-2 c =
@@ -66,7 +69,12 @@ returns-2 c =
     let read-clause = c .before .before .before .before .before .before .before .read-clause in
     let r = c .before .before .before .r in
     let if1 = c .if1 in
-    let w = went (read-clause .ensures .onward) (r .given .1) in let v = loop .inv in record { gives = turn-done (v .0) (omega (arith, v .3, pre .tokens)) (λ x p. went-done (read-clause .ensures .gives x p) (r .given .1) (λ y q. omega (arith, q .0, if1 .taken))); onward = goes-on (omega (arith, w .past, v .2)) (w .within) (omega (arith, w .few, v .4)) }
+    let w = went (read-clause .ensures .onward) (r .given .1) in
+    let v = loop .inv in
+    record {
+      gives = turn-done (v .0) (omega (arith, v .3, pre .tokens)) (λ x p. went-done (read-clause .ensures .gives x p) (r .given .1) (λ y q. omega (arith, q .0, if1 .taken)));
+      onward = goes-on (omega (arith, w .past, v .2)) (w .within) (omega (arith, w .few, v .4));
+    }
 
 loop-less : tie.Need-loop-less Inv-loop μ-loop
 loop-less c =
@@ -81,7 +89,9 @@ loop-again c =
     let read-clause = c .before .before .before .before .before .before .before .read-clause in
     let r = c .before .before .before .r in
     let if1 = c .if1 in
-    let w = went (read-clause .ensures .onward) (r .given .1) in let v = loop .inv in (turn-again (v .0) (omega (arith, v .3, pre .tokens)) (λ x p. went-again (read-clause .ensures .gives x p) (r .given .1) (if1 .left) (λ y q. q .1)) (omega (arith, w .past)), read-clause .kept .1 .1 .0 ∙ v .1, omega (arith, w .past, v .2), w .within, omega (arith, w .few, v .4))
+    let w = went (read-clause .ensures .onward) (r .given .1) in
+    let v = loop .inv in
+    (turn-again (v .0) (omega (arith, v .3, pre .tokens)) (λ x p. went-again (read-clause .ensures .gives x p) (r .given .1) (if1 .left) (λ y q. q .1)) (omega (arith, w .past)), read-clause .kept .1 .1 .0 ∙ v .1, omega (arith, w .past, v .2), w .within, omega (arith, w .few, v .4))
 
 pub read-clauses-spec : {M : Type 1} → statement M
 read-clauses-spec =

@@ -25,7 +25,8 @@ unfolding read-exit
 returns c =
     let put-word = c .before .before .before .put-word in
     let moved = c .moved in
-    let m = moved .ensures in record { gives = λ source scan ns. here _ (on _ (advanced m) refl (λ _ _. on _ (put-in _ _ _ (put-word .ensures)) refl (λ _ _. returned _ tt))); at = m .at; count = m .count }
+    let m = moved .ensures in
+    record { gives = λ source scan ns. here _ (on _ (advanced m) refl (λ _ _. on _ (put-in _ _ _ (put-word .ensures)) refl (λ _ _. returned _ tt))); at = m .at; count = m .count }
 
 pub read-exit-spec : {M : Type 1} → statement M
 read-exit-spec =

@@ -38,7 +38,10 @@ returns-2 c =
     let if1 = c .before .before .before .before .if1 in
     let if2 = c .before .before .if2 in
     let field-target = c .field-target in
-    record { gives = token _ (token-at .ensures) (other _ _ (ne-eqb _ _ (if1 .left)) (so _ _ (eq-eqb _ _ (if2 .taken)) (made to-field (field-target .ensures .gives) (λ a t p. p)))); onward = further (field-target .ensures .onward) (omega arith) (pre .0 .few) }
+    record {
+      gives = token _ (token-at .ensures) (other _ _ (ne-eqb _ _ (if1 .left)) (so _ _ (eq-eqb _ _ (if2 .taken)) (made to-field (field-target .ensures .gives) (λ a t p. p))));
+      onward = further (field-target .ensures .onward) (omega arith) (pre .0 .few);
+    }
 
 variable-target-requires : tie.Need-variable-target-requires
 variable-target-requires c κs = search needs
@@ -60,7 +63,10 @@ returns-3 c =
     let if2 = c .before .before .before .before .before .before .if2 in
     let variable-target = c .before .before .before .before .variable-target in
     let enum-told = c .enum-told in
-    record { gives = token _ (token-at .ensures) (other _ _ (ne-eqb _ _ (if1 .left)) (other _ _ (ne-eqb _ _ (if2 .left)) (off {R = word} _ (off _ (variable-target .ensures .gives) (enum-told .given .1)) (enum-told .given .1)))); onward = nowhere (enum-told .given .1) }
+    record {
+      gives = token _ (token-at .ensures) (other _ _ (ne-eqb _ _ (if1 .left)) (other _ _ (ne-eqb _ _ (if2 .left)) (off {R = word} _ (off _ (variable-target .ensures .gives) (enum-told .given .1)) (enum-told .given .1))));
+      onward = nowhere (enum-told .given .1);
+    }
 
 forbid-requires : tie.Need-forbid-requires
 forbid-requires c κs =
@@ -88,7 +94,10 @@ returns-4 c =
     let r = c .before .before .before .before .r in
     let forbid = c .before .before .forbid in
     let enum-told2 = c .enum-told2 in
-    record { gives = token _ (token-at .ensures) (other _ _ (ne-eqb _ _ (if1 .left)) (other _ _ (ne-eqb _ _ (if2 .left)) (off {R = word} _ (on-told _ (variable-target .ensures .gives) (r .given .1) (off _ (forbid .ensures .gives _ _) (enum-told2 .given .1))) (enum-told2 .given .1)))); onward = nowhere (enum-told2 .given .1) }
+    record {
+      gives = token _ (token-at .ensures) (other _ _ (ne-eqb _ _ (if1 .left)) (other _ _ (ne-eqb _ _ (if2 .left)) (off {R = word} _ (on-told _ (variable-target .ensures .gives) (r .given .1) (off _ (forbid .ensures .gives _ _) (enum-told2 .given .1))) (enum-told2 .given .1))));
+      onward = nowhere (enum-told2 .given .1);
+    }
 
 carrying-requires : tie.Need-carrying-requires
 carrying-requires c κs = search needs
@@ -107,7 +116,13 @@ returns-5 c =
     let forbid = c .before .before .before .before .forbid in
     let q = c .before .before .q in
     let carrying = c .carrying in
-    let v = went (variable-target .ensures .onward) (r .given .1) in let w = went (forbid .ensures .onward) (q .given .1) in let k = carrying .ensures in record { gives = token _ (token-at .ensures) (other _ _ (ne-eqb _ _ (if1 .left)) (other _ _ (ne-eqb _ _ (if2 .left)) (made {R = word} to-variable (on-told _ (variable-target .ensures .gives) (r .given .1) (on _ (forbid .ensures .gives _ _) (q .given .1) (λ _ _. carried _ k (sym (k .word))))) (λ a t p. p)))); onward = goes-on (omega (arith, v .past, w .past, k .at)) (omega (arith, w .within, k .at)) (omega (arith, v .few, w .few, k .count)) }
+    let v = went (variable-target .ensures .onward) (r .given .1) in
+    let w = went (forbid .ensures .onward) (q .given .1) in
+    let k = carrying .ensures in
+    record {
+      gives = token _ (token-at .ensures) (other _ _ (ne-eqb _ _ (if1 .left)) (other _ _ (ne-eqb _ _ (if2 .left)) (made {R = word} to-variable (on-told _ (variable-target .ensures .gives) (r .given .1) (on _ (forbid .ensures .gives _ _) (q .given .1) (λ _ _. carried _ k (sym (k .word))))) (λ a t p. p))));
+      onward = goes-on (omega (arith, v .past, w .past, k .at)) (omega (arith, w .within, k .at)) (omega (arith, v .few, w .few, k .count));
+    }
 
 pub read-target-spec : {M : Type 1} → statement M
 read-target-spec =

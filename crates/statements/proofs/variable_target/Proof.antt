@@ -62,7 +62,12 @@ returns-2 c =
     let fresh = c .before .before .before .before .before .before .before .before .fresh in
     let r = c .before .before .before .before .before .before .r in
     let declare = c .before .before .declare in
-    let w = went (fresh .ensures .onward) (r .given .1) in let d = declare .ensures in record { gives = missed-it _ _ _ (find-name .ensures) (enum-told .given .1) (on-told _ (fresh .ensures .gives) (r .given .1) (declared _ _ _ d)); onward = goes-on (omega (arith, w .past, d .at)) (omega (arith, w .within, d .at)) (omega (arith, w .few, d .count)) }
+    let w = went (fresh .ensures .onward) (r .given .1) in
+    let d = declare .ensures in
+    record {
+      gives = missed-it _ _ _ (find-name .ensures) (enum-told .given .1) (on-told _ (fresh .ensures .gives) (r .given .1) (declared _ _ _ d));
+      onward = goes-on (omega (arith, w .past, d .at)) (omega (arith, w .within, d .at)) (omega (arith, w .few, d .count));
+    }
 
 entry-in-requires : tie.Need-entry-in-requires
 entry-in-requires c κs =
@@ -97,7 +102,13 @@ returns-3 c =
     let if1 = c .before .before .if1 in
     let moved = c .before .moved in
     let carrying = c .carrying in
-    let p = pre in let m = moved .ensures in let k = carrying .ensures in record { gives = found-it _ _ _ (find-name .ensures) (f .given .1) (named _ _ (entry-in .ensures) (so _ _ (eq-eqb _ _ (if1 .taken)) (on _ (advanced m) refl (λ _ _. carried _ k (sym (k .word)))))); onward = goes-on (omega (arith, k .at, m .at)) (omega (arith, k .at, m .at, p .1)) (omega (arith, k .count, m .count, p .0 .few)) }
+    let p = pre in
+    let m = moved .ensures in
+    let k = carrying .ensures in
+    record {
+      gives = found-it _ _ _ (find-name .ensures) (f .given .1) (named _ _ (entry-in .ensures) (so _ _ (eq-eqb _ _ (if1 .taken)) (on _ (advanced m) refl (λ _ _. carried _ k (sym (k .word))))));
+      onward = goes-on (omega (arith, k .at, m .at)) (omega (arith, k .at, m .at, p .1)) (omega (arith, k .count, m .count, p .0 .few));
+    }
 
 refuse-requires : tie.Need-refuse-requires
 refuse-requires c κs = search needs
@@ -113,7 +124,8 @@ returns-4 c =
     let entry-in = c .before .before .before .entry-in in
     let if1 = c .before .if1 in
     let refuse = c .refuse in
-    let y = refuse .ensures in record { gives = found-it _ _ _ (find-name .ensures) (f .given .1) (named _ _ (entry-in .ensures) (other _ _ (ne-eqb _ _ (if1 .left)) (refused _ y))); onward = nowhere y }
+    let y = refuse .ensures in
+    record { gives = found-it _ _ _ (find-name .ensures) (f .given .1) (named _ _ (entry-in .ensures) (other _ _ (ne-eqb _ _ (if1 .left)) (refused _ y))); onward = nowhere y }
 
 pub variable-target-spec : {M : Type 1} → statement M
 variable-target-spec =

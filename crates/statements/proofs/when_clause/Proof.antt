@@ -31,7 +31,10 @@ returns c =
     let moved = c .before .before .before .before .before .before .moved in
     let read-expression = c .before .before .before .before .read-expression in
     let enum-told = c .enum-told in
-    record { gives = λ b _. on _ (advanced (moved .ensures)) refl (λ _ _. here _ (off _ (expression (read-expression .ensures) .gives) (enum-told .given .1))); onward = nowhere (enum-told .given .1) }
+    record {
+      gives = λ b _. on _ (advanced (moved .ensures)) refl (λ _ _. here _ (off _ (expression (read-expression .ensures) .gives) (enum-told .given .1)));
+      onward = nowhere (enum-told .given .1);
+    }
 
 cast-put-word : tie.Need-cast-put-word
 cast-put-word c = search needs
@@ -62,7 +65,13 @@ returns-2 c =
     let token-at = c .before .before .before .token-at in
     let if1 = c .before .if1 in
     let carrying = c .carrying in
-    let m = moved .ensures in let w = went (read-expression .ensures .onward) (r .given .1) in let k = carrying .ensures in record { gives = λ b _. on _ (advanced m) refl (λ _ _. here _ (on _ (expression (read-expression .ensures) .gives) (r .given .1) (λ c _. on _ (put-in _ _ _ (put-word .ensures)) refl (λ _ _. token _ (token-at .ensures) (first-of-two _ _ (eq-eqb _ _ (if1 .taken)) (carried _ k (once (k .word, not-first (b .got) _)))))))); onward = goes-on (omega (arith, w .past, k .at, m .at)) (omega (arith, w .within, k .at)) (omega (arith, w .few, k .count, m .count)) }
+    let m = moved .ensures in
+    let w = went (read-expression .ensures .onward) (r .given .1) in
+    let k = carrying .ensures in
+    record {
+      gives = λ b _. on _ (advanced m) refl (λ _ _. here _ (on _ (expression (read-expression .ensures) .gives) (r .given .1) (λ c _. on _ (put-in _ _ _ (put-word .ensures)) refl (λ _ _. token _ (token-at .ensures) (first-of-two _ _ (eq-eqb _ _ (if1 .taken)) (carried _ k (once (k .word, not-first (b .got) _))))))));
+      onward = goes-on (omega (arith, w .past, k .at, m .at)) (omega (arith, w .within, k .at)) (omega (arith, w .few, k .count, m .count));
+    }
 
 carrying-requires-2 : tie.Need-carrying-requires-2
 carrying-requires-2 c κs = search needs
@@ -80,7 +89,13 @@ returns-3 c =
     let token-at = c .before .before .before .token-at in
     let if1 = c .before .if1 in
     let carrying2 = c .carrying2 in
-    let m = moved .ensures in let w = went (read-expression .ensures .onward) (r .given .1) in let k = carrying2 .ensures in record { gives = λ b _. on _ (advanced m) refl (λ _ _. here _ (on _ (expression (read-expression .ensures) .gives) (r .given .1) (λ c _. on _ (put-in _ _ _ (put-word .ensures)) refl (λ _ _. token _ (token-at .ensures) (second-of-two _ _ (ne-eqb _ _ (if1 .left)) (carried _ k (ends (k .word)))))))); onward = goes-on (omega (arith, w .past, k .at, m .at)) (omega (arith, w .within, k .at)) (omega (arith, w .few, k .count, m .count)) }
+    let m = moved .ensures in
+    let w = went (read-expression .ensures .onward) (r .given .1) in
+    let k = carrying2 .ensures in
+    record {
+      gives = λ b _. on _ (advanced m) refl (λ _ _. here _ (on _ (expression (read-expression .ensures) .gives) (r .given .1) (λ c _. on _ (put-in _ _ _ (put-word .ensures)) refl (λ _ _. token _ (token-at .ensures) (second-of-two _ _ (ne-eqb _ _ (if1 .left)) (carried _ k (ends (k .word))))))));
+      onward = goes-on (omega (arith, w .past, k .at, m .at)) (omega (arith, w .within, k .at)) (omega (arith, w .few, k .count, m .count));
+    }
 
 pub when-clause-spec : {M : Type 1} → statement M
 when-clause-spec =

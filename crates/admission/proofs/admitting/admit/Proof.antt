@@ -25,15 +25,31 @@ turned-away-requires-2 c κs = search needs
 
 -- src/admitting.rt:58:9
 returns-2 : tie.Need-returns-2
-returns-2 c = far-refused _ (read-times (c .before .before .before .before .before .before .before .before .fits .start) (c .before .before .before .before .before .before .before .before .fits .steps) (c .before .before .before .before .before .refused-request .ensures)) (c .before .before .before .before .if1 .left) (c .before .before .before .survey .ensures) (c .before .if2 .taken) (c .turned-away2 .ensures)
+returns-2 c =
+    let w = c .before in
+    let v = w .before .before in
+    let u = v .before in
+    let t = u .before in
+    let s = t .before .before .before in
+    far-refused _ (read-times (s .fits .start) (s .fits .steps) (t .refused-request .ensures)) (u .if1 .left) (v .survey .ensures) (w .if2 .taken) (c .turned-away2 .ensures)
 
 -- src/admitting.rt:61:9
 out-of-field-requires : tie.Need-out-of-field-requires
-out-of-field-requires c κs = (c .before .before .before .before .before .before .before .before .pre .0, c .before .before .before .before .before .before .before .before .pre .1, few (c .before .before .before .before .before .before .before .before .pre .0) (c .before .before .before .before .before .refused-request .ensures .shaped (c .before .before .before .before .if1 .left)))
+out-of-field-requires c κs =
+    let u = c .before .before .before .before in
+    let t = u .before in
+    let s = t .before .before .before in
+    (s .pre .0, s .pre .1, few (s .pre .0) (t .refused-request .ensures .shaped (u .if1 .left)))
 
 -- src/admitting.rt:39:1
 returns-3 : tie.Need-returns-3
-returns-3 c = admitted _ (read-times (c .before .before .before .before .before .before .before .before .before .fits .start) (c .before .before .before .before .before .before .before .before .before .fits .steps) (c .before .before .before .before .before .before .refused-request .ensures)) (c .before .before .before .before .before .if1 .left) (c .before .before .before .before .survey .ensures) (c .before .before .if2 .left) (c .out-of-field .ensures)
+returns-3 c =
+    let w = c .before .before in
+    let v = w .before .before in
+    let u = v .before in
+    let t = u .before in
+    let s = t .before .before .before in
+    admitted _ (read-times (s .fits .start) (s .fits .steps) (t .refused-request .ensures)) (u .if1 .left) (v .survey .ensures) (w .if2 .left) (c .out-of-field .ensures)
 
 pub admit-spec : {M : Type 1} → statement M
 admit-spec =

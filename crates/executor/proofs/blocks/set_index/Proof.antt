@@ -14,7 +14,10 @@ cast-offset : tie.Need-cast-offset
 cast-offset c = search needs
 
 offset-requires : tie.Need-offset-requires
-offset-requires c κs = let h : mag (c .args .low .n) < 2147483648 = search needs in let l : mag (c .args .high .n) < 2147483648 = search needs in offset-in-range (c .args .low .n) (c .args .high .n) (c .args .k) h l (c .pre .1)
+offset-requires c κs =
+    let h : mag (c .args .low .n) < 2147483648 = search needs in
+    let l : mag (c .args .high .n) < 2147483648 = search needs in
+    offset-in-range (c .args .low .n) (c .args .high .n) (c .args .k) h l (c .pre .1)
 
 mul-n : tie.Need-mul-n
 mul-n c = search needs

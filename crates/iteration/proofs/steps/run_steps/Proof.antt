@@ -41,7 +41,11 @@ add-step c = search needs
 
 -- src/steps.rt:64:13
 step-requires : tie.Need-step-requires Inv-loop μ-loop
-step-requires c κs = step-ready (c .before .before .before .before .before .before .before .before .before .before .before .before .before .before .before .before .before .pre) (c .before .before .before .before .before .loop .inv .0) (c .before .before .before .before .before .loop .inv .1) (c .before .before .before .before .loop-test .taken)
+step-requires c κs =
+    let u = c .before .before .before .before in
+    let t = u .before in
+    let s = t .before .before .before .before .before .before .before .before .before .before .before .before in
+    step-ready (s .pre) (t .loop .inv .0) (t .loop .inv .1) (u .loop-test .taken)
 
 -- src/steps.rt:76:24
 enum-known-s : tie.Need-enum-known-s Inv-loop μ-loop
@@ -65,15 +69,30 @@ same-length-3 c = search needs
 
 -- src/steps.rt:80:17
 returns : tie.Need-returns Inv-loop μ-loop
-returns c = stops (c .before .before .before .before .before .before .before .before .before .before .before .before .before .before .before .before .before .before .before .before .before .before .before .pre) (c .before .before .before .before .before .before .before .before .before .before .before .loop .inv .0) (c .before .before .before .before .before .before .before .before .before .before .loop-test .taken) (c .before .before .before .before .before .step .ensures) (c .before .s2 .given .1)
+returns c =
+    let w = c .before in
+    let v = w .before .before .before .before in
+    let u = v .before .before .before .before .before in
+    let t = u .before in
+    let s = t .before .before .before .before .before .before .before .before .before .before .before .before in
+    stops (s .pre) (t .loop .inv .0) (u .loop-test .taken) (v .step .ensures) (w .s2 .given .1)
 
 -- src/steps.rt:89:9
 renew-marks-requires : tie.Need-renew-marks-requires Inv-loop μ-loop
-renew-marks-requires c κs = mark-ready (c .before .before .before .before .before .before .before .before .before .before .before .before .before .before .before .before .before .before .before .before .before .before .before .before .before .before .pre) (c .before .before .before .before .before .before .before .before .before .before .before .before .before .before .loop .inv .0) (c .before .before .before .before .before .before .before .before .before .before .before .before .before .loop-test .taken) (c .before .before .before .before .before .before .before .before .step .ensures) (c .before .before .before .before .s .given .1)
+renew-marks-requires c κs =
+    let w = c .before .before .before .before in
+    let v = w .before .before .before .before in
+    let u = v .before .before .before .before .before in
+    let t = u .before in
+    let s = t .before .before .before .before .before .before .before .before .before .before .before .before in
+    mark-ready (s .pre) (t .loop .inv .0) (u .loop-test .taken) (v .step .ensures) (w .s .given .1)
 
 -- src/steps.rt:90:9
 add-done : tie.Need-add-done Inv-loop μ-loop
-add-done c = omega (arith, (c .before .before .before .before .before .before .before .before .before .before .before .before .before .before .before .before .loop-test .taken), (c .before .before .before .before .before .before .before .before .before .before .before .before .before .before .before .before .before .before .before .before .before .before .before .before .before .before .before .before .before .pre .times))
+add-done c =
+    let t = c .before .before .before .before .before .before .before .before .before .before .before .before .before .before .before .before in
+    let s = t .before .before .before .before .before .before .before .before .before .before .before .before .before in
+    omega (arith, (t .loop-test .taken), (s .pre .times))
 
 -- src/steps.rt:63:5
 loop-less : tie.Need-loop-less Inv-loop μ-loop
@@ -81,7 +100,14 @@ loop-less c = search needs
 
 -- src/steps.rt:63:5
 loop-again : tie.Need-loop-again Inv-loop μ-loop
-loop-again c = (again (c .before .before .before .before .before .before .before .before .before .before .before .before .before .before .before .before .before .before .before .before .before .before .before .before .before .before .before .before .before .pre) (c .before .before .before .before .before .before .before .before .before .before .before .before .before .before .before .before .before .loop .inv .0) (c .before .before .before .before .before .before .before .before .before .before .before .before .before .before .before .before .loop-test .taken) (c .before .before .before .before .before .before .before .before .before .before .before .step .ensures) (c .before .before .before .before .before .before .before .s .given .1) (c .before .before .renew-marks .ensures), c .before .before .before .before .before .before .before .before .before .before .before .before .before .before .before .before .before .loop .inv .1)
+loop-again c =
+    let x = c .before .before in
+    let w = x .before .before .before .before .before in
+    let v = w .before .before .before .before in
+    let u = v .before .before .before .before .before in
+    let t = u .before in
+    let s = t .before .before .before .before .before .before .before .before .before .before .before .before in
+    (again (s .pre) (t .loop .inv .0) (u .loop-test .taken) (v .step .ensures) (w .s .given .1) (x .renew-marks .ensures), t .loop .inv .1)
 
 -- src/steps.rt:35:1
 same-length-4 : tie.Need-same-length-4 Inv-loop μ-loop

@@ -25,7 +25,10 @@ returns c =
     literal-leaf _ _ _ _ _ word-at-ensures (c .before .if1 .taken) (c .word-at2 .ensures) (token _ _ _ word-at-ensures (omega arith))
 
 name-leaf-requires : tie.Need-name-leaf-requires
-name-leaf-requires c κs = let e = c .before .before .word-at .ensures in let p = c .before .before .before .before .pre in (p .0, p .1, token _ _ _ e (omega arith), sym e ∙ c .if2 .taken)
+name-leaf-requires c κs =
+    let e = c .before .before .word-at .ensures in
+    let p = c .before .before .before .before .pre in
+    (p .0, p .1, token _ _ _ e (omega arith), sym e ∙ c .if2 .taken)
 
 returns-2 : tie.Need-returns-2
 returns-2 c = search needs

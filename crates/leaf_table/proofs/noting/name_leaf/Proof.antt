@@ -16,7 +16,9 @@ add-next : tie.Need-add-next
 add-next c = search needs
 
 returns : tie.Need-returns
-returns c = let s = c .before .before .before .before in constant-leaf _ _ _ _ _ (s .pre .3) (s .pre .2) (c .before .before .word-at .ensures) (c .before .word-at2 .ensures) (c .if1 .taken)
+returns c =
+    let s = c .before .before .before .before in
+    constant-leaf _ _ _ _ _ (s .pre .3) (s .pre .2) (c .before .before .word-at .ensures) (c .before .word-at2 .ensures) (c .if1 .taken)
 
 cast-if3 : tie.Need-cast-if3
 cast-if3 c = search needs

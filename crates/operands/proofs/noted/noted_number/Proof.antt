@@ -59,15 +59,26 @@ cast-moved c = search needs
 
 -- src/noted.rt:50:13
 moved-requires : tie.Need-moved-requires Inv-loop μ-loop
-moved-requires c κs = (inside-at (c .before .before .before .before .before .before .before .before .args .sizes .now) (c .before .before .before .before .before .before .before .before .args .place .now) (c .before .before .before .before .before .before .before .before .pre .3) _ (c .before .before .before .loop-test .taken), offset-small _ _ _ _ _ _ (c .before .before .before .before .before .before .before .before .pre .3) (c .before .before .before .before .loop .inv .0) (c .before .before .before .loop-test .taken) (c .leaf-word .ensures), omega (arith, (c .before .before .shared-slice-known4 .given) (c .before .before .before .before .loop .k)))
+moved-requires c κs =
+    let v = c .before .before in
+    let u = v .before in
+    let t = u .before in
+    let s = t .before .before .before .before in
+    (inside-at (s .args .sizes .now) (s .args .place .now) (s .pre .3) _ (u .loop-test .taken), offset-small _ _ _ _ _ _ (s .pre .3) (t .loop .inv .0) (u .loop-test .taken) (c .leaf-word .ensures), omega (arith, (v .shared-slice-known4 .given) (t .loop .k)))
 
 -- src/noted.rt:51:18
 mul-number : tie.Need-mul-number Inv-loop μ-loop
-mul-number c = record { fits = omega (arith, (c .before .before .before .before .before .before .before .before .before .pre .2), walk-small _ _ _ _ _ _ (c .before .before .before .before .before .before .before .before .before .pre .3) (c .before .before .before .before .before .loop .inv .0) (c .before .before .before .before .loop-test .taken) (c .before .leaf-word .ensures) (c .moved .ensures)) }
+mul-number c =
+    record {
+      fits = omega (arith, (c .before .before .before .before .before .before .before .before .before .pre .2), walk-small _ _ _ _ _ _ (c .before .before .before .before .before .before .before .before .before .pre .3) (c .before .before .before .before .before .loop .inv .0) (c .before .before .before .before .loop-test .taken) (c .before .leaf-word .ensures) (c .moved .ensures));
+    }
 
 -- src/noted.rt:51:18
 add-number : tie.Need-add-number Inv-loop μ-loop
-add-number c = record { fits = omega (arith, (c .before .before .before .before .before .before .before .before .before .pre .2), walk-small _ _ _ _ _ _ (c .before .before .before .before .before .before .before .before .before .pre .3) (c .before .before .before .before .before .loop .inv .0) (c .before .before .before .before .loop-test .taken) (c .before .leaf-word .ensures) (c .moved .ensures)) }
+add-number c =
+    record {
+      fits = omega (arith, (c .before .before .before .before .before .before .before .before .before .pre .2), walk-small _ _ _ _ _ _ (c .before .before .before .before .before .before .before .before .before .pre .3) (c .before .before .before .before .before .loop .inv .0) (c .before .before .before .before .loop-test .taken) (c .before .leaf-word .ensures) (c .moved .ensures));
+    }
 
 -- src/noted.rt:52:9
 add-k : tie.Need-add-k Inv-loop μ-loop
@@ -79,7 +90,12 @@ loop-less c = search needs
 
 -- src/noted.rt:47:5
 loop-again : tie.Need-loop-again Inv-loop μ-loop
-loop-again c = (walk-more _ _ _ _ _ _ (c .before .before .before .before .before .before .before .before .before .pre .3) (c .before .before .before .before .before .loop .inv .0) (c .before .before .before .before .loop-test .taken) (c .before .leaf-word .ensures) (c .moved .ensures), (c .before .before .before .before .before .loop .inv .1), omega arith)
+loop-again c =
+    let v = c .before in
+    let u = v .before .before .before in
+    let t = u .before in
+    let s = t .before .before .before .before in
+    (walk-more _ _ _ _ _ _ (s .pre .3) (t .loop .inv .0) (u .loop-test .taken) (v .leaf-word .ensures) (c .moved .ensures), (t .loop .inv .1), omega arith)
 
 -- src/noted.rt:31:1
 returns : tie.Need-returns Inv-loop μ-loop

@@ -27,7 +27,9 @@ returns c = unread (c .before .before .before .before .before .before .before .l
 
 -- src/opening.rt:75:9
 admit-requires : tie.Need-admit-requires
-admit-requires c κs = let a = accepts (c .before .before .before .before .before .before .before .before .load .ensures .1) (c .before .before .before .before .before .before .before .before .load .ensures .0 .words) (not-false _ (c .before .before .if1 .left)) in (a .sized, a .some-fields)
+admit-requires c κs =
+    let a = accepts (c .before .before .before .before .before .before .before .before .load .ensures .1) (c .before .before .before .before .before .before .before .before .load .ensures .0 .words) (not-false _ (c .before .before .if1 .left)) in
+    (a .sized, a .some-fields)
 
 -- src/opening.rt:77:9
 closed-requires-2 : tie.Need-closed-requires-2
@@ -43,7 +45,13 @@ same-length-4 c = search needs
 
 -- src/opening.rt:77:9
 returns-2 : tie.Need-returns-2
-returns-2 c = read-opens (c .before .before .before .before .before .before .before .before .before .before .before .before .before .before .before .before .before .before .before .fits .start) (c .before .before .before .before .before .before .before .before .before .before .before .before .before .before .before .before .before .before .before .fits .steps) (not-admitted (c .before .before .before .before .before .before .before .before .before .before .before .before .load .ensures .0) (c .before .before .before .before .before .before .before .before .before .before .before .before .load .ensures .1) (c .before .before .before .before .before .before .if1 .left) (c .before .before .before .admit .ensures) (c .before .if2 .taken) (c .closed2 .ensures))
+returns-2 c =
+    let w = c .before in
+    let v = w .before .before in
+    let u = v .before .before .before in
+    let t = u .before .before .before .before .before .before in
+    let s = t .before .before .before .before .before .before .before in
+    read-opens (s .fits .start) (s .fits .steps) (not-admitted (t .load .ensures .0) (t .load .ensures .1) (u .if1 .left) (v .admit .ensures) (w .if2 .taken) (c .closed2 .ensures))
 
 -- src/opening.rt:49:1
 same-length-5 : tie.Need-same-length-5
@@ -55,7 +63,13 @@ same-length-6 c = search needs
 
 -- src/opening.rt:49:1
 returns-3 : tie.Need-returns-3
-returns-3 c = read-opens (c .before .before .before .before .before .before .before .before .before .before .before .before .before .before .before .before .before .before .before .fits .start) (c .before .before .before .before .before .before .before .before .before .before .before .before .before .before .before .before .before .before .before .fits .steps) (begun (c .before .before .before .before .before .before .before .before .before .before .before .before .load .ensures .0) (c .before .before .before .before .before .before .before .before .before .before .before .before .load .ensures .1) (c .before .before .before .before .before .before .if1 .left) (c .before .before .before .admit .ensures) (c .before .if2 .left) refl)
+returns-3 c =
+    let w = c .before in
+    let v = w .before .before in
+    let u = v .before .before .before in
+    let t = u .before .before .before .before .before .before in
+    let s = t .before .before .before .before .before .before .before in
+    read-opens (s .fits .start) (s .fits .steps) (begun (t .load .ensures .0) (t .load .ensures .1) (u .if1 .left) (v .admit .ensures) (w .if2 .left) refl)
 
 pub open-run-spec : {M : Type 1} → statement M
 open-run-spec =
