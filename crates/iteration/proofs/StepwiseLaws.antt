@@ -11,12 +11,12 @@ use lib.IntN.{ℤ}
 use borrow.Author.Tests.{not-true, not-false}
 use Rattle.value.specs.Laws.{never}
 use Rattle.automaton.specs.Listed.{list-of, length-list-of, getD-list-of, list-of-ext}
-use Rattle.automaton.specs.Step.{Fault, any-of, marks-of, non-zero, marked, Run, every-cell, changed, open-after}
-use Rattle.automaton.specs.Quiet.{marked-marks-of, any-of-false}
+use Rattle.automaton.specs.Step.{Fault, any-of, marks-of, non-zero, marked, Quiet, every-cell, no-blocks, changed, touched, open-in}
+use Rattle.automaton.specs.Quiet.{marked-marks-of, any-of-false, any-none}
 use Rattle.automaton.specs.Shape.{product, Bound, neighbour, reach-of, box-indices}
 use Rattle.automaton.specs.ShapeLaws.{Positive, Alike, alike-length, neighbour-lt, box-alike, own-in-reach}
 use Rattle.automaton.specs.Grid.{cell-of, differ, automaton}
-use Rattle.automaton.specs.GridLaws.{differ-false}
+use Rattle.automaton.specs.GridLaws.{differ-false, differ-self}
 use Rattle.automaton.specs.Going.{Going, going-start, going-on, going-stop, going-done}
 use Rattle.program.specs.Syntax.{Program}
 use Rattle.semantics.specs.declared.Rule.{Rule}
@@ -24,14 +24,13 @@ use Rattle.semantics.specs.Leaves.{Leaves}
 use Rattle.stepper.specs.declared.Reach.{Reach}
 use Rattle.stepper.specs.Reach.{reach, running}
 use Rattle.stepper.specs.Report.{ended}
-use Rattle.stepper.specs.Locality.{running-lawful}
 use Rattle.stepper.specs.Fitting.{held-fields, Shaped, bounds-of, bound-at}
 use Rattle.stepping.specs.declared.Step.{Step}
 use Rattle.stepping.specs.declared.Step.the-variants as Gives
 use Rattle.stepping.specs.Stepping as stepping
 use Rattle.stepping.specs.Stepping.{Stepped}
 use Rattle.marking.specs.Opened as marking
-use Rattle.marking.specs.Opened.{opened, open-is}
+use Rattle.marking.specs.Opened.{opened, pending-is}
 use Rattle.iteration.specs.Stepwise.{Begins, Runs, Renewed, Underway, told, steps-report, Ran}
 
 -- ---- marks
@@ -111,9 +110,31 @@ module _ {sizes : List ℕ} {r : Reach} {all-open : Bool} {fields : ℕ} {old gr
 
 -- ---- the open cells of the definition
 
-open-all : (p : Program) (sizes : List ℕ) (old new : List ℤ) → p .timed ≡ true → open-after (running p sizes) old new ≡ every-cell
-unfolding running automaton open-after
-open-all p sizes old new e = fun-ext (λ c. ap (λ (b : Bool). b || any-of (changed (running p sizes) old new) (reach-of sizes (box-indices (reach p)) c)) e)
+open-all : (p : Program) (sizes : List ℕ) (o : ℕ → Bool) (old new : List ℤ) → p .timed ≡ true → open-in (running p sizes) o old new ≡ every-cell
+unfolding running automaton open-in
+open-all p sizes o old new e = fun-ext (λ c. ap (λ (b : Bool). b || (o c || touched (running p sizes) old new c)) e)
+
+-- every cell is pending
+open-every : (p : Program) (sizes : List ℕ) (old new : List ℤ) (c : ℕ) → open-in (running p sizes) every-cell old new c ≡ true
+unfolding open-in
+open-every p sizes old new c = or-yes (running p sizes .timed)
+  where
+    or-yes : (b : Bool) → (b || true) ≡ true
+    or-yes true = refl
+    or-yes false = refl
+
+-- where no block is set and `time` does not stand in the source, the open cells are those that are pending
+touched-self : (p : Program) (sizes : List ℕ) (grid : List ℤ) (c : ℕ) → touched (running p sizes) grid grid c ≡ false
+unfolding running automaton touched changed
+touched-self p sizes grid c = any-none (λ x. differ (cell-of (length (p .fields)) grid x) (cell-of (length (p .fields)) grid x)) (reach-of sizes (box-indices (reach p)) c) (λ x. differ-self (cell-of (length (p .fields)) grid x))
+
+or-no : (b : Bool) → (b || false) ≡ b
+or-no true = refl
+or-no false = refl
+
+open-pending : (p : Program) (sizes : List ℕ) (o : ℕ → Bool) (grid : List ℤ) (c : ℕ) → p .timed ≡ false → open-in (running p sizes) o grid grid c ≡ o c
+unfolding running automaton open-in
+open-pending p sizes o grid c e = ap₂ (λ (a b : Bool). a || (o c || b)) e (touched-self p sizes grid c) ∙ or-no (o c)
 
 -- the leaf table can be filled
 pub fill-ready : {words : List ℕ} {rule : Rule} {sizes : List ℕ} {r : Reach} {grid scratch : List ℤ} {marks : List ℕ} {start steps : ℕ} → Begins words rule sizes r grid scratch marks start steps
@@ -135,7 +156,11 @@ module _ {words : List ℕ} {rule : Rule} {sizes : List ℕ} {r : Reach} {all-op
         plain = marks-plain every-cell (product sizes) marks is;
         still = λ c l z. absurd (let q = shut every-cell (product sizes) marks is c l z in let w : _≡_ {A = ℕ} 0 1 = cc in omega arith);
         all-marked = λ _. is;
-        going = λ p runs. (every-cell, is, going-start (running p sizes) (running-lawful p sizes (runs .flagged)) steps start grid₀);
+        going = λ p runs. (
+          every-cell,
+          is ∙ marks-same _ _ (product sizes) (λ c l. sym (open-every p sizes grid₀ grid₀ c)),
+          going-start (running p sizes) no-blocks every-cell steps start grid₀,
+        );
       }
     where
       is : marks ≡ marks-of every-cell (product sizes)
@@ -164,11 +189,10 @@ module _ {words : List ℕ} {rule : Rule} {sizes : List ℕ} {r : Reach} {all-op
         report-is : (p : Program) (runs : Runs words rule r all-open p) → told (record { number = 0; place = 0; cell = 0; steps = done; count = count }) grid ≡ steps-report p sizes steps start grid₀
         report-is p runs =
             let M = running p sizes in
-            let laws = running-lawful p sizes (runs .flagged) in
             let g = now .going p runs in
-            let both = going-done M laws steps start grid₀ (subst (λ (k : ℕ). Going M laws steps start grid₀ (g .0) k count grid) e (g .2)) in
+            let is = going-done M no-blocks every-cell steps start grid₀ (g .2) grid refl marks (unfold running automaton in g .1) e in
             (λ i. record { number = 0; place = 0; cell = 0; steps = e i; count = count; grid = grid })
-            ∙ ap₂ (λ (run : Run (List ℤ)) (n : ℕ). ended (run .fault) (run .steps) n (run .grid)) (sym (both .0)) (sym (both .1))
+            ∙ ap (λ (q : Quiet (List ℤ)). ended (q .run .fault) (q .run .steps) (q .count) (q .run .grid)) (sym is)
 
     module _ (more : done < steps) where
       -- ---- a step that faults
@@ -183,11 +207,10 @@ module _ {words : List ℕ} {rule : Rule} {sizes : List ℕ} {r : Reach} {all-op
           report-is : (p : Program) (runs : Runs words rule r all-open p) → told (record { number = number; place = place; cell = cell; steps = done; count = counted }) grid′ ≡ steps-report p sizes steps start grid₀
           report-is p runs =
               let M = running p sizes in
-              let laws = running-lawful p sizes (runs .flagged) in
               let g = now .going p runs in
-              let both = going-stop M laws steps start grid₀ (g .2) marks (unfold running automaton in g .1) more cell number place (sym (s .fault p (runs .holds))) in
+              let is = going-stop M no-blocks every-cell steps start grid₀ (g .2) grid refl marks (unfold running automaton in g .1) more cell number place (sym (s .fault p (runs .holds))) in
               (λ i. record { number = number; place = place; cell = cell; steps = done; count = s .count-is p (runs .holds) i; grid = s .grid-is p (runs .holds) i })
-              ∙ ap₂ (λ (run : Run (List ℤ)) (n : ℕ). ended (run .fault) (run .steps) n (run .grid)) (sym (both .0)) (sym (both .1))
+              ∙ ap (λ (q : Quiet (List ℤ)). ended (q .run .fault) (q .run .steps) (q .count) (q .run .grid)) (sym is)
 
       -- ---- a step that does not
 
@@ -236,7 +259,7 @@ module _ {words : List ℕ} {rule : Rule} {sizes : List ℕ} {r : Reach} {all-op
             pub plain : (c : ℕ) → c < product sizes → getD marks′ c 0 ≤ 1
             pub still : (c : ℕ) → c < product sizes → getD marks′ c 0 ≡ 0 → cell-of (rule .fields) scratch′ c ≡ cell-of (rule .fields) grid′ c
             pub all : all-open ≡ true → marks′ ≡ marks-of every-cell (product sizes)
-            pub opens : (p : Program) → Runs words rule r all-open p → marks′ ≡ marks-of (open-after (running p sizes) grid grid′) (product sizes)
+            pub opens : (p : Program) → Runs words rule r all-open p → marks′ ≡ marks-of (open-in (running p sizes) (touched (running p sizes) grid grid′) grid′ grid′) (product sizes)
 
           next : Next
           next = by all-open refl (renewed .is)
@@ -249,7 +272,7 @@ module _ {words : List ℕ} {rule : Rule} {sizes : List ℕ} {r : Reach} {all-op
                     plain = marks-plain every-cell (product sizes) marks′ is;
                     still = λ c l z. absurd (let v = shut every-cell (product sizes) marks′ is c l z in let w : _≡_ {A = ℕ} 0 1 = cc in omega arith);
                     all = λ _. is;
-                    opens = λ p runs. is ∙ ap (λ (o : ℕ → Bool). marks-of o (product sizes)) (sym (open-all p sizes grid grid′ (runs .timed ∙ e)));
+                    opens = λ p runs. is ∙ ap (λ (o : ℕ → Bool). marks-of o (product sizes)) (sym (open-all p sizes (touched (running p sizes) grid grid′) grid′ grid′ (runs .timed ∙ e)));
                   }
               by false e q =
                   record {
@@ -260,11 +283,12 @@ module _ {words : List ℕ} {rule : Rule} {sizes : List ℕ} {r : Reach} {all-op
                     opens = λ p runs. q ∙ same-marks p runs;
                   }
                 where
-                  same-marks : (p : Program) → Runs words rule r all-open p → marks-of (opened sizes bounds (rule .fields) scratch′ grid′) (product sizes) ≡ marks-of (open-after (running p sizes) grid grid′) (product sizes)
+                  same-marks : (p : Program) → Runs words rule r all-open p → marks-of (opened sizes bounds (rule .fields) scratch′ grid′) (product sizes) ≡ marks-of (open-in (running p sizes) (touched (running p sizes) grid grid′) grid′ grid′) (product sizes)
                   same-marks p runs = marks-same _ _ (product sizes)
                       (λ c l. opened-same sizes bounds like (begins .shaped .positive) (rule .fields) scratch′ grid grid′ old-cell c l
                       ∙ ap₂ (λ (bs : List Bound) (f : ℕ). opened sizes bs f grid grid′ c) (ap (bounds-of r) (begins .shaped .dims) ∙ sym (runs .reaches)) (sym (held-fields p (runs .holds)))
-                      ∙ sym (open-is p sizes grid grid′ c (runs .timed ∙ e)))
+                      ∙ sym (pending-is p sizes grid grid′ c)
+                      ∙ sym (open-pending p sizes (touched (running p sizes) grid grid′) grid′ c (runs .timed ∙ e)))
 
           one-more : Underway words rule sizes r all-open grid₀ start steps (suc done) counted grid′ scratch′ marks′
           one-more =
@@ -279,11 +303,10 @@ module _ {words : List ℕ} {rule : Rule} {sizes : List ℕ} {r : Reach} {all-op
                 all-marked = next .all;
                 going = λ p runs.
                     let M = running p sizes in
-                    let laws = running-lawful p sizes (runs .flagged) in
                     let g = now .going p runs in (
-                      open-after M grid grid′,
+                      touched M grid grid′,
                       next .opens p runs,
-                      going-on M laws steps start grid₀ (g .2) marks (unfold running automaton in g .1) more counted grid′ (sym (s .fault p (runs .holds))) (s .grid-is p (runs .holds)) (s .count-is p (runs .holds)),
+                      going-on M no-blocks every-cell steps start grid₀ (g .2) grid refl marks (unfold running automaton in g .1) more counted grid′ (sym (s .fault p (runs .holds))) (s .grid-is p (runs .holds)) (s .count-is p (runs .holds)),
                     );
               }
 

@@ -5,7 +5,7 @@ use mathlib.Core.List.{List}
 use Prim.Native.Nat.{ℕ, _+_, _*_, _<_, _≤_}
 use lib.ListN.{length, getD}
 use lib.IntN.{ℤ}
-use Rattle.automaton.specs.Step.{every-cell, marks-of, run-of, open-count}
+use Rattle.automaton.specs.Step.{every-cell, no-blocks, marks-of, open-in, quiet-run}
 use Rattle.automaton.specs.Shape.{product}
 use Rattle.automaton.specs.Grid.{cell-of}
 use Rattle.automaton.specs.Going.{Going}
@@ -16,7 +16,7 @@ use Rattle.stepper.specs.declared.Reach.{Reach}
 use Rattle.stepper.specs.Reach.{reach, running}
 use Rattle.stepper.specs.Report as report
 use Rattle.stepper.specs.Report.{ended}
-use Rattle.stepper.specs.Locality.{Flagged, running-lawful}
+use Rattle.stepper.specs.Locality.{Flagged}
 use Rattle.stepper.specs.Fitting.{Sized, Shaped, bounds-of, Near}
 use Rattle.marking.specs.Opened.{opened}
 use Rattle.iteration.specs.declared.Report.{Report}
@@ -57,8 +57,8 @@ pub record Underway (words : List ℕ) (rule : Rule) (sizes : List ℕ) (r : Rea
   pub plain : (c : ℕ) → c < product sizes → getD marks c 0 ≤ 1
   pub still : (c : ℕ) → c < product sizes → getD marks c 0 ≡ 0 → cell-of (rule .fields) scratch c ≡ cell-of (rule .fields) grid c
   pub all-marked : all-open ≡ true → marks ≡ marks-of every-cell (product sizes)
-  pub going : (p : Program) (runs : Runs words rule r all-open p) → (is-open : ℕ → Bool) × (marks ≡ marks-of is-open (product sizes))
-      × Going (running p sizes) (running-lawful p sizes (runs .flagged)) steps start grid₀ is-open done count grid
+  pub going : (p : Program) (runs : Runs words rule r all-open p) → (pending : ℕ → Bool) × (marks ≡ marks-of (open-in (running p sizes) pending grid grid) (product sizes))
+      × Going (running p sizes) no-blocks every-cell steps start grid₀ pending done count grid
 
 -- the report that a run gives, with the grid that it leaves
 abbrev pub told : Report → List ℤ → report.Report
@@ -67,9 +67,8 @@ told r grid = record { number = r .number; place = r .place; cell = r .cell; ste
 -- the report that n steps give, of which each evaluates the open cells
 abbrev pub steps-report : Program → List ℕ → ℕ → ℕ → List ℤ → report.Report
 steps-report p sizes n t g =
-    let M = running p sizes in
-    let run = run-of M n t g in
-    ended (run .fault) (run .steps) (open-count M every-cell n t g) (run .grid)
+    let q = quiet-run (running p sizes) no-blocks every-cell n t g in
+    ended (q .run .fault) (q .run .steps) (q .count) (q .run .grid)
 
 pub record Ran (words : List ℕ) (rule : Rule) (sizes : List ℕ) (r : Reach) (all-open : Bool) (start steps : ℕ) (grid : List ℤ) (said : Report) (grid′ : List ℤ) : Type 0 where
   pub says : (p : Program) → Runs words rule r all-open p → told said grid′ ≡ steps-report p sizes steps start grid

@@ -1,5 +1,5 @@
 -- What constants, ranges and constant declarations keep.
-use Prim.Native.Nat.{ℕ, suc, _+_, _-_, _*_, _≤_, _<_}
+use Prim.Native.Nat.{ℕ, zero, suc, _+_, _-_, _*_, _≤_, _<_}
 use native.Mathlib.Nat.{le-refl}
 use native.Mathlib.Omega.{arith}
 use mathlib.Core.Path.{_≡_, refl, sym, _∙_, subst, subst₂}
@@ -9,11 +9,11 @@ use mathlib.Core.List.{List}
 use lib.Dec.{eqb, leb, ltb}
 use lib.IntN.{ℤ, pos, negsuc, negℤ, _-ℤ_}
 use lib.ListN.{length}
-use borrow.Author.Tests.{ltb-true, ltb-false, leb-true, leb-false, le-leb, eqb-true, not-false}
+use borrow.Author.Tests.{lt-ltb, ltb-true, ltb-false, leb-true, leb-false, le-leb, eqb-true, not-false}
 use Rattle.value.specs.Choice.{if_then_else_}
 use Rattle.value.specs.Number.{in-range, within}
 use Rattle.value.specs.Worked.{decode-of, encode-of, span-of}
-use Rattle.value.specs.Laws.{and-both, sub-lt}
+use Rattle.value.specs.Laws.{and-both, decode-encode}
 use Rattle.token.specs.Kind.{kind}
 use Rattle.names.specs.declared.Entry.{Entry}
 use Rattle.names.specs.Names.{name-kind, is, entry-at, most-names}
@@ -22,7 +22,7 @@ use Rattle.program.specs.Table.{word-at}
 use Rattle.grammar.specs.Reader.{Input, State, Reader, _>>=_, _>>_, return, unit, is-kind, again, done, turns, token-of, position, advance, put, is-name, entry-in, fresh, reference, use-name}
 use Rattle.grammar.specs.Constants.{is-sign, named-constant, read-constant, negated, read-signed, read-range, value-turn, read-values, read-size, array-head, array-constant, simple-constant, constant-value, read-declaration, constants-turn, read-constants}
 use Rattle.linking.specs.Steps.{advanced, written, Gives, gave, refused, refused-last, bind, regroup, given-as, choose, at-position, at-token, at-state, at-entry, over, wrote, wrote-both, wrote-last, noted-it, named-it, by-found, expected, opened, Turned, repeated}
-use Rattle.linking.specs.Runs.{word-put, both-2, both-3, tokens, head-at, Text, Sound, Run, stay, join, go-on, write-first, write-plain}
+use Rattle.linking.specs.Runs.{word-put, both-2, both-3, tokens, head-at, Text, Signable, Sound, Run, stay, join, go-on, write-first, write-plain}
 use Rattle.linking.specs.Naming.{token-value, of-kind, head-is, name-it, still-noted, note-it, found-name}
 
 -- ---- tests
@@ -52,17 +52,25 @@ pub is-name-inside : {input : Input} {text : List ℕ} {s : State} → Sound inp
 unfolding is-name
 is-name-inside x i q = of-kinds x i (kind .name) (kind .cell) (kind .time) (omega arith) (omega arith) (omega arith) q
 
--- what a word stands for is in range
-pub decoded-range : (w : ℕ) → w < 4294967296 → in-range (decode-of w) ≡ true
-decoded-range w l = by (ltb w 2147483648) refl
-  where
-    by : (b : Bool) → ltb w 2147483648 ≡ b → in-range (cond b (pos w) (pos w -ℤ pos 4294967296)) ≡ true
-    by true q = le-leb w 2147483647 (omega (arith, ltb-true w 2147483648 q))
-    by false q = let h = ltb-false w 2147483648 q in rw (sub-lt w 4294967296 l) (simp (le-leb (4294967296 - suc w) 2147483647 (omega arith)))
+-- a literal is a number without sign
+literal-signable : (w : ℕ) → w < 2147483648 → Signable (decode-of w)
+literal-signable w l = rw (lt-ltb w 2147483648 l) (omega arith)
 
-pub encoded-small : (z : ℤ) → encode-of z < 4294967296
-encoded-small (pos n) = omega arith
-encoded-small (negsuc n) = omega arith
+negative-signable : (z : ℤ) → Signable z → Signable (negℤ z)
+negative-signable (pos zero) l = omega arith
+negative-signable (pos (suc n)) l = l
+negative-signable (negsuc n) l = l
+
+-- the word of such a number stands for it
+signable-range : (z : ℤ) → Signable z → in-range z ≡ true
+signable-range (pos n) l = le-leb n 2147483647 l
+signable-range (negsuc n) l = simp (le-leb n 2147483647 (omega arith))
+
+pub signable-decoded : (z : ℤ) → Signable z → decode-of (encode-of z) ≡ z
+signable-decoded z l = decode-encode z (signable-range z l)
+
+encoded-signable : (z : ℤ) → Signable z → Signable (decode-of (encode-of z))
+encoded-signable z l = subst Signable (sym (signable-decoded z l)) l
 
 -- ---- some tokens with no declaration among them
 
@@ -100,12 +108,12 @@ use-piece {s = s} x l slot =
 -- ---- constants and ranges
 
 module _ {input : Input} {text : List ℕ} (T : Text input text) where
-  -- a number is read, which is in range: a token, and a sign before it
+  -- a number is read, which is a literal with at most one sign: a token, and a sign before it
   abbrev pub Constant : State → ℤ → State → Type 0
-  Constant s z t = Piece input text s t × (in-range z ≡ true) × (t .at ≡ s .at + 1)
+  Constant s z t = Piece input text s t × Signable z × (t .at ≡ s .at + 1)
 
   abbrev pub Signed : State → ℤ → State → Type 0
-  Signed s z t = Piece input text s t × (in-range z ≡ true) × (t .at ≡ (if is-sign (token-of input s (s .at)) then s .at + 2 else s .at + 1))
+  Signed s z t = Piece input text s t × Signable z × (t .at ≡ (if is-sign (token-of input s (s .at)) then s .at + 2 else s .at + 1))
 
   pub constant-gives : {s : State} → Sound input text s → Gives input read-constant s (Constant s)
   unfolding read-constant named-constant
@@ -119,14 +127,14 @@ module _ {input : Input} {text : List ℕ} (T : Text input text) where
       literal q =
           let l = of-kind x (s .at) (kind .literal) (omega arith) q in
           let e : token-of input s (s .at) .value ≡ word-at text (s .at) 2 = token-value x (s .at) l ∙ x .ahead (4 * s .at + 2) (omega arith) in
-          over (gave _ (one-token x l, decoded-range (token-of input s (s .at) .value) (omega (arith, T .values (s .at))), refl))
+          over (gave _ (one-token x l, literal-signable (token-of input s (s .at) .value) (omega (arith, T .values (s .at))), refl))
 
       constant : s .at < tokens input → (slot : ℕ) → slot < s .count → eqb (entry-at (s .names) slot .kind) (name-kind .constant) ≡ true → Gives input (use-name slot >> return (decode-of (entry-at (s .names) slot .word))) s (Constant s)
-      constant l slot m c = used-it slot _ (gave _ (use-piece x l slot, decoded-range _ (x .entries slot m .small (eqb-true _ _ c)), refl))
+      constant l slot m c = used-it slot _ (gave _ (use-piece x l slot, x .entries slot m .small (eqb-true _ _ c), refl))
 
-  negated-gives : {s t : State} (z : ℤ) → Piece input text s t → t .at ≡ (if is-sign (token-of input s (s .at)) then s .at + 2 else s .at + 1) → Gives input (negated z) t (Signed s)
+  negated-gives : {s t : State} (z : ℤ) → Signable z → Piece input text s t → t .at ≡ (if is-sign (token-of input s (s .at)) then s .at + 2 else s .at + 1) → Gives input (negated z) t (Signed s)
   unfolding negated
-  negated-gives z p n = choose (in-range (negℤ z)) (λ q. gave (negℤ z) (p, q, n)) (λ _. refused-last 11)
+  negated-gives z small p n = choose (in-range (negℤ z)) (λ q. gave (negℤ z) (p, negative-signable z small, n)) (λ _. refused-last 11)
 
   pub signed-gives : {s : State} → Sound input text s → Gives input read-signed s (Signed s)
   unfolding read-signed is-sign
@@ -135,7 +143,7 @@ module _ {input : Input} {text : List ℕ} (T : Text input text) where
       (choose _
       (λ q.
       let p = one-token x (of-kind x (s .at) (kind .minus) (omega arith) q) in
-      regroup _ _ _ (over (bind (constant-gives (p .run .sound)) (λ z t h. negated-gives z (join-pieces p (h .0)) (rw (q, or-true (eqb (token-of input s (s .at) .kind) (kind .plus))) (omega (arith, h .2)))))))
+      regroup _ _ _ (over (bind (constant-gives (p .run .sound)) (λ z t h. negated-gives z (h .1) (join-pieces p (h .0)) (rw (q, or-true (eqb (token-of input s (s .at) .kind) (kind .plus))) (omega (arith, h .2)))))))
       (λ q.
       choose _
       (λ q₁.
@@ -143,11 +151,11 @@ module _ {input : Input} {text : List ℕ} (T : Text input text) where
       over (given-as (constant-gives (p .run .sound)) (λ z t h. (join-pieces p (h .0), h .1, rw q₁ (omega (arith, h .2))))))
       (λ q₁. given-as (constant-gives x) (λ z t h. (h .0, h .1, rw (q₁, q) (h .2))))))
 
-  -- a range is read, whose bounds are in range
+  -- a range is read, whose bounds are literals with at most one sign
   pub record Ranged (most : ℕ) (s : State) (r : Range) (t : State) : Type 0 where
     pub piece : Piece input text s t
-    pub low-in : in-range (r .low) ≡ true
-    pub high-in : in-range (r .high) ≡ true
+    pub low-in : Signable (r .low)
+    pub high-in : Signable (r .high)
     pub few : span-of (r .low) (r .high) ≤ most
 
   pub range-gives : (most : ℕ) {s : State} → Sound input text s → Gives input (read-range most) s (Ranged most s)
@@ -255,7 +263,7 @@ module _ {input : Input} {text : List ℕ} (T : Text input text) where
         (λ z t h.
         let p₂ = join-pieces p₁ (h .0) in
         named-it i (name-kind .constant) (encode-of z) _
-        (gave unit (name-it (p₂ .run) i (name-kind .constant) (encode-of z) i-in a-name (omega (arith, p₂ .same)) (omega arith) (omega arith) (λ _. encoded-small z) (λ q. absurd (omega arith)), p₂ .far))))
+        (gave unit (name-it (p₂ .run) i (name-kind .constant) (encode-of z) i-in a-name (omega (arith, p₂ .same)) (omega arith) (omega arith) (λ _. encoded-signable z (h .1)) (λ q. absurd (omega arith)), p₂ .far))))
 
     value-gives : (room : Bool) {s : State} → Piece input text s₀ s → i < s .at → Gives input (constant-value room i) s (λ _ t. Run input text s₀ t × (s₀ .at < t .at))
     unfolding constant-value

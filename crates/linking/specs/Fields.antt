@@ -12,7 +12,7 @@ use lib.ListN.{length, length-append}
 use borrow.Author.Tests.{eqb-true, eqb-false, not-true}
 use Rattle.value.specs.Choice.{if_then_else_}
 use Rattle.value.specs.Worked.{decode-of, encode-of}
-use Rattle.value.specs.Laws.{decode-encode, and-both}
+use Rattle.value.specs.Laws.{and-both}
 use Rattle.token.specs.Kind.{kind}
 use Rattle.names.specs.declared.Entry.{Entry}
 use Rattle.names.specs.Names.{name-kind, is, entry-at, letters}
@@ -25,7 +25,7 @@ use Rattle.semantics.specs.Stands.{Table, table-of, word-in, linked, index-in, 
 use Rattle.linking.specs.Steps.{advanced, written, Gives, gave, refused, bind, regroup, given-as, choose, at-position, at-token, at-entry, over, wrote, wrote-both, by-found, expected, forbidden, opened, Turned, repeated}
 use Rattle.linking.specs.Runs.{tokens, head-at, span-at, Text, Entered, Sound, Run, stay, join, go-on, write-first, word-put, both-2, both-3}
 use Rattle.linking.specs.Naming.{of-kind, head-is, token-start, token-len, Found, found-name}
-use Rattle.linking.specs.Constants.{is-name-inside, either, Piece, write-piece, used, used-it, use-piece, signed-gives}
+use Rattle.linking.specs.Constants.{is-name-inside, signable-decoded, either, Piece, write-piece, used, used-it, use-piece, signed-gives}
 use Rattle.linking.specs.Tables.{View, Claim, first-part, second-part, inner-part, unwritten, view-word, view-kind, view-place, link-to}
 use Rattle.linking.specs.Adding.{plain-kind, plain-by, plain-of, Adds, adds-none, adds-both, adds-plain}
 use Rattle.linking.specs.Decoding.{Primary, primary-index, primary-own}
@@ -145,7 +145,7 @@ module _ {input : Input} {text : List ℕ} (T : Text input text) where
               let l : s .at < tokens input = omega (arith, h .0 .far, h .0 .run .sound .within) in
               let k : eqb (word-in wf (tokens input) 0 (s .at)) (kind .name) ≡ false = ap (λ (y : ℕ). eqb y (kind .name)) (view-kind v x (s .at)) ∙ neither (eqb (token-of input s (s .at) .kind) (kind .name)) _ _ q in
               let w : word-in wf (tokens input) 3 (s .at) ≡ encode-of z = view-word v (h .0 .run .sound .within) (s .at) 3 (le-refl _) (h .0 .far) (omega arith) ∙ word-put (t .words) (s .at) 3 (encode-of z) (inside-words (h .0 .run .sound) (s .at) 3 (h .0 .far) (omega arith)) in
-              rw k (ap₂ (λ (a : ℕ) (b : ℤ). fixed a b) (view-place v x (s .at) l) (ap decode-of w ∙ decode-encode z (h .1)));
+              rw k (ap₂ (λ (a : ℕ) (b : ℤ). fixed a b) (view-place v x (s .at) l) (ap decode-of w ∙ signable-decoded z (h .1)));
           next = λ wf v. rw (view-kind v x (s .at)) (sizes (eqb (token-of input s (s .at) .kind) (kind .plus) || eqb (token-of input s (s .at) .kind) (kind .minus)) (h .2));
         }))))
       where

@@ -26,7 +26,7 @@ use Rattle.grammar.specs.Source.{Declared, read-cell, most-open, input-of, star
 use Rattle.semantics.specs.Stands.{table-of, word-in, ranges-in, Stands}
 use Rattle.semantics.specs.Written.{written-in-block}
 use Rattle.semantics.specs.Listing.{Writes}
-use Rattle.linking.specs.Runs.{tokens, head-at, span-at, Text, Sound, Run}
+use Rattle.linking.specs.Runs.{tokens, head-at, span-at, Text, Signable, Sound, Run}
 use Rattle.linking.specs.Constants.{constants-gives}
 use Rattle.linking.specs.Naming.{token-kind, kind-at}
 use Rattle.linking.specs.Tables.{word-inside, known-left, View}
@@ -104,11 +104,11 @@ module _ (source : List ℕ) (short : length source ≤ 65535) where
   len-of i l = let s = at i l .span in let f = at i l .fit .inside in omega arith
 
   -- words 2 of all tokens, and of what lies behind
-  value-of : (i : ℕ) → (word-at (scanned-words (scan source)) i 2 < 4294967296) × (head-at (scanned-words (scan source)) i ≡ kind .assign → word-at (scanned-words (scan source)) i 2 ≡ 0)
+  value-of : (i : ℕ) → (word-at (scanned-words (scan source)) i 2 < 2147483648) × (head-at (scanned-words (scan source)) i ≡ kind .assign → word-at (scanned-words (scan source)) i 2 ≡ 0)
   unfolding scanned-words
   value-of i = by (ltb i (tokens (input-of source))) refl
     where
-      by : (b : Bool) → ltb i (tokens (input-of source)) ≡ b → (word-at (scanned-words (scan source)) i 2 < 4294967296) × (head-at (scanned-words (scan source)) i ≡ kind .assign → word-at (scanned-words (scan source)) i 2 ≡ 0)
+      by : (b : Bool) → ltb i (tokens (input-of source)) ≡ b → (word-at (scanned-words (scan source)) i 2 < 2147483648) × (head-at (scanned-words (scan source)) i ≡ kind .assign → word-at (scanned-words (scan source)) i 2 ≡ 0)
       by true q =
           let t = at i (ltb-true i (tokens (input-of source)) q) in
           (omega (arith, t .fit .small, t .value), λ e. t .value ∙ t .fit .plain (sym (t .head) ∙ e))
@@ -179,6 +179,8 @@ pub record Linked (source : List ℕ) (s₁ s₂ s₃ : State) (d : Declared) (b
   -- the ranges of the fields stand from the `of` behind `dimensions` on, two tokens behind the constants
   pub fields : d .fields ≡ ranges-in (table-of (s₃ .words) (tokens (input-of source)) (d .cell .dims)) (s₁ .at + 2) (length (d .fields))
   pub fields-inside : s₁ .at + 2 + length (d .fields) < s₂ .at
+  -- their ends are literals with at most one sign
+  pub ends : (k : ℕ) → k < length (d .fields) → Signable (getD (d .fields) k no-range .low) × Signable (getD (d .fields) k no-range .high)
   pub some-dims : 0 < d .cell .dims
   pub few-dims : d .cell .dims ≤ 3
   pub some-fields : 0 < length (d .fields)
@@ -207,6 +209,7 @@ linking source short s₁ s₂ s₃ d b p q r stop clear =
       proper = whole .2;
       fields = ext-getD no-range (d .fields) _ (sym (length-list-of _ (length (d .fields)))) (λ k l. sym (field k l));
       fields-inside = cell .long;
+      ends = cell .ends;
       some-dims = cell .some-dims;
       few-dims = cell .few-dims;
       some-fields = cell .some-fields;

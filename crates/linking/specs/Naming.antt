@@ -12,6 +12,7 @@ use lib.Seq.{getD-set-other}
 use borrow.Author.Tests.{ltb-true, lt-ltb, eqb-true, eqb-false}
 use Rattle.value.specs.Choice.{if_then_else_}
 use Rattle.value.specs.Laws.{and-both}
+use Rattle.value.specs.Worked.{decode-of}
 use Rattle.token.specs.Kind.{kind}
 use Rattle.token.specs.Bytes.{same}
 use Rattle.token.specs.Scanning.{token-in, token-at, stop-of}
@@ -21,7 +22,7 @@ use Rattle.program.specs.Table.{word-at}
 use Rattle.grammar.specs.Complaint.{Complaint, complaint, before, first-of}
 use Rattle.grammar.specs.Reader.{Input, State, token-of}
 use Rattle.linking.specs.Steps.{named, revalued, noting}
-use Rattle.linking.specs.Runs.{tokens, head-at, span-at, Entered, Sound, Run, entered-kept, entry-kept, value-kept, entry-new}
+use Rattle.linking.specs.Runs.{tokens, head-at, span-at, Signable, Entered, Sound, Run, entered-kept, entry-kept, value-kept, entry-new}
 
 -- ---- the tokens
 
@@ -70,7 +71,7 @@ module _ {input : Input} {text : List ℕ} {s : State} (x : Sound input text s) 
 -- ---- declarations
 
 module _ {input : Input} {text : List ℕ} {s t : State} (r : Run input text s t) where
-  pub name-it : (i k v : ℕ) → i < tokens input → head-at text i ≡ kind .name → t .count < 256 → 0 < k → k < 7 → (k ≡ name-kind .constant → v < 4294967296)
+  pub name-it : (i k v : ℕ) → i < tokens input → head-at text i ≡ kind .name → t .count < 256 → 0 < k → k < 7 → (k ≡ name-kind .constant → Signable (decode-of v))
       → (k ≡ name-kind .array → (s .at < v) × (v < t .at) × (s .at < word-at (t .words) v 3) × (t .noted .number ≡ 0 → word-at (t .words) v 3 + word-at (t .words) v 2 ≤ t .at)) → Run input text s (named input t i k v)
   name-it i k v l name room k₀ k₇ small array =
       record {

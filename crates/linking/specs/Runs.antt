@@ -10,6 +10,8 @@ use lib.Dec.{ltb}
 use lib.ListN.{length, getD, set, length-set}
 use lib.Seq.{getD-set-same, getD-set-other}
 use borrow.Author.Tests.{ltb-true, ltb-false}
+use lib.IntN.{ℤ, natAbs}
+use Rattle.value.specs.Worked.{decode-of}
 use Rattle.token.specs.Kind.{kind}
 use Rattle.token.specs.Bytes.{same}
 use Rattle.names.specs.declared.Entry.{Entry}
@@ -37,7 +39,7 @@ pub record Text (input : Input) (text : List ℕ) : Type 0 where
   pub few : tokens input ≤ 4096
   pub size : length text ≡ 16384
   -- a literal's value is a word, and a `:=` has none
-  pub values : (i : ℕ) → word-at text i 2 < 4294967296
+  pub values : (i : ℕ) → word-at text i 2 < 2147483648
   pub clean : (i : ℕ) → head-at text i ≡ kind .assign → word-at text i 2 ≡ 0
   -- no token has a word 3
   pub unlinked : (i : ℕ) → word-at text i 3 ≡ 0
@@ -47,12 +49,16 @@ pub record Text (input : Input) (text : List ℕ) : Type 0 where
 
 -- ---- a state that reading can be in
 
+-- a number that is a literal with at most one sign
+abbrev pub Signable : ℤ → Type 0
+Signable z = natAbs z ≤ 2147483647
+
 -- an entry of the name list: of a name's token; an array constant's declaration lies before the position, and if no complaint is noted
 -- its list too
 pub record Entered (input : Input) (text words : List ℕ) (at noted : ℕ) (e : Entry) : Type 0 where
   pub some-kind : 0 < e .kind
   pub a-kind : e .kind < 7
-  pub small : e .kind ≡ name-kind .constant → e .word < 4294967296
+  pub small : e .kind ≡ name-kind .constant → Signable (decode-of (e .word))
   pub before : e .kind ≡ name-kind .array → e .word < at
   pub listed : noted ≡ 0 → e .kind ≡ name-kind .array → word-at words (e .word) 3 + word-at words (e .word) 2 ≤ at
   pub token : ℕ

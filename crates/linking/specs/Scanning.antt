@@ -64,7 +64,7 @@ unfoldable pub wordlike : ℕ → Bool
 wordlike k = eqb k (kind .name) || eqb k (kind .cell) || eqb k (kind .time)
 
 record Lex (s : List ℕ) (w : Lexeme) : Type 0 where
-  pub small : w .value < 4294967296
+  pub small : w .value < 2147483648
   pub plain : w .kind ≡ kind .assign → w .value ≡ 0
   pub told : w .kind ≡ kind .stop → w .value ≡ 0 → ⊥
   pub spelled : wordlike (w .kind) ≡ true → w .kind ≡ find-kind (map fold (take (w .len) s)) keywords (kind .name)
@@ -82,7 +82,7 @@ word-lex s n l =
     }
 
 -- a token that is no word, and whose value is small
-other-lex : (s : List ℕ) (k n v : ℕ) → v < 4294967296 → (k ≡ kind .assign → v ≡ 0) → (k ≡ kind .stop → v ≡ 0 → ⊥) → wordlike k ≡ false → Lex s (lexeme-of k n v)
+other-lex : (s : List ℕ) (k n v : ℕ) → v < 2147483648 → (k ≡ kind .assign → v ≡ 0) → (k ≡ kind .stop → v ≡ 0 → ⊥) → wordlike k ≡ false → Lex s (lexeme-of k n v)
 other-lex s k n v a b c d = record { small = a; plain = b; told = c; spelled = λ e. never (sym d ∙ e); within = λ e. never (sym d ∙ e) }
 
 digits-lex : (s : List ℕ) (n : ℕ) → Lex s (digits s n)
@@ -132,7 +132,7 @@ token-lex b bs = by (eqb (kind-of b) (byte-kind .letter)) (eqb (kind-of b) (byte
 
 pub record Fit (source : List ℕ) (t : Token) : Type 0 where
   pub going : t .kind ≡ kind .stop → ⊥
-  pub small : t .value < 4294967296
+  pub small : t .value < 2147483648
   pub plain : t .kind ≡ kind .assign → t .value ≡ 0
   pub inside : t .start < length source
   pub spelled : wordlike (t .kind) ≡ true → t .kind ≡ find-kind (letters source (t .start) (t .len)) keywords (kind .name)

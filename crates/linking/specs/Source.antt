@@ -10,9 +10,9 @@ use lib.ListN.{length, getD, replicate, length-append, length-replicate, length-
 use lib.Seq.{getD-append-add}
 use borrow.Author.Tests.{eqb-true, eqb-false, leb-true, leb-false, ltb-true, ltb-false}
 use Rattle.value.specs.Choice.{if_then_else_}
-use Rattle.value.specs.Number.{within, in-range}
+use Rattle.value.specs.Number.{within}
 use Rattle.value.specs.Worked.{decode-of, encode-of}
-use Rattle.value.specs.Laws.{never, and-both, decode-encode}
+use Rattle.value.specs.Laws.{never, and-both}
 use Rattle.token.specs.Kind.{kind}
 use Rattle.names.specs.declared.Entry.{Entry}
 use Rattle.names.specs.Names.{name-kind, entry-at}
@@ -21,9 +21,9 @@ use Rattle.program.specs.Table.{word-at, with-word, with-range, range-at}
 use Rattle.grammar.specs.Reader.{Input, State, again, done, turns, token-of, is-kind, repeat, return}
 use Rattle.grammar.specs.Source.{field-turn, with-ranges, put-ranges, read-group, group-turn, read-dims, is-unnamed, Declared, declared, read-fields, read-cell}
 use Rattle.linking.specs.Steps.{advanced, written, named, Gives, gave, refused-last, bind, made, choose, at-position, at-token, at-token-after, over, named-it, expected, forbidden, Turned, repeated}
-use Rattle.linking.specs.Runs.{word-other, both-2, both-3, tokens, head-at, Text, Sound, Run, stay, join, go-on, write, entry-new, entry-kept}
+use Rattle.linking.specs.Runs.{word-other, both-2, both-3, tokens, head-at, Text, Signable, Sound, Run, stay, join, go-on, write, entry-new, entry-kept}
 use Rattle.linking.specs.Naming.{of-kind, name-it}
-use Rattle.linking.specs.Constants.{Piece, one-token, constant-gives, range-gives, fresh-it}
+use Rattle.linking.specs.Constants.{Piece, one-token, signable-decoded, constant-gives, range-gives, fresh-it}
 
 -- the number of dimensions
 some-dimensions : (z : ℤ) → within (pos 1) (pos 3) z ≡ true → (0 < encode-of z) × (encode-of z ≤ 3)
@@ -133,6 +133,7 @@ module _ {input : Input} {text : List ℕ} (T : Text input text) where
     pub long : s₀ .at + length got < s .at
     pub most : length got ≤ 8
     pub ranges : (k : ℕ) → k < length got → range-at (s .words) (s₀ .at + k) ≡ getD got k no-range
+    pub ends : (k : ℕ) → k < length got → Signable (getD got k no-range .low) × Signable (getD got k no-range .high)
 
   -- n field names are read
   record Names (s₀ : State) (n : ℕ) (s : State) : Type 0 where
@@ -175,7 +176,7 @@ module _ {input : Input} {text : List ℕ} (T : Text input text) where
   put-ranges-it {s} base got n r h = record { is = gave {input = input} (got ++ replicate n r) h .is }
 
   -- n more ranges
-  more-ranges : {s₀ : State} → Sound input text s₀ → {got : List Range} {s t : State} → Fields s₀ got s → Run input text s t → Bare s₀ t → (n : ℕ) (r : Range) → in-range (r .low) ≡ true → in-range (r .high) ≡ true → s₀ .at + length got + n < t .at → length got + n ≤ 8
+  more-ranges : {s₀ : State} → Sound input text s₀ → {got : List Range} {s t : State} → Fields s₀ got s → Run input text s t → Bare s₀ t → (n : ℕ) (r : Range) → Signable (r .low) → Signable (r .high) → s₀ .at + length got + n < t .at → length got + n ≤ 8
       → Fields s₀ (got ++ replicate n r) (ranged t (s₀ .at + length got) n r)
   more-ranges {s₀} x {got} {s} {t} f run b n r low high l eight =
       record {
@@ -183,8 +184,20 @@ module _ {input : Input} {text : List ℕ} (T : Text input text) where
         long = omega (arith, length-append got (replicate n r), length-replicate n r);
         most = omega (arith, length-append got (replicate n r), length-replicate n r);
         ranges = λ k m. by k (ltb k (length got)) refl (omega (arith, m, length-append got (replicate n r), length-replicate n r));
+        ends = λ k m. end k (ltb k (length got)) refl (omega (arith, m, length-append got (replicate n r), length-replicate n r));
       }
     where
+      end : (k : ℕ) (c : Bool) → ltb k (length got) ≡ c → k < length got + n → Signable (getD (got ++ replicate n r) k no-range .low) × Signable (getD (got ++ replicate n r) k no-range .high)
+      end k true q m =
+          let o = ltb-true k (length got) q in
+          subst (λ (x : Range). Signable (x .low) × Signable (x .high)) (sym (List·getD-append got (replicate n r) no-range k o)) (f .ends k o)
+      end k false q m =
+          let o = ltb-false k (length got) q in
+          let j = k - length got in
+          let e′ : length got + j ≡ k = omega arith in
+          subst (λ (x : Range). Signable (x .low) × Signable (x .high))
+          (sym (ap (λ (z : ℕ). getD (got ++ replicate n r) z no-range) (sym e′) ∙ getD-append-add got (replicate n r) j no-range ∙ getD-replicate n j r no-range (omega arith))) (low, high)
+
       by : (k : ℕ) (c : Bool) → ltb k (length got) ≡ c → k < length got + n → range-at (with-ranges (t .words) (s₀ .at + length got) n r) (s₀ .at + k) ≡ getD (got ++ replicate n r) k no-range
       by k true q m =
           let o = ltb-true k (length got) q in
@@ -195,7 +208,7 @@ module _ {input : Input} {text : List ℕ} (T : Text input text) where
           let e : s₀ .at + k ≡ s₀ .at + length got + j = omega arith in
           let e′ : length got + j ≡ k = omega arith in
           ap (range-at (with-ranges (t .words) (s₀ .at + length got) n r)) e
-          ∙ ranged-at (t .words) (s₀ .at + length got) n r (decode-encode (r .low) low) (decode-encode (r .high) high) (omega (arith, b .run .sound .size, b .run .sound .within, T .few)) j (omega arith)
+          ∙ ranged-at (t .words) (s₀ .at + length got) n r (signable-decoded (r .low) low) (signable-decoded (r .high) high) (omega (arith, b .run .sound .size, b .run .sound .within, T .few)) j (omega arith)
           ∙ sym (ap (λ (z : ℕ). getD (got ++ replicate n r) z no-range) (sym e′) ∙ getD-append-add got (replicate n r) j no-range ∙ getD-replicate n j r no-range (omega arith))
 
   group-gives : {s₀ : State} → Sound input text s₀ → (got : List Range) (k : ℕ) → 2 < k → k < 7 → {s t : State} → Fields s₀ got s → Run input text s t → Bare s₀ t → Gives input (read-group (s₀ .at) got k) t (Fields s₀)
@@ -220,7 +233,7 @@ module _ {input : Input} {text : List ℕ} (T : Text input text) where
           (λ q.
           let both = and-both (is-kind (token-of input s (s .at)) (kind .end-word)) (ltb 0 (length got)) q in
           let p = one-token y (of-kind y (s .at) (kind .end-word) (omega arith) (both .0)) in
-          over (gave (done got) (record { bare = bare-piece (f .bare) p; long = omega (arith, f .long); most = f .most; ranges = f .ranges }, ltb-true 0 (length got) (both .1))))
+          over (gave (done got) (record { bare = bare-piece (f .bare) p; long = omega (arith, f .long); most = f .most; ranges = f .ranges; ends = f .ends }, ltb-true 0 (length got) (both .1))))
           (λ _.
           choose (is-kind (token-of input s (s .at)) (kind .const-word))
           (λ q.
@@ -237,6 +250,7 @@ module _ {input : Input} {text : List ℕ} (T : Text input text) where
     pub few-fields : length (d .fields) ≤ 8
     pub long : s .at + 2 + length (d .fields) < t .at
     pub ranges : (k : ℕ) → k < length (d .fields) → range-at (t .words) (s .at + 2 + k) ≡ getD (d .fields) k no-range
+    pub ends : (k : ℕ) → k < length (d .fields) → Signable (getD (d .fields) k no-range .low) × Signable (getD (d .fields) k no-range .high)
 
   pub cell-gives : {s : State} → Sound input text s → Gives input read-cell s (CellRead s)
   unfolding read-cell read-dims read-fields
@@ -252,7 +266,7 @@ module _ {input : Input} {text : List ℕ} (T : Text input text) where
       (λ q₁.
       let p = one-token (r₁ .sound) (of-kind (r₁ .sound) (s₀ .at) (kind .of-word) (omega arith) q₁) in
       let b : Bare s₀ (advanced s₀) = record { run = p .run; none = λ slot l m k. absurd (omega arith) } in
-      let f : Fields s₀ [] (advanced s₀) = record { bare = b; long = omega arith; most = omega arith; ranges = λ k l. absurd (omega arith) } in
+      let f : Fields s₀ [] (advanced s₀) = record { bare = b; long = omega arith; most = omega arith; ranges = λ k l. absurd (omega arith); ends = λ k l. absurd (omega arith) } in
       at-token _
       (at-token-after _
       (choose (is-unnamed (token-of input (advanced s₀) (t .at + 1 + 1)) (token-of input (advanced s₀) (t .at + 1 + 1 + 1)))
@@ -272,4 +286,5 @@ module _ {input : Input} {text : List ℕ} (T : Text input text) where
             few-fields = f .most;
             long = omega (arith, f .long);
             ranges = λ k m. let p : s .at + 2 + k ≡ t .at + 1 + k = omega arith in ap (range-at (u .words)) p ∙ f .ranges k m;
+            ends = f .ends;
           }

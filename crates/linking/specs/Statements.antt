@@ -9,7 +9,7 @@ use lib.Dec.{eqb, ltb}
 use lib.ListN.{length, length-append}
 use borrow.Author.Tests.{eqb-true, ne-eqb}
 use Rattle.value.specs.Worked.{decode-of, encode-of}
-use Rattle.value.specs.Laws.{decode-encode, and-both}
+use Rattle.value.specs.Laws.{and-both}
 use Rattle.token.specs.Kind.{kind}
 use Rattle.names.specs.declared.Entry.{Entry}
 use Rattle.names.specs.Names.{name-kind}
@@ -22,7 +22,7 @@ use Rattle.semantics.specs.Written.{written-in-block}
 use Rattle.linking.specs.Steps.{advanced, written, named, revalued, Gives, gave, refused, bind, made, given-as, choose, at-position, at-token, over, wrote, wrote-both, named-it, revalued-it, expected, opened, Turned, repeated}
 use Rattle.linking.specs.Runs.{tokens, head-at, Text, Sound, Run, stay, join, go-on, write-first, word-put, both-2, both-3, entry-new}
 use Rattle.linking.specs.Naming.{of-kind, name-it, revalue-it}
-use Rattle.linking.specs.Constants.{Piece, one-token, join-pieces, past-token, write-piece, range-gives, fresh-it, Declares, declaration-gives}
+use Rattle.linking.specs.Constants.{signable-decoded, Piece, one-token, join-pieces, past-token, write-piece, range-gives, fresh-it, Declares, declaration-gives}
 use Rattle.linking.specs.Tables.{View, Claim, first-part, second-part, view-word, view-kind, link-to}
 use Rattle.linking.specs.Adding.{plain-kind, plain-of, Adds, all-of, adds-none, adds-both, then-none, adds-plain, adds-constant, adds-loop}
 use Rattle.linking.specs.Fields.{inside-words, first-past, first-inner, first-behind, write-both-first}
@@ -114,7 +114,7 @@ module _ {input : Input} {text : List ℕ} (T : Text input text) (cell : Cell) (
                 record {
                   room = deep-room has-room;
                   few = g .few;
-                  values = range-stands r f name-in a-name few₁ (decode-encode (r .low) (g .low-in)) (decode-encode (r .high) (g .high-in)) inner v₁;
+                  values = range-stands r f name-in a-name few₁ (signable-decoded (r .low) (g .low-in)) (signable-decoded (r .high) (g .high-in)) inner v₁;
                   part = subst (λ (i : ℕ). Stands tb (depth + 1) body i) (sym (first-inner T (cell .dims) x whole far (p .at) (t .at + 1) v (omega (arith, f .far)) (f .run .sound .within)))
                       (b .1 (other-kind (kind .end-word) (kind .exit-word) n (λ e. omega arith)) wf (second-part (first .sound) (first-part v₁ last) (open-run r f name-in a-name few₁) (b .0)));
                 },
@@ -133,7 +133,7 @@ module _ {input : Input} {text : List ℕ} (T : Text input text) (cell : Cell) (
               (adds-plain tb more-loops (t .at) (plain-of (kind .end-word) (view-kind v (b .0 .sound) (t .at) ∙ eqb-true _ _ n) refl))
               in
               adds-both tb loops
-              (adds-loop tb loops (s .at) (view-kind v x (s .at) ∙ eqb-true _ _ q) (omega (arith, deep, deep-room has-room)) (range-stands r f name-in a-name few₁ (decode-encode (r .low) (g .low-in)) (decode-encode (r .high) (g .high-in)) inner v₁) inner-is past-is far
+              (adds-loop tb loops (s .at) (view-kind v x (s .at) ∙ eqb-true _ _ q) (omega (arith, deep, deep-room has-room)) (range-stands r f name-in a-name few₁ (signable-decoded (r .low) (g .low-in)) (signable-decoded (r .high) (g .high-in)) inner v₁) inner-is past-is far
               (all-of tb more-loops part))
               more;
         }))))))))))))))

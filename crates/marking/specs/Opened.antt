@@ -1,11 +1,11 @@
 -- Which cells are open after a step, and what is asked before they are marked.
-use mathlib.Core.Path.{_≡_}
+use mathlib.Core.Path.{_≡_, refl}
 use mathlib.Core.Bool.{Bool, false}
 use mathlib.Core.List.{List}
 use Prim.Native.Nat.{ℕ, _*_, _<_, _≤_}
 use lib.ListN.{length, getD}
 use lib.IntN.{ℤ}
-use Rattle.automaton.specs.Step.{any-of, changed, open-after}
+use Rattle.automaton.specs.Step.{any-of, changed, touched}
 use Rattle.automaton.specs.Shape.{product, Bound, box-indices, reach-of}
 use Rattle.automaton.specs.ShapeLaws.{Positive}
 use Rattle.automaton.specs.Grid.{cell-of, differ, automaton}
@@ -35,8 +35,7 @@ pub record Ready (sizes : List ℕ) (reach : Reach) (fields : ℕ) (old grid : L
   -- no index is larger in size than its dimension
   pub near : Near sizes reach
 
--- These are the open cells of a program in whose source `time` does not stand.
-pub open-is : (p : Program) (sizes : List ℕ) (old grid : List ℤ) (c : ℕ) → p .timed ≡ false
-    → open-after (running p sizes) old grid c ≡ opened sizes (reach p) (length (p .fields)) old grid c
-unfolding running automaton open-after changed
-open-is p sizes old grid c e = rw e
+-- These are the cells that are pending after the step.
+pub pending-is : (p : Program) (sizes : List ℕ) (old grid : List ℤ) (c : ℕ) → touched (running p sizes) old grid c ≡ opened sizes (reach p) (length (p .fields)) old grid c
+unfolding running automaton touched changed
+pending-is p sizes old grid c = refl

@@ -12,9 +12,10 @@ use mir.Syntax.{w32, w64}
 use mir.Val.{Fits, SFits, toZ, ofZ}
 use mir.Facts.{toZ-ofZ}
 use borrow.Author.Tests.{eq-eqb, not-true, not-false}
-use Rattle.automaton.specs.Step.{Run, every-cell, run-of, open-count, full-count}
+use Rattle.automaton.specs.Step.{Quiet, Run, every-cell, no-blocks, run-of, open-count, full-count, quiet-run}
+use Rattle.automaton.specs.Quiet.{Lawful, quiet-agrees}
 use Rattle.automaton.specs.Grid.{automaton}
-use Rattle.automaton.specs.Going.{always-open, run-always, count-always}
+use Rattle.automaton.specs.Going.{always-open, full-run}
 use Rattle.program.specs.Syntax.{Program}
 use Rattle.grammar.specs.Checking.{rooms-fit, read-source}
 use Rattle.semantics.specs.declared.Rule.{Rule}
@@ -23,6 +24,7 @@ use Rattle.semantics.specs.Written.{written-in}
 use Rattle.stepper.specs.declared.Reach.{Reach}
 use Rattle.stepper.specs.Reach.{reach, running}
 use Rattle.stepper.specs.Admission.{Request, admission}
+use Rattle.stepper.specs.Locality.{running-lawful}
 use Rattle.stepper.specs.Report as report
 use Rattle.stepper.specs.Report.{Counting, full, ended, report-of, run}
 use Rattle.services.specs.Services.{run-begins, run-read, run-source, room-after}
@@ -54,13 +56,20 @@ running-always p sizes = refl
 
 -- the report of a run that began, by the count
 abbrev report-by : Program → List ℕ → ℕ → ℕ → List ℤ → ℕ → report.Report
-report-by p sizes n t g count = let r = run-of (running p sizes) n t g in ended (r .fault) (r .steps) count (r .grid)
+report-by p sizes n t g count = let r = run-of (running p sizes) no-blocks n t g in ended (r .fault) (r .steps) count (r .grid)
 
-steps-full : (p : Program) (sizes : List ℕ) (n t : ℕ) (g : List ℤ) → steps-report (always p) sizes n t g ≡ report-by p sizes n t g (full-count (running p sizes) n t g)
-steps-full p sizes n t g =
-    ap₂ (λ (r : Run (List ℤ)) (k : ℕ). ended (r .fault) (r .steps) k (r .grid))
-    (ap (λ (M : _). run-of M n t g) (running-always p sizes) ∙ run-always (running p sizes) n t g)
-    (ap (λ (M : _). open-count M every-cell n t g) (running-always p sizes) ∙ count-always (running p sizes) n t g)
+steps-full : (p : Program) (sizes : List ℕ) (n t : ℕ) (g : List ℤ) → Lawful (running p sizes)
+    → steps-report (always p) sizes n t g ≡ report-by p sizes n t g (full-count (running p sizes) no-blocks n t g)
+steps-full p sizes n t g laws =
+    let both = full-run (running p sizes) laws no-blocks n every-cell t g in
+    ap (λ (M : _). let q = quiet-run M no-blocks every-cell n t g in ended (q .run .fault) (q .run .steps) (q .count) (q .run .grid)) (running-always p sizes)
+    ∙ ap₂ (λ (r : Run (List ℤ)) (k : ℕ). ended (r .fault) (r .steps) k (r .grid)) (both .0) (both .1)
+
+steps-quiet : (p : Program) (sizes : List ℕ) (n t : ℕ) (g : List ℤ) → Lawful (running p sizes)
+    → steps-report p sizes n t g ≡ report-by p sizes n t g (open-count (running p sizes) no-blocks every-cell n t g)
+steps-quiet p sizes n t g laws =
+    let agree = quiet-agrees (running p sizes) laws no-blocks n t g in
+    ap₂ (λ (r : Run (List ℤ)) (k : ℕ). ended (r .fault) (r .steps) k (r .grid)) (agree .run) (agree .count)
 
 -- ---- the report
 
@@ -82,11 +91,14 @@ module _ {fit : Bool} {source sizes : List ℕ} {grid : List ℤ} {scratch marks
         times = b .times;
       }
 
+  laws : Lawful (running (b .read .program) sizes)
+  laws = running-lawful (b .read .program) sizes (b .shaped .dims ∙ sym (b .runs .holds .dims)) (b .runs .flagged)
+
   report-is : (q : Bool) → {said : Report} {grid′ : List ℤ} → Ran words rule sizes r (every-step q timed) (natAbs start) (natAbs steps) grid said grid′
       → told said grid′ ≡ report-of (counting-of q) (b .read .program) (request-of sizes grid scratch marks start steps)
   unfolding report-of
-  report-is true ran = ran .says (b .read .program) (b .runs)
-  report-is false ran = ran .says (always (b .read .program)) (runs-always (b .runs)) ∙ steps-full (b .read .program) sizes (natAbs steps) (natAbs start) grid
+  report-is true ran = ran .says (b .read .program) (b .runs) ∙ steps-quiet (b .read .program) sizes (natAbs steps) (natAbs start) grid laws
+  report-is false ran = ran .says (always (b .read .program)) (runs-always (b .runs)) ∙ steps-full (b .read .program) sizes (natAbs steps) (natAbs start) grid laws
 
   began : run-begins (request-of sizes grid scratch marks start steps) (read-source fit source) ≡ true
   began = ap (run-begins (request-of sizes grid scratch marks start steps)) (b .is) ∙ eq-eqb _ 0 (b .admitted)

@@ -11,7 +11,7 @@ use lib.Dec.{eqb, ltb}
 use lib.IntN.{ℤ, natAbs}
 use borrow.Author.Tests.{ltb-false}
 use Rattle.value.specs.Choice.{if_then_else_}
-use Rattle.automaton.specs.Step.{Fault, no-fault, fault-at, every-cell, run-of}
+use Rattle.automaton.specs.Step.{Fault, no-fault, fault-at, every-cell, Blocks, no-blocks, run-of}
 use Rattle.automaton.specs.Quiet.{QuietAgrees, open-le-full}
 use Rattle.automaton.specs.Going.{open-is-full}
 use Rattle.automaton.specs.Grid.{automaton}
@@ -43,8 +43,9 @@ pub record Property3 (fit : Bool) (source : List ℕ) (q : Request) : Type 0 whe
   pub agree : Agree (run-source quiet fit source q) (run-source full fit source q)
   -- where `time` stands in the source, the counts are equal
   pub timed : (a : Accepted) → read-source fit source ≡ accepted a → a .program .timed ≡ true → run-source quiet fit source q .count ≡ run-source full fit source q .count
-  -- the run that evaluates the open cells alone gives the run of the definition, and counts the definition's open cells
-  pub skips : (a : Accepted) → read-source fit source ≡ accepted a → (n t : ℕ) → QuietAgrees (running (a .program) (q .sizes)) n t (q .grid)
+  -- the run that evaluates the open cells alone gives the run of the definition, and counts the definition's open cells, whatever blocks are set
+  pub skips : (a : Accepted) → read-source fit source ≡ accepted a → length (q .sizes) ≡ a .program .dims → (block : Blocks (List ℤ)) (n t : ℕ)
+      → QuietAgrees (running (a .program) (q .sizes)) block n t (q .grid)
 
 -- a report agrees with itself
 pub same : (r : Report) → Agree r r
@@ -57,8 +58,8 @@ ended-agree (fault-at cell number place) steps g l = record { number = refl; pla
 reports-agree : (p : Program) (q : Request) → Agree (report-of quiet p q) (report-of full p q)
 unfolding report-of
 reports-agree p q =
-    let r = run-of (running p (q .sizes)) (natAbs (q .steps)) (natAbs (q .start)) (q .grid) in
-    ended-agree (r .fault) (r .steps) (r .grid) (open-le-full (running p (q .sizes)) (natAbs (q .steps)) every-cell (natAbs (q .start)) (q .grid))
+    let r = run-of (running p (q .sizes)) no-blocks (natAbs (q .steps)) (natAbs (q .start)) (q .grid) in
+    ended-agree (r .fault) (r .steps) (r .grid) (open-le-full (running p (q .sizes)) no-blocks (natAbs (q .steps)) every-cell (natAbs (q .start)) (q .grid))
 
 runs-agree : (p : Program) (q : Request) → Agree (run quiet p q) (run full p q)
 unfolding run
@@ -82,8 +83,8 @@ ended-count (fault-at cell number place) steps c g = refl
 reports-count : (p : Program) (q : Request) → p .timed ≡ true → report-of quiet p q .count ≡ report-of full p q .count
 unfolding report-of running automaton
 reports-count p q e =
-    let r = run-of (running p (q .sizes)) (natAbs (q .steps)) (natAbs (q .start)) (q .grid) in
-    ended-count (r .fault) (r .steps) _ (r .grid) ∙ open-is-full (running p (q .sizes)) e (natAbs (q .steps)) (natAbs (q .start)) (q .grid)
+    let r = run-of (running p (q .sizes)) no-blocks (natAbs (q .steps)) (natAbs (q .start)) (q .grid) in
+    ended-count (r .fault) (r .steps) _ (r .grid) ∙ open-is-full (running p (q .sizes)) e no-blocks (natAbs (q .steps)) every-cell (natAbs (q .start)) (q .grid)
     ∙ sym (ended-count (r .fault) (r .steps) _ (r .grid))
 
 runs-count : (p : Program) (q : Request) → p .timed ≡ true → run quiet p q .count ≡ run full p q .count
@@ -122,7 +123,7 @@ property-3 fit source q =
     record {
       agree = outcomes-agree q (read-source fit source);
       timed = λ a e t. rw e (runs-count (a .program) q t);
-      skips = λ a e n t.
+      skips = λ a e dims block n t.
           let r = read-of fit source a e in
-          locality.property-3 (a .program) (q .sizes) (flagged timing source a (parsed source (r .0) a (r .1))) n t (q .grid);
+          locality.property-3 (a .program) (q .sizes) dims (flagged timing source a (parsed source (r .0) a (r .1))) block n t (q .grid);
     }

@@ -76,7 +76,7 @@ counting r count = report (r .number) (r .place) (r .cell) (r .steps) count (r .
 -- (tools/unfolding.py writes it)
 unfoldable pub holds : Case → Bool
 unfolding same-report Listed.list-of Step.first-fault Step.how-many Step.any-of Step.marks-of Step.marked Step.step-of
-    Step.quiet-outcome Step.quiet-step Step.changed Step.open-after Step.run-of Step.open-count Step.full-count
+    Step.quiet-outcome Step.quiet-step Step.changed Step.touched Step.open-in Step.run-of Step.open-count Step.full-count
     Step.quiet-run Shape.neighbour Shape.box-indices Shape.reach-of Shape.opens-of Grid.cell-of Grid.grid-of Grid.automaton
     Bytes.member Bytes.same Bytes.kind-of Bytes.fold Kind.level-of Lexeme.find-kind Lexeme.starts Lexeme.in-name
     Lexeme.in-literal Lexeme.extent Lexeme.decimal Lexeme.word Lexeme.digits Lexeme.punctuation Lexeme.read-token

@@ -14,10 +14,10 @@ use lib.Signed.{leZ}
 use Rattle.value.specs.Choice.{if_then_else_}
 use Rattle.value.specs.Worked.{truth, span-of}
 use Rattle.value.specs.Laws.{never, and-both, offset-within}
-use Rattle.automaton.specs.Step.{state}
+use Rattle.automaton.specs.Step.{Blocks, state}
 use Rattle.automaton.specs.Quiet.{Lawful, QuietAgrees, quiet-agrees}
 use Rattle.automaton.specs.Shape.{Bound, box-indices}
-use Rattle.automaton.specs.ShapeLaws.{Within, AllWithin, mem-box}
+use Rattle.automaton.specs.ShapeLaws.{Within, AllWithin, mem-box, alike-length, zeros-within, zeros}
 use Rattle.automaton.specs.GridLaws.{Bounded, lawful}
 use Rattle.program.specs.Syntax.{Range, no-range, Index, fixed, moving, Expr, number, time, variable, index, field, element, unary, binary, Target, to-field, to-variable, Clause, Block, empty, assign, select, loop, exit, constant, Program}
 use Rattle.semantics.specs.Operators.{Worth, worth, failed, placed, apply-unary, apply-binary}
@@ -444,11 +444,14 @@ evaluate-bounded p flagged = record {
   sized = λ look t a e s. evaluate-keeps (λ l. length l ≡ length (p .fields)) p (λ next f z r h. length-set next f z ∙ h) look t a (e _) s;
 }
 
-pub running-lawful : (p : Program) (sizes : List ℕ) → Flagged p → Lawful (running p sizes)
+-- on a grid of as many dimensions as the program has
+pub running-lawful : (p : Program) (sizes : List ℕ) → length sizes ≡ p .dims → Flagged p → Lawful (running p sizes)
 unfolding running
-running-lawful p sizes flagged =
-    lawful sizes (length (p .fields)) (p .timed) (box-indices (reach p)) (evaluate p) (evaluate-bounded p flagged)
+running-lawful p sizes dims flagged =
+    lawful sizes (length (p .fields)) (p .timed) (box-indices (reach p)) (evaluate p)
+    (mem-box (reach p) (zeros sizes) .1 (zeros-within sizes (reach p) (alike-length sizes (reach p) (reach-length p ∙ sym dims))))
+    (evaluate-bounded p flagged)
 
--- property 3 of a program, over any number of steps
-pub property-3 : (p : Program) (sizes : List ℕ) → Flagged p → (n t : ℕ) (g : List ℤ) → QuietAgrees (running p sizes) n t g
-property-3 p sizes flagged n t g = quiet-agrees (running p sizes) (running-lawful p sizes flagged) n t g
+-- property 3 of a program, with any blocks and over any number of steps
+pub property-3 : (p : Program) (sizes : List ℕ) → length sizes ≡ p .dims → Flagged p → (block : Blocks (List ℤ)) (n t : ℕ) (g : List ℤ) → QuietAgrees (running p sizes) block n t g
+property-3 p sizes dims flagged block n t g = quiet-agrees (running p sizes) (running-lawful p sizes dims flagged) block n t g

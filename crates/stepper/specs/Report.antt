@@ -4,7 +4,7 @@ use mathlib.Core.List.{List}
 use Prim.Native.Nat.{ℕ}
 use lib.Dec.{eqb}
 use lib.IntN.{ℤ, natAbs}
-use Rattle.automaton.specs.Step.{Fault, no-fault, fault-at, Automaton, run-of, full-count, open-count, every-cell}
+use Rattle.automaton.specs.Step.{Fault, no-fault, fault-at, Automaton, Blocks, no-blocks, run-of, full-count, open-count, every-cell}
 use Rattle.program.specs.Syntax.{Program}
 use Rattle.stepper.specs.Reach.{running}
 use Rattle.stepper.specs.Admission.{Request, admission}
@@ -34,9 +34,9 @@ pub data Counting : Type 0 where
   quiet : Counting
 
 -- how many cells are counted over n steps from a time on
-abbrev pub count-of : {Grid State : Type 0} → Counting → Automaton Grid State → ℕ → ℕ → Grid → ℕ
-count-of full M n t g = full-count M n t g
-count-of quiet M n t g = open-count M every-cell n t g
+abbrev pub count-of : {Grid State : Type 0} → Counting → Automaton Grid State → Blocks Grid → ℕ → ℕ → Grid → ℕ
+count-of full M block n t g = full-count M block n t g
+count-of quiet M block n t g = open-count M block every-cell n t g
 
 -- n steps of an admitted run, or those before the first faulting one
 unfoldable pub report-of : Counting → Program → Request → Report
@@ -44,8 +44,8 @@ report-of counting p q =
     let M = running p (q .sizes) in
     let n = natAbs (q .steps) in
     let t = natAbs (q .start) in
-    let r = run-of M n t (q .grid) in
-    ended (r .fault) (r .steps) (count-of counting M n t (q .grid)) (r .grid)
+    let r = run-of M no-blocks n t (q .grid) in
+    ended (r .fault) (r .steps) (count-of counting M no-blocks n t (q .grid)) (r .grid)
 
 -- a run of a program: refused with 20 to 24, or its report
 unfoldable pub run : Counting → Program → Request → Report

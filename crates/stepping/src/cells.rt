@@ -55,12 +55,13 @@ pub fn evaluate_into(
     cell: usize,
     grid: &[i32],
     scratch: &mut [i32],
+    marks: &[u8],
     vars: &mut [i32; 256],
     index: &mut [i32; 16],
     time: u32,
     count: u64,
 ) -> Evaluation
-    requires { ⌜ Turning (now leaves) (now words) rule (now sizes) (now place) cell (now grid) (length (now scratch)) time count ⌝ }
+    requires { ⌜ Turning (now leaves) (now words) rule (now sizes) (now place) cell (now grid) (length (now scratch)) (now marks) time count ⌝ }
     ensures { λ r. ⌜ Turned (now (words .entry)) rule (now (sizes .entry)) cell (now (grid .entry)) (now (scratch .entry)) (now (scratch .exit)) time count r ⌝ }
 {
     let fields = rule.fields as usize;

@@ -43,6 +43,7 @@ fn evaluate_marked(
             cell,
             old,
             new,
+            marks,
             vars,
             index,
             time,

@@ -10,21 +10,21 @@ cast-fields c = search needs
 
 mul-from : tie.Need-mul-from
 mul-from c =
-    let p = c .before .before .before .before .pre in
+    let p = c .before .before .before .before .before .pre in
     let a = turn-room p in
     let b = turn-small p in
     search needs
 
 add-end : tie.Need-add-end
 add-end c =
-    let p = c .before .before .before .before .pre in
+    let p = c .before .before .before .before .before .pre in
     let a = turn-room p in
     let b = turn-small p in
     search needs
 
 mul-evaluate-counted : tie.Need-mul-evaluate-counted
 mul-evaluate-counted c =
-    let p = c .before .before .before .before .pre in
+    let p = c .before .before .before .before .before .pre in
     let a = turn-room p in
     let b = turn-small p in
     search needs
@@ -36,11 +36,11 @@ part-evaluate-counted-start : tie.Need-part-evaluate-counted-start
 part-evaluate-counted-start c = search needs
 
 part-evaluate-counted-end : tie.Need-part-evaluate-counted-end
-part-evaluate-counted-end c = turn-room (c .before .before .before .before .pre)
+part-evaluate-counted-end c = turn-room (c .before .before .before .before .before .pre)
 
 evaluate-counted-requires : tie.Need-evaluate-counted-requires
 evaluate-counted-requires c κs =
-    let p = c .before .before .before .before .before .before .before .pre in
+    let p = c .before .before .before .before .before .before .before .before .pre in
     (turn-fit p (part-length _ _ _ (turn-room p)), p .countable)
 
 same-length : tie.Need-same-length
@@ -48,7 +48,7 @@ same-length c = search needs
 
 returns : tie.Need-returns
 returns c =
-    let s = c .before .before .before .before .before .before .before .before .before in
+    let s = c .before .before .before .before .before .before .before .before .before .before in
     let long = part-length (s .args .cell * s .args .rule .fields) (s .args .rule .fields) (s .args .scratch .now) (turn-room (s .pre)) in
     turned (s .pre) (c .before .evaluate-counted .ensures) refl (search needs) (part-whole _ _)
 
