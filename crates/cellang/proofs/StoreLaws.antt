@@ -18,16 +18,17 @@ use Rattle.grammar.specs.Checking.{most-bytes, Outcome, turned-away, outcome-of
 use Rattle.stepper.specs.Admission.{Request}
 use Rattle.stepper.specs.Report.{Counting, refused}
 use Rattle.services.specs.Services.{run-source, room-after}
-use Rattle.admission.specs.Admitting.{request-of}
+use Rattle.services.specs.Calls.{flat-names, memory, Lent, lent, asked, names-left, run-left}
 use Rattle.checker.specs.Promises.{Checks}
 use Rattle.iteration.specs.declared.Report.{Report}
 use Rattle.iteration.specs.Stepwise.{told}
-use Rattle.runner.specs.Sourcewise.{RunsSource}
+use Rattle.runner.specs.Sourcewise.{RunLeaves}
+use Rattle.runner.proofs.RunLaws.{left-by, left-report}
 use Rattle.checker.specs.declared.checking.Reply.{Reply}
 use Rattle.records.specs.declared.Name.{Name}
 use Rattle.cellang.specs.declared.running.RunAnswer.{RunAnswer}
 use Rattle.records.specs.Rows.{no-name, rows-of}
-use Rattle.cellang.specs.Left.{rows-fit, row-left, names-row-after, stored-of}
+use Rattle.cellang.specs.Left.{rows-fit, row-names, stored-of}
 use Rattle.cellang.specs.Promises.{ChecksOver, RunsOver, TurnedAway}
 use Rattle.records.proofs.RowLaws.{filled-all, length-rows, rows-of-zeros}
 
@@ -76,8 +77,8 @@ pub turned-words : (source ws : List ℕ) → ws ≡ words-after false source ws
 unfolding words-after read-source
 turned-words source ws = refl
 
-pub turned-row : (source : List ℕ) (ns : List Name) → ns ≡ names-row-after false source ns
-unfolding names-row-after read-source
+pub turned-row : (source : List ℕ) (ns : List Name) → ns ≡ names-left row-names false source ns
+unfolding read-source
 turned-row source ns = refl
 
 pub turned-report : (counting : Counting) (source : List ℕ) (q : Request) → refused 1 0 (q .grid) ≡ run-source counting false source q
@@ -101,8 +102,8 @@ abbrev zeros : List ℕ
 zeros = replicate name-words 0
 
 left : (fit long : Bool) (read : Result Accepted) (old : List Name) → length old ≡ 256
-    → take (kept fit long) (rows-of (room-left zeros (λ a. a .names) (ended fit long (outcome-of read)))) ++ drop (kept fit long)
-    old ≡ row-left old (ended fit long (outcome-of read))
+    → take (kept fit long) (rows-of (room-left 0 zeros (λ a. a .names) (ended fit long (outcome-of read)))) ++ drop (kept fit long)
+    old ≡ room-left no-name old (λ a. rows-of (a .names)) (ended fit long (outcome-of read))
 left false long read old e = refl
 left true true read old e = refl
 left true false (ok a) old e = filled-all old (rows-of (a .names)) 256 e (length-rows (a .names))
@@ -121,13 +122,19 @@ and-true true = refl
 and-true false = refl
 
 pub stores-row : (source ws : List ℕ) (flat : List ℕ) (old : List Name) → length old ≡ 256 → flat ≡ names-after (rooms-fit (length ws) 1024) source zeros
-    → take (stored-of (length source) (length ws)) (rows-of flat) ++ drop (stored-of (length source) (length ws)) old ≡ names-row-after (rows-fit (length ws) 256) source old
-unfolding stored-of rows-fit rooms-fit names-after names-row-after read-source
+    → take (stored-of (length source) (length ws)) (rows-of flat) ++ drop (stored-of (length source) (length ws)) old ≡ names-left row-names (rows-fit (length ws) 256) source old
+unfolding stored-of rows-fit rooms-fit names-after read-source
 stores-row source ws flat old e h =
     ap (λ (l : List ℕ). take (kept (fits ws) (long source)) (rows-of l) ++ drop (kept (fits ws) (long source)) old)
-    (h ∙ ap (λ (t : Bool). room-left zeros (λ a. a .names) (ended t (long source) (outcome-of (parse source)))) (and-true (fits ws)))
+    (h ∙ ap (λ (t : Bool). room-left 0 zeros (λ a. a .names) (ended t (long source) (outcome-of (parse source)))) (and-true (fits ws)))
     ∙ left (fits ws) (long source) (parse source) old e
-    ∙ ap (λ (t : Bool). row-left old (ended t (long source) (outcome-of (parse source)))) (sym (and-true (fits ws)))
+    ∙ ap (λ (t : Bool). room-left no-name old (λ a. rows-of (a .names)) (ended t (long source) (outcome-of (parse source)))) (sym (and-true (fits ws)))
+
+-- the flat words are a form of the name list
+flat-left : (source ws : List ℕ) {flat : List ℕ} → flat ≡ names-left flat-names (rooms-fit (length ws) (length zeros)) source zeros
+    → flat ≡ names-after (rooms-fit (length ws) (length zeros)) source zeros
+unfolding names-after
+flat-left source ws e = e
 
 -- ---- a check
 
@@ -139,7 +146,7 @@ no-row-check source ws names rows n =
       reply = turned-reply source ∙ ap (λ (t : Bool). check t source) e;
       words = turned-words source ws ∙ ap (λ (t : Bool). words-after t source ws) e;
       few = (zero-le, zero-le);
-      stores = λ ns _. turned-row source ns ∙ ap (λ (t : Bool). names-row-after t source ns) e;
+      stores = λ ns _. turned-row source ns ∙ ap (λ (t : Bool). names-left row-names t source ns) e;
     }
 
 zeros-long : length zeros ≡ 1024
@@ -166,40 +173,49 @@ row-check source ws ws′ flat names reply rows count n m c r =
 -- ---- a run
 
 module _ (counting : Counting) (source ws : List ℕ) (names : ℕ) (sizes : List ℕ) (grid scratch : List ℤ) (marks : List ℕ) (start steps : ℤ) where
-  abbrev asked : Request
-  asked = request-of sizes grid (length scratch) (length marks) start steps
+  abbrev lends : List Name → Lent Name
+  lends ns = lent source sizes (memory ws ns grid scratch marks) start steps
 
-  pub no-row-run : (r : RunAnswer) → (names ≡ 256 → ⊥) → TurnedAway r → RunsOver counting source ws names sizes grid scratch marks start steps r ws grid scratch marks
+  pub no-row-run : (r : RunAnswer) → (names ≡ 256 → ⊥) → TurnedAway r → RunsOver counting names lends r (λ ns. memory ws ns grid scratch marks)
   no-row-run r n t =
-      let e = sym (no-room (length ws) names n) in
       record {
-        report = ap (λ (said : Report). told said grid) (t .report) ∙ turned-report counting source asked ∙ ap (λ (u : Bool). run-source counting u source asked) e;
-        words = turned-words source ws ∙ ap (λ (u : Bool). words-after u source ws) e;
         few = (subst (λ (k : ℕ). k ≤ 256) (sym (t .count)) zero-le, subst (λ (k : ℕ). k ≤ names) (sym (t .count)) zero-le);
-        stores = λ ns _. ap (λ (k : ℕ). take k (r .rows) ++ drop k ns) (t .count) ∙ turned-row source ns ∙ ap (λ (u : Bool). names-row-after u source ns) e;
-        scratch-is = turned-room (pos 0) source asked scratch ∙ ap (λ (u : Bool). room-after (pos 0) u source asked scratch) e;
-        marks-is = turned-room 0 source asked marks ∙ ap (λ (u : Bool). room-after 0 u source asked marks) e;
+        stores = λ ns l.
+            let e = sym (ap (rows-fit (length ws)) l ∙ no-room (length ws) names n) in
+            let q = asked (lends ns) in
+            left-by {form = row-names} {l = lends ns}
+            (ap (λ (said : Report). told said grid) (t .report) ∙ turned-report counting source q ∙ ap (λ (u : Bool). run-source counting u source q) e)
+            (turned-words source ws ∙ ap (λ (u : Bool). words-after u source ws) e)
+            (ap (λ (k : ℕ). take k (r .rows) ++ drop k ns) (t .count) ∙ turned-row source ns ∙ ap (λ (u : Bool). names-left row-names u source ns) e)
+            (turned-room (pos 0) source q scratch ∙ ap (λ (u : Bool). room-after (pos 0) u source q scratch) e)
+            (turned-room 0 source q marks ∙ ap (λ (u : Bool). room-after 0 u source q marks) e);
       }
 
   pub row-run : (ws′ flat : List ℕ) (grid′ scratch′ : List ℤ) (marks′ : List ℕ) (report : Report) (rows : List Name) (count : ℕ) → names ≡ 256
       → count ≡ stored-of (length source) (length ws)
-      → RunsSource counting source ws zeros sizes grid scratch marks start steps report ws′ flat grid′ scratch′ marks′ → rows ≡ rows-of flat
-      → RunsOver counting source ws names sizes grid scratch marks start steps (record { report = report; rows = rows; count = count }) ws′ grid′ scratch′ marks′
+      → RunLeaves flat-names counting (lent source sizes (memory ws zeros grid scratch marks) start steps) report (memory ws′ flat grid′ scratch′ marks′) → rows ≡ rows-of flat
+      → RunsOver counting names lends (record { report = report; rows = rows; count = count }) (λ ns. memory ws′ ns grid′ scratch′ marks′)
+  unfolding run-left
   row-run ws′ flat grid′ scratch′ marks′ report rows count n m c r =
-      subst (λ (k : ℕ). RunsOver counting source ws k sizes grid scratch marks start steps (record { report = report; rows = rows; count = count }) ws′ grid′ scratch′ marks′)
-      (sym n)
-      (record {
-        report = c .report ∙ ap (λ (t : Bool). run-source counting t source asked) fit;
-        words = c .words ∙ ap (λ (t : Bool). words-after t source ws) fit;
-        few = (few, few);
-        stores = λ ns l. (λ i. take (m i) (r i) ++ drop (m i) ns) ∙ stores-row source ws flat ns l (c .names ∙ ap (λ (k : ℕ). names-after (rooms-fit (length ws) k) source zeros)
-            zeros-long);
-        scratch-is = c .scratch-is ∙ ap (λ (t : Bool). room-after (pos 0) t source asked scratch) fit;
-        marks-is = c .marks-is ∙ ap (λ (t : Bool). room-after 0 t source asked marks) fit;
-      })
+      record {
+        few = (few, subst (λ (k : ℕ). count ≤ k) (sym n) few);
+        stores = λ ns l.
+            let fit = fit-rows ∙ ap (rows-fit (length ws)) (sym (l ∙ n)) in
+            let q = asked (lends ns) in
+            left-by {form = row-names} {l = lends ns}
+            (left-report c ∙ ap (λ (t : Bool). run-source counting t source q) fit)
+            (ap (λ x. x .memory .words) (c .is) ∙ ap (λ (t : Bool). words-after t source ws) fit)
+            ((λ i. take (m i) (r i) ++ drop (m i) ns) ∙ stores-row source ws flat ns (l ∙ n) (names-are ∙ ap (λ (k : ℕ). names-after (rooms-fit (length ws) k) source zeros) zeros-long)
+            ∙ ap (λ (k : ℕ). names-left row-names (rows-fit (length ws) k) source ns) (sym (l ∙ n)))
+            (ap (λ x. x .memory .scratch) (c .is) ∙ ap (λ (t : Bool). room-after (pos 0) t source q scratch) fit)
+            (ap (λ x. x .memory .marks) (c .is) ∙ ap (λ (t : Bool). room-after 0 t source q marks) fit);
+      }
     where
-      fit : rooms-fit (length ws) (length zeros) ≡ rows-fit (length ws) 256
-      fit = ap (rooms-fit (length ws)) zeros-long ∙ sym (rows-fit-flat (length ws))
+      fit-rows : rooms-fit (length ws) (length zeros) ≡ rows-fit (length ws) 256
+      fit-rows = ap (rooms-fit (length ws)) zeros-long ∙ sym (rows-fit-flat (length ws))
+
+      names-are : flat ≡ names-after (rooms-fit (length ws) (length zeros)) source zeros
+      names-are = flat-left source ws (ap (λ x. x .memory .names) (c .is))
 
       few : count ≤ 256
       few = subst (λ (k : ℕ). k ≤ 256) (sym m) (stored-few (length source) (length ws))

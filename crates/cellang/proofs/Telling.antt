@@ -1,20 +1,21 @@
 -- What the calls tell.
-use mathlib.Core.Path.{_≡_, ap, _∙_, subst, subst₂}
+use mathlib.Core.Path.{_≡_, ap, _∙_, subst}
 use mathlib.Core.List.{List, [], _∷_}
 use Prim.Native.Nat.{ℕ}
 use lib.IntN.{ℤ}
 use mir.Syntax.{w64}
 use mir.Val.{SFits, toZ, ofZ}
-use mir.Facts.{toZ-ofZ}
 use Rattle.grammar.specs.Complaint.{Complaint}
 use Rattle.checker.specs.Promises.{Checks}
 use Rattle.stepper.specs.Report as report
 use Rattle.stepper.specs.Report.{Counting}
+use Rattle.services.specs.Calls.{flat-names, Memory, lent}
 use Rattle.iteration.specs.declared.Report.{Report}
 use Rattle.iteration.specs.Stepwise.{told}
-use Rattle.runner.specs.Sourcewise.{RunsSource}
+use Rattle.runner.specs.Sourcewise.{RunLeaves}
+use Rattle.runner.proofs.RunLaws.{left-report, read-times}
 use Rattle.entries.specs.Over.{over}
-use Rattle.cellang.specs.Told.{reply-entries, TellsCheck, report-entries, numbers-of, TellsRun}
+use Rattle.cellang.specs.Told.{reply-entries, TellsCheck, report-entries, TellsRun}
 
 -- ---- a check
 
@@ -29,19 +30,14 @@ tells-check {source} {ws} {ns} {reply} {number} {place} {ws′} {ns′} h e =
 
 -- ---- a run
 
-module _ {counting : Counting} {source ws ns sizes : List ℕ} {grid scratch : List ℤ} {marks : List ℕ} {start steps : ℤ} {entries : List ℕ} {said : Report} {ws′ ns′ : List ℕ} {grid′ scratch′ : List ℤ} {marks′ entries′ : List ℕ} where
-  tells : RunsSource counting source ws ns sizes grid scratch marks start steps said ws′ ns′ grid′ scratch′ marks′ → entries′ ≡ over (report-entries (told said grid′)) entries
-      → TellsRun counting source ws ns sizes grid scratch marks start steps entries (said .number) ws′ ns′ grid′ scratch′ marks′ entries′
-  tells h e =
-      record {
-        number = ap (λ (x : report.Report). x .number) (h .report);
-        told = e ∙ ap (λ (x : report.Report). over (report-entries x) entries) (h .report);
-        runs = subst (λ (x : Report). RunsSource counting source ws ns sizes grid scratch marks start steps x ws′ ns′ grid′ scratch′ marks′) (ap numbers-of (h .report)) h;
-      }
-
-  -- the times as the machine reads them
-  pub tells-run : SFits w64 start → SFits w64 steps
-      → RunsSource counting source ws ns sizes grid scratch marks (toZ w64 (ofZ w64 start)) (toZ w64 (ofZ w64 steps)) said ws′ ns′ grid′ scratch′ marks′ → entries′ ≡ over (report-entries (told said grid′)) entries
-      → TellsRun counting source ws ns sizes grid scratch marks start steps entries (said .number) ws′ ns′ grid′ scratch′ marks′ entries′
-  tells-run a b h =
-      tells (subst₂ (λ (x y : ℤ). RunsSource counting source ws ns sizes grid scratch marks x y said ws′ ns′ grid′ scratch′ marks′) (toZ-ofZ a) (toZ-ofZ b) h)
+-- the times as the machine reads them
+pub tells-run : {counting : Counting} {source sizes : List ℕ} {m m′ : Memory ℕ} {start steps : ℤ} {entries entries′ : List ℕ} {said : Report} → SFits w64 start → SFits w64 steps
+    → RunLeaves flat-names counting (lent source sizes m (toZ w64 (ofZ w64 start)) (toZ w64 (ofZ w64 steps))) said m′ → entries′ ≡ over (report-entries (told said (m′ .grid))) entries
+    → TellsRun counting (lent source sizes m start steps) entries (said .number) m′ entries′
+tells-run {counting} {source} {sizes} {m} {m′} {start} {steps} {entries} a b h e =
+    let k = read-times a b h in
+    record {
+      number = ap (λ (x : report.Report). x .number) (left-report k);
+      told = e ∙ ap (λ (x : report.Report). over (report-entries x) entries) (left-report k);
+      memory = ap (λ x. x .memory) (k .is);
+    }

@@ -1,13 +1,12 @@
--- What a check or a run leaves of the row of records.
+-- The row of records as a form of the name list (`NameForm`), and how many records are stored.
 use mathlib.Core.Bool.{Bool, not, _&&_}
-use mathlib.Core.List.{List}
 use Prim.Native.Nat.{ℕ}
 use lib.Dec.{eqb, ltb}
-use lib.ListN.{length, replicate}
 use Rattle.value.specs.Choice.{if_then_else_}
 use Rattle.token.specs.Scanning.{table-words}
 use Rattle.names.specs.Names.{most-names}
-use Rattle.grammar.specs.Checking.{most-bytes, Outcome, turned-away, refused, accepted, read-source}
+use Rattle.grammar.specs.Checking.{most-bytes}
+use Rattle.services.specs.Calls.{NameForm}
 use Rattle.records.specs.declared.Name.{Name}
 use Rattle.records.specs.Rows.{no-name, rows-of}
 
@@ -15,15 +14,9 @@ use Rattle.records.specs.Rows.{no-name, rows-of}
 unfoldable pub rows-fit : ℕ → ℕ → Bool
 rows-fit words names = eqb words table-words && eqb names most-names
 
--- a row after reading, where `old` stood before: 1 and 2 touch nothing; 3 to 15 leave zero records; an accepted source leaves its names
-abbrev pub row-left : List Name → Outcome → List Name
-row-left old (turned-away number place) = old
-row-left old (refused number place) = replicate (length old) no-name
-row-left old (accepted a) = rows-of (a .names)
-
--- the row of records after a check or a run
-unfoldable pub names-row-after : Bool → List ℕ → List Name → List Name
-names-row-after fit source old = row-left old (read-source fit source)
+-- the name list as a row of records
+abbrev pub row-names : NameForm Name
+row-names = record { fit = rows-fit; none = no-name; entries = rows-of }
 
 -- how many records are stored, where there is room for all: none if the source is turned away before it is read
 unfoldable pub stored-of : ℕ → ℕ → ℕ

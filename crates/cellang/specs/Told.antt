@@ -3,16 +3,11 @@ use mathlib.Core.Path.{_≡_}
 use mathlib.Core.List.{List, [], _∷_}
 use Prim.Native.Nat.{ℕ}
 use lib.ListN.{length}
-use lib.IntN.{ℤ}
 use Rattle.grammar.specs.Complaint.{Complaint}
 use Rattle.grammar.specs.Checking.{rooms-fit, check}
+use Rattle.stepper.specs.Report.{Counting, Report}
+use Rattle.services.specs.Calls.{flat-names, Memory, Lent, run-report, run-left}
 use Rattle.checker.specs.Promises.{Checks}
-use Rattle.stepper.specs.Report as report
-use Rattle.stepper.specs.Report.{Counting}
-use Rattle.services.specs.Services.{run-source}
-use Rattle.admission.specs.Admitting.{request-of}
-use Rattle.iteration.specs.declared.Report.{Report}
-use Rattle.runner.specs.Sourcewise.{RunsSource}
 use Rattle.entries.specs.Over.{over}
 
 -- ---- a check
@@ -29,19 +24,11 @@ pub record TellsCheck (source ws ns reply : List ℕ) (r : ℕ) (ws′ ns′ rep
 -- ---- a run
 
 -- the entries that tell a run's numbers
-abbrev pub report-entries : report.Report → List ℕ
+abbrev pub report-entries : Report → List ℕ
 report-entries said = said .number ∷ said .place ∷ said .cell ∷ said .steps ∷ said .count ∷ []
 
--- a run's numbers, without the grid
-abbrev pub numbers-of : report.Report → Report
-numbers-of said = record { number = said .number; place = said .place; cell = said .cell; steps = said .steps; count = said .count }
-
--- the report of a run by the definitions, with the lengths of the memory that is lent
-abbrev pub told-run : Counting → (source ws ns sizes : List ℕ) (grid scratch : List ℤ) (marks : List ℕ) (start steps : ℤ) → report.Report
-told-run counting source ws ns sizes grid scratch marks start steps =
-    run-source counting (rooms-fit (length ws) (length ns)) source (request-of sizes grid (length scratch) (length marks) start steps)
-
-pub record TellsRun (counting : Counting) (source ws ns sizes : List ℕ) (grid scratch : List ℤ) (marks : List ℕ) (start steps : ℤ) (entries : List ℕ) (r : ℕ) (ws′ ns′ : List ℕ) (grid′ scratch′ : List ℤ) (marks′ entries′ : List ℕ) : Type 0 where
-  pub number : r ≡ told-run counting source ws ns sizes grid scratch marks start steps .number
-  pub told : entries′ ≡ over (report-entries (told-run counting source ws ns sizes grid scratch marks start steps)) entries
-  pub runs : RunsSource counting source ws ns sizes grid scratch marks start steps (numbers-of (told-run counting source ws ns sizes grid scratch marks start steps)) ws′ ns′ grid′ scratch′ marks′
+-- the number that is given back, the entries that are told, and the rest of the memory
+pub record TellsRun (counting : Counting) (l : Lent ℕ) (entries : List ℕ) (r : ℕ) (m : Memory ℕ) (entries′ : List ℕ) : Type 0 where
+  pub number : r ≡ run-report flat-names counting l .number
+  pub told : entries′ ≡ over (report-entries (run-report flat-names counting l)) entries
+  pub memory : m ≡ run-left flat-names counting l .memory

@@ -14,5 +14,4 @@ pub use records::lookup::count;
 pub use records::lookup::find_by_place;
 pub use records::lookup::kind_of;
 pub use records::lookup::record;
-pub use running::run_full;
-pub use running::run_quiet;
+pub use running::run;

@@ -1,12 +1,13 @@
 // A source run on a grid.
-ghost use lib.ListN.{length};
-ghost use Rattle.stepper.specs.Report.{full, quiet};
-ghost use Rattle.services.specs.Services.{run-source};
-ghost use Rattle.admission.specs.Admitting.{request-of};
+ghost use mathlib.Core.List.{List};
+ghost use Rattle.stepper.specs.Report.{full};
+ghost use Rattle.services.specs.Calls.{memory, lent, run-report};
 ghost use Rattle.iteration.specs.Stepwise.{told};
+ghost use Rattle.runner.specs.Sourcewise.{counting-of, RunLeaves};
 ghost use Rattle.runner.specs.Property3.{Agree};
-ghost use Rattle.cellang.specs.Left.{rows-fit};
-ghost use Rattle.cellang.specs.Promises.{TurnedAway, RunsOver, RunsRows};
+ghost use Rattle.records.specs.declared.Name.{Name};
+ghost use Rattle.cellang.specs.Left.{row-names};
+ghost use Rattle.cellang.specs.Promises.{TurnedAway, RunsOver};
 use crate::rows::stored;
 use iteration::Report;
 use records::Name;
@@ -40,8 +41,8 @@ fn turned_away() -> RunAnswer
     }
 }
 
-// Runs a source evaluating every cell in each step, where `names` is the length of the row of records.
-fn ran_full(
+// Runs a source, where `names` is the length of the row of records.
+fn ran(
     source: &[u8],
     words: &mut [u32],
     names: usize,
@@ -51,8 +52,9 @@ fn ran_full(
     marks: &mut [u8],
     start: i64,
     steps: i64,
+    quiet: bool,
 ) -> RunAnswer
-    ensures { λ r. ⌜ RunsOver full (now (source .entry)) (now (words .entry)) names (now (sizes .entry)) (now (grid .entry)) (now (scratch .entry)) (now (marks .entry)) start steps r (now (words .exit)) (now (grid .exit)) (now (scratch .exit)) (now (marks .exit)) ⌝ }
+    ensures { λ r. ⌜ RunsOver (counting-of quiet) names (λ (ns : List Name). (lent (now (source .entry)) (now (sizes .entry)) (memory (now (words .entry)) ns (now (grid .entry)) (now (scratch .entry)) (now (marks .entry))) start steps)) r (λ (ns : List Name). (memory (now (words .exit)) ns (now (grid .exit)) (now (scratch .exit)) (now (marks .exit)))) ⌝ }
 {
     if names != 256 {
         return turned_away();
@@ -69,7 +71,7 @@ fn ran_full(
         marks,
         start,
         steps,
-        false,
+        quiet,
     );
     let rows = rows_of(&flat);
     RunAnswer {
@@ -79,47 +81,9 @@ fn ran_full(
     }
 }
 
-// Runs a source evaluating the open cells alone, where `names` is the length of the row of records.
-fn ran_quiet(
-    source: &[u8],
-    words: &mut [u32],
-    names: usize,
-    sizes: &[u32],
-    grid: &mut [i32],
-    scratch: &mut [i32],
-    marks: &mut [u8],
-    start: i64,
-    steps: i64,
-) -> RunAnswer
-    ensures { λ r. ⌜ RunsOver quiet (now (source .entry)) (now (words .entry)) names (now (sizes .entry)) (now (grid .entry)) (now (scratch .entry)) (now (marks .entry)) start steps r (now (words .exit)) (now (grid .exit)) (now (scratch .exit)) (now (marks .exit)) ⌝ }
-{
-    if names != 256 {
-        return turned_away();
-    }
-    let mut flat = [0u32; 1024];
-    let count = stored(source.len(), words.len());
-    let report = runner::run(
-        source,
-        words,
-        &mut flat,
-        sizes,
-        grid,
-        scratch,
-        marks,
-        start,
-        steps,
-        true,
-    );
-    let rows = rows_of(&flat);
-    RunAnswer {
-        report: report,
-        rows: rows,
-        count: count,
-    }
-}
-
-// Runs a source on a grid: so many steps from a start time, each of which evaluates every cell.
-pub fn run_full(
+// Runs a source on a grid: so many steps from a start time. A full run evaluates every cell in each step, a quiet one only the cells that are open in
+// it: the answer and the grid are the same, and the count is of the open cells.
+pub fn run(
     source: &[u8],
     words: &mut [u32],
     names: &mut [Name],
@@ -129,10 +93,11 @@ pub fn run_full(
     marks: &mut [u8],
     start: i64,
     steps: i64,
+    quiet: bool,
 ) -> Report
-    ensures { λ r. ⌜ RunsRows full (now (source .entry)) (now (words .entry)) (now (names .entry)) (now (sizes .entry)) (now (grid .entry)) (now (scratch .entry)) (now (marks .entry)) start steps r (now (words .exit)) (now (names .exit)) (now (grid .exit)) (now (scratch .exit)) (now (marks .exit)) ⌝ }
+    ensures { λ r. ⌜ (RunLeaves row-names (counting-of quiet) (lent (now (source .entry)) (now (sizes .entry)) (memory (now (words .entry)) (now (names .entry)) (now (grid .entry)) (now (scratch .entry)) (now (marks .entry))) start steps) r (memory (now (words .exit)) (now (names .exit)) (now (grid .exit)) (now (scratch .exit)) (now (marks .exit)))) × (Agree (told r (now (grid .exit))) (run-report row-names full (lent (now (source .entry)) (now (sizes .entry)) (memory (now (words .entry)) (now (names .entry)) (now (grid .entry)) (now (scratch .entry)) (now (marks .entry))) start steps))) ⌝ }
 {
-    let c = ran_full(
+    let c = ran(
         source,
         words,
         names.len(),
@@ -142,36 +107,7 @@ pub fn run_full(
         marks,
         start,
         steps,
-    );
-    store_first(names, c.rows, c.count);
-    c.report
-}
-
-// Runs a source on a grid as `run_full` does, but each step evaluates only the cells that are open in it: the answer and the grid are the same,
-// and the count is of the open cells.
-pub fn run_quiet(
-    source: &[u8],
-    words: &mut [u32],
-    names: &mut [Name],
-    sizes: &[u32],
-    grid: &mut [i32],
-    scratch: &mut [i32],
-    marks: &mut [u8],
-    start: i64,
-    steps: i64,
-) -> Report
-    ensures { λ r. ⌜ (RunsRows quiet (now (source .entry)) (now (words .entry)) (now (names .entry)) (now (sizes .entry)) (now (grid .entry)) (now (scratch .entry)) (now (marks .entry)) start steps r (now (words .exit)) (now (names .exit)) (now (grid .exit)) (now (scratch .exit)) (now (marks .exit))) × (Agree (told r (now (grid .exit))) (run-source full (rows-fit (length (now (words .entry))) (length (now (names .entry)))) (now (source .entry)) (request-of (now (sizes .entry)) (now (grid .entry)) (length (now (scratch .entry))) (length (now (marks .entry))) start steps))) ⌝ }
-{
-    let c = ran_quiet(
-        source,
-        words,
-        names.len(),
-        sizes,
-        grid,
-        scratch,
-        marks,
-        start,
-        steps,
+        quiet,
     );
     store_first(names, c.rows, c.count);
     c.report

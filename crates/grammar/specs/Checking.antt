@@ -46,16 +46,16 @@ reply-of (accepted a) = no-complaint
 unfoldable pub check : Bool → List ℕ → Complaint
 check fit source = reply-of (read-source fit source)
 
--- a room after reading, where `old` stood before: 1 and 2 touch nothing; 3 to 15 leave zeros; an accepted source leaves the program
-abbrev pub room-left : List ℕ → (Accepted → List ℕ) → Outcome → List ℕ
-room-left old new (turned-away number place) = old
-room-left old new (refused number place) = replicate (length old) 0
-room-left old new (accepted a) = new a
+-- a room after reading, where `old` stood before: 1 and 2 touch nothing; 3 to 15 leave empty entries; an accepted source leaves `new` of it
+abbrev pub room-left : {A : Type 0} → A → List A → (Accepted → List A) → Outcome → List A
+room-left none old new (turned-away number place) = old
+room-left none old new (refused number place) = replicate (length old) none
+room-left none old new (accepted a) = new a
 
 -- the word table after a check or a run
 unfoldable pub words-after : Bool → List ℕ → List ℕ → List ℕ
-words-after fit source old = room-left old (λ a. a .words) (read-source fit source)
+words-after fit source old = room-left 0 old (λ a. a .words) (read-source fit source)
 
 -- the name list after a check or a run
 unfoldable pub names-after : Bool → List ℕ → List ℕ → List ℕ
-names-after fit source old = room-left old (λ a. a .names) (read-source fit source)
+names-after fit source old = room-left 0 old (λ a. a .names) (read-source fit source)

@@ -17,7 +17,7 @@ use Rattle.automaton.specs.Quiet.{Lawful, quiet-agrees}
 use Rattle.automaton.specs.Grid.{automaton}
 use Rattle.automaton.specs.Going.{always-open, full-run}
 use Rattle.program.specs.Syntax.{Program}
-use Rattle.grammar.specs.Checking.{rooms-fit, read-source}
+use Rattle.grammar.specs.Checking.{read-source, words-after, names-after}
 use Rattle.semantics.specs.declared.Rule.{Rule}
 use Rattle.semantics.specs.Evaluation.{evaluate}
 use Rattle.semantics.specs.Written.{written-in}
@@ -28,11 +28,11 @@ use Rattle.stepper.specs.Locality.{running-lawful}
 use Rattle.stepper.specs.Report as report
 use Rattle.stepper.specs.Report.{Counting, full, ended, report-of, run}
 use Rattle.services.specs.Services.{run-begins, run-read, run-source, room-after}
-use Rattle.admission.specs.Admitting.{request-of}
+use Rattle.services.specs.Calls.{NameForm, flat-names, Memory, memory, Lent, lent, fits, asked, run-report, names-left, run-left}
 use Rattle.iteration.specs.declared.Report.{Report}
 use Rattle.runner.specs.declared.opening.Opening.{Opening}
 use Rattle.iteration.specs.Stepwise.{Begins, Runs, told, steps-report, Ran}
-use Rattle.runner.specs.Sourcewise.{counting-of, every-step, Begun, Opens, RunsSource}
+use Rattle.runner.specs.Sourcewise.{counting-of, every-step, Begun, Opens, RunLeaves}
 use Rattle.runner.specs.Property3.{Agree, same, property-3}
 
 -- ---- a full run: every cell is open in each step, as if `time` stood in the source
@@ -77,9 +77,9 @@ run-admitted : (counting : Counting) (p : Program) (q : Request) → admission p
 unfolding run
 run-admitted counting p q z = rw (eq-eqb (admission p q .number) 0 z, run)
 
-module _ {fit : Bool} {source sizes : List ℕ} {grid : List ℤ} {scratch marks : ℕ} {start steps : ℤ} {words : List ℕ} {rule : Rule} {r : Reach} {timed : Bool}
-    (b : Begun fit source sizes grid scratch marks start steps words rule r timed) where
-  pub begins-run : {room : List ℤ} {marked : List ℕ} → scratch ≡ length room → marks ≡ length marked → Begins words rule sizes r grid room marked (natAbs start) (natAbs steps)
+module _ {fit : Bool} {source : List ℕ} {q : Request} {words : List ℕ} {rule : Rule} {r : Reach} {timed : Bool} (b : Begun fit source q words rule r timed) where
+  pub begins-run : {room : List ℤ} {marked : List ℕ} → q .scratch ≡ length room → q .marks ≡ length marked
+      → Begins words rule (q .sizes) r (q .grid) room marked (natAbs (q .start)) (natAbs (q .steps))
   begins-run e f =
       record {
         rule-fits = b .rule-fits;
@@ -91,24 +91,22 @@ module _ {fit : Bool} {source sizes : List ℕ} {grid : List ℤ} {scratch marks
         times = b .times;
       }
 
-  laws : Lawful (running (b .read .program) sizes)
-  laws = running-lawful (b .read .program) sizes (b .shaped .dims ∙ sym (b .runs .holds .dims)) (b .runs .flagged)
+  laws : Lawful (running (b .read .program) (q .sizes))
+  laws = running-lawful (b .read .program) (q .sizes) (b .shaped .dims ∙ sym (b .runs .holds .dims)) (b .runs .flagged)
 
-  report-is : (q : Bool) → {said : Report} {grid′ : List ℤ} → Ran words rule sizes r (every-step q timed) (natAbs start) (natAbs steps) grid said grid′
-      → told said grid′ ≡ report-of (counting-of q) (b .read .program) (request-of sizes grid scratch marks start steps)
+  report-is : (way : Bool) → {said : Report} {grid′ : List ℤ} → Ran words rule (q .sizes) r (every-step way timed) (natAbs (q .start)) (natAbs (q .steps)) (q .grid) said grid′
+      → told said grid′ ≡ report-of (counting-of way) (b .read .program) q
   unfolding report-of
-  report-is true ran = ran .says (b .read .program) (b .runs) ∙ steps-quiet (b .read .program) sizes (natAbs steps) (natAbs start) grid laws
-  report-is false ran = ran .says (always (b .read .program)) (runs-always (b .runs)) ∙ steps-full (b .read .program) sizes (natAbs steps) (natAbs start) grid laws
+  report-is true ran = ran .says (b .read .program) (b .runs) ∙ steps-quiet (b .read .program) (q .sizes) (natAbs (q .steps)) (natAbs (q .start)) (q .grid) laws
+  report-is false ran = ran .says (always (b .read .program)) (runs-always (b .runs)) ∙ steps-full (b .read .program) (q .sizes) (natAbs (q .steps)) (natAbs (q .start)) (q .grid) laws
 
-  began : run-begins (request-of sizes grid scratch marks start steps) (read-source fit source) ≡ true
-  began = ap (run-begins (request-of sizes grid scratch marks start steps)) (b .is) ∙ eq-eqb _ 0 (b .admitted)
+  began : run-begins q (read-source fit source) ≡ true
+  began = ap (run-begins q) (b .is) ∙ eq-eqb _ 0 (b .admitted)
 
-  source-report : (q : Bool) → {said : Report} {grid′ : List ℤ} → Ran words rule sizes r (every-step q timed) (natAbs start) (natAbs steps) grid said grid′
-      → told said grid′ ≡ run-source (counting-of q) fit source (request-of sizes grid scratch marks start steps)
+  source-report : (way : Bool) → {said : Report} {grid′ : List ℤ} → Ran words rule (q .sizes) r (every-step way timed) (natAbs (q .start)) (natAbs (q .steps)) (q .grid) said grid′
+      → told said grid′ ≡ run-source (counting-of way) fit source q
   unfolding run-source
-  source-report q ran =
-      report-is q ran ∙ sym (run-admitted (counting-of q) (b .read .program) (request-of sizes grid scratch marks start steps) (b .admitted))
-      ∙ ap (run-read (counting-of q) (request-of sizes grid scratch marks start steps)) (sym (b .is))
+  source-report way ran = report-is way ran ∙ sym (run-admitted (counting-of way) (b .read .program) q (b .admitted)) ∙ ap (run-read (counting-of way) q) (sym (b .is))
 
 -- scratch or marks after a run that began, and after one that did not
 room-cleared : {A : Type 0} (none : A) (fit : Bool) (source : List ℕ) (q : Request) (old : List A) → run-begins q (read-source fit source) ≡ true → replicate (length old) none ≡ room-after none fit source q old
@@ -129,65 +127,66 @@ cast-in z p l = (subst (λ (x : ℤ). T (nonNeg x)) (sym p) tt, record { fits = 
 
 -- ---- the ways through
 
-module _ {source ws ns sizes : List ℕ} {grid : List ℤ} (scratch : List ℤ) (marks : List ℕ) {start steps : ℤ} {r : Opening} {ws′ ns′ : List ℕ}
-    (opens : Opens source ws ns sizes grid (length scratch) (length marks) start steps r ws′ ns′) (q : Bool) where
+-- what a run leaves, by its parts
+pub left-by : {N : Type 0} {form : NameForm N} {counting : Counting} {l : Lent N} {said : Report} {m : Memory N} → told said (m .grid) ≡ run-report form counting l
+    → m .words ≡ words-after (fits form l) (l .source) (l .memory .words) → m .names ≡ names-left form (fits form l) (l .source) (l .memory .names)
+    → m .scratch ≡ room-after (pos 0) (fits form l) (l .source) (asked l) (l .memory .scratch) → m .marks ≡ room-after 0 (fits form l) (l .source) (asked l) (l .memory .marks)
+    → RunLeaves form counting l said m
+unfolding run-left
+left-by e w n s k = record { is = λ i. record { report = e i; memory = record { words = w i; names = n i; grid = e i .grid; scratch = s i; marks = k i } } }
+
+-- and its report
+pub left-report : {N : Type 0} {form : NameForm N} {counting : Counting} {l : Lent N} {said : Report} {m : Memory N} → RunLeaves form counting l said m
+    → told said (m .grid) ≡ run-report form counting l
+unfolding run-left
+left-report h = ap (λ x. x .report) (h .is)
+
+module _ (l : Lent ℕ) {r : Opening} {ws′ ns′ : List ℕ} (opens : Opens (l .source) (l .memory .words) (l .memory .names) (asked l) r ws′ ns′) (way : Bool) where
+  names-are : ns′ ≡ names-left flat-names (fits flat-names l) (l .source) (l .memory .names)
+  unfolding names-after
+  names-are = opens .names
+
   pub closed-run : not (r .begun) ≡ true
-      → RunsSource (counting-of q) source ws ns sizes grid scratch marks start steps (record { number = r .number; place = r .place; cell = 0; steps = 0; count = 0 }) ws′ ns′ grid scratch marks
+      → RunLeaves flat-names (counting-of way) l (record { number = r .number; place = r .place; cell = 0; steps = 0; count = 0 }) (memory ws′ ns′ (l .memory .grid) (l .memory .scratch) (l .memory .marks))
   closed-run e =
       let shut = not-true (r .begun) e in
-      record {
-        report = sym (opens .refuses shut (counting-of q));
-        words = opens .words;
-        names = opens .names;
-        scratch-is = room-kept (pos 0) _ source _ scratch (opens .closed shut);
-        marks-is = room-kept 0 _ source _ marks (opens .closed shut);
-      }
+      left-by (sym (opens .refuses shut (counting-of way))) (opens .words) names-are (room-kept (pos 0) _ (l .source) _ (l .memory .scratch) (opens .closed shut))
+      (room-kept 0 _ (l .source) _ (l .memory .marks) (opens .closed shut))
 
   module _ (e : not (r .begun) ≡ false) where
-    is : Begun (rooms-fit (length ws) (length ns)) source sizes grid (length scratch) (length marks) start steps ws′ (r .rule) (r .reach) (r .timed)
+    is : Begun (fits flat-names l) (l .source) (asked l) ws′ (r .rule) (r .reach) (r .timed)
     is = opens .opened (not-false (r .begun) e)
 
-    pub run-ready : Begins ws′ (r .rule) sizes (r .reach) grid scratch marks (natAbs start) (natAbs steps)
+    pub run-ready : Begins ws′ (r .rule) (l .sizes) (r .reach) (l .memory .grid) (l .memory .scratch) (l .memory .marks) (natAbs (l .start)) (natAbs (l .steps))
     run-ready = begins-run is refl refl
 
-    pub run-done : {all : Bool} {said : Report} {grid′ scratch′ : List ℤ} {marks′ : List ℕ} (n k : ℕ) → all ≡ every-step q (r .timed) → Ran ws′ (r .rule) sizes (r .reach) all (natAbs start) (natAbs steps) grid said grid′
-        → scratch′ ≡ replicate n (pos 0) → length scratch′ ≡ length scratch → marks′ ≡ replicate k 0 → length marks′ ≡ length marks
-        → RunsSource (counting-of q) source ws ns sizes grid scratch marks start steps said ws′ ns′ grid′ scratch′ marks′
-    run-done {all} {said} {grid′} n k a ran s l t m =
-        record {
-          report = source-report is q (subst (λ (x : Bool). Ran ws′ (r .rule) sizes (r .reach) x (natAbs start) (natAbs steps) grid said grid′) a ran);
-          words = opens .words;
-          names = opens .names;
-          scratch-is = cleared (pos 0) n scratch s l ∙ room-cleared (pos 0) _ source _ scratch (began is);
-          marks-is = cleared 0 k marks t m ∙ room-cleared 0 _ source _ marks (began is);
-        }
+    pub run-done : {all : Bool} {said : Report} {grid′ scratch′ : List ℤ} {marks′ : List ℕ} (n k : ℕ) → all ≡ every-step way (r .timed)
+        → Ran ws′ (r .rule) (l .sizes) (r .reach) all (natAbs (l .start)) (natAbs (l .steps)) (l .memory .grid) said grid′
+        → scratch′ ≡ replicate n (pos 0) → length scratch′ ≡ length (l .memory .scratch) → marks′ ≡ replicate k 0 → length marks′ ≡ length (l .memory .marks)
+        → RunLeaves flat-names (counting-of way) l said (memory ws′ ns′ grid′ scratch′ marks′)
+    run-done {all} {said} {grid′} n k a ran s j t m =
+        left-by (source-report is way (subst (λ (x : Bool). Ran ws′ (r .rule) (l .sizes) (r .reach) x (natAbs (l .start)) (natAbs (l .steps)) (l .memory .grid) said grid′) a ran))
+        (opens .words) names-are
+        (cleared (pos 0) n (l .memory .scratch) s j ∙ room-cleared (pos 0) _ (l .source) _ (l .memory .scratch) (began is))
+        (cleared 0 k (l .memory .marks) t m ∙ room-cleared 0 _ (l .source) _ (l .memory .marks) (began is))
 
-    pub cast-start : T (nonNeg start) × Fits w32 (natAbs start)
-    cast-start = cast-in start (is .start-is) (omega (arith, is .times))
+    pub cast-start : T (nonNeg (l .start)) × Fits w32 (natAbs (l .start))
+    cast-start = cast-in (l .start) (is .start-is) (omega (arith, is .times))
 
-    pub cast-steps : T (nonNeg steps) × Fits w32 (natAbs steps)
-    cast-steps = cast-in steps (is .steps-is) (omega (arith, is .times))
+    pub cast-steps : T (nonNeg (l .steps)) × Fits w32 (natAbs (l .steps))
+    cast-steps = cast-in (l .steps) (is .steps-is) (omega (arith, is .times))
 
 -- the times as the machine reads them
-pub read-run : {counting : Counting} {source ws ns sizes : List ℕ} {grid scratch : List ℤ} {marks : List ℕ} {start steps : ℤ} {said : Report} {ws′ ns′ : List ℕ} {grid′ scratch′ : List ℤ} {marks′ : List ℕ} → SFits w64 start → SFits w64 steps
-    → RunsSource counting source ws ns sizes grid scratch marks (toZ w64 (ofZ w64 start)) (toZ w64 (ofZ w64 steps)) said ws′ ns′ grid′ scratch′ marks′
-    → RunsSource counting source ws ns sizes grid scratch marks start steps said ws′ ns′ grid′ scratch′ marks′
-read-run {counting} {source} {ws} {ns} {sizes} {grid} {scratch} {marks} {start} {steps} {said} {ws′} {ns′} {grid′} {scratch′} {marks′} h k =
-    subst₂ (λ (a b : ℤ). RunsSource counting source ws ns sizes grid scratch marks a b said ws′ ns′ grid′ scratch′ marks′) (toZ-ofZ h) (toZ-ofZ k)
+pub read-times : {N : Type 0} {form : NameForm N} {counting : Counting} {source sizes : List ℕ} {m m′ : Memory N} {start steps : ℤ} {said : Report} → SFits w64 start → SFits w64 steps
+    → RunLeaves form counting (lent source sizes m (toZ w64 (ofZ w64 start)) (toZ w64 (ofZ w64 steps))) said m′ → RunLeaves form counting (lent source sizes m start steps) said m′
+read-times {N} {form} {counting} {source} {sizes} {m} {m′} {start} {steps} {said} h k =
+    subst₂ (λ (a b : ℤ). RunLeaves form counting (lent source sizes m a b) said m′) (toZ-ofZ h) (toZ-ofZ k)
 
 -- what a run gives, full or quiet, agrees with the full run of the definition
-pub run-agrees : (way : Bool) {source ws ns sizes : List ℕ} {grid : List ℤ} (scratch : List ℤ) (marks : List ℕ) {start steps : ℤ} {said : Report} {ws′ ns′ : List ℕ} {grid′ scratch′ : List ℤ} {marks′ : List ℕ}
-    → RunsSource (counting-of way) source ws ns sizes grid scratch marks start steps said ws′ ns′ grid′ scratch′ marks′
-    → Agree (told said grid′) (run-source full (rooms-fit (length ws) (length ns)) source (request-of sizes grid (length scratch) (length marks) start steps))
-run-agrees way {source} {ws} {ns} {sizes} {grid} scratch marks {start} {steps} h =
-    subst (λ (r : report.Report). Agree r (run-source full fit source q)) (sym (h .report)) (by way)
+pub run-agrees : {N : Type 0} (form : NameForm N) (way : Bool) (l : Lent N) {said : Report} {m : Memory N} → RunLeaves form (counting-of way) l said m
+    → Agree (told said (m .grid)) (run-report form full l)
+run-agrees form way l h = subst (λ (r : report.Report). Agree r (run-report form full l)) (sym (left-report h)) (by way)
   where
-    fit : Bool
-    fit = rooms-fit (length ws) (length ns)
-
-    q : Request
-    q = request-of sizes grid (length scratch) (length marks) start steps
-
-    by : (way : Bool) → Agree (run-source (counting-of way) fit source q) (run-source full fit source q)
-    by true = property-3 fit source q .agree
-    by false = same (run-source full fit source q)
+    by : (way : Bool) → Agree (run-report form (counting-of way) l) (run-report form full l)
+    by true = property-3 (fits form l) (l .source) (asked l) .agree
+    by false = same (run-report form full l)

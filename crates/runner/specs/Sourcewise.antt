@@ -1,20 +1,20 @@
--- What a run of a source promises: its report, and every entry of the memory that is lent to it.
+-- What the functions of a run of a source promise. The run itself leaves `run-left` of what it is lent (`Calls` in `services`).
 use mathlib.Core.Path.{_≡_}
 use mathlib.Core.Bool.{Bool, true, false}
 use mathlib.Core.List.{List}
 use Prim.Native.Nat.{ℕ, _+_, _<_, _≤_}
 use lib.ListN.{length}
-use lib.IntN.{ℤ, pos, natAbs}
+use lib.IntN.{pos, natAbs}
 use Rattle.automaton.specs.Shape.{product}
 use Rattle.grammar.specs.Source.{Accepted}
 use Rattle.grammar.specs.Checking.{rooms-fit, read-source, accepted, words-after, names-after}
 use Rattle.semantics.specs.declared.Rule.{Rule}
 use Rattle.stepper.specs.declared.Reach.{Reach}
-use Rattle.stepper.specs.Admission.{admission}
+use Rattle.stepper.specs.Admission.{Request, admission}
 use Rattle.stepper.specs.Report.{Counting, full, quiet, refused}
 use Rattle.stepper.specs.Fitting.{Sized, Shaped, Near}
-use Rattle.services.specs.Services.{run-begins, run-source, room-after}
-use Rattle.admission.specs.Admitting.{request-of}
+use Rattle.services.specs.Services.{run-begins, run-source}
+use Rattle.services.specs.Calls.{NameForm, Memory, Lent, run-left}
 use Rattle.iteration.specs.declared.Report.{Report}
 use Rattle.runner.specs.declared.opening.Opening.{Opening}
 use Rattle.iteration.specs.Stepwise.{Runs, told}
@@ -32,36 +32,31 @@ every-step false timed = true
 -- ---- the beginning
 
 -- a run begins: the source is accepted, and its program stands in the table with this reach; the run is admitted
-pub record Begun (fit : Bool) (source sizes : List ℕ) (grid : List ℤ) (scratch marks : ℕ) (start steps : ℤ) (words : List ℕ) (rule : Rule) (r : Reach) (timed : Bool) : Type 0 where
+pub record Begun (fit : Bool) (source : List ℕ) (q : Request) (words : List ℕ) (rule : Rule) (r : Reach) (timed : Bool) : Type 0 where
   pub read : Accepted
   pub is : read-source fit source ≡ accepted read
-  pub admitted : admission (read .program) (request-of sizes grid scratch marks start steps) .number ≡ 0
+  pub admitted : admission (read .program) q .number ≡ 0
   pub runs : Runs words rule r timed (read .program)
   pub rule-fits : Sized (length words) rule
   pub some-dims : 0 < rule .dims
-  pub shaped : Shaped rule sizes (length grid)
-  pub scratch-fits : scratch ≡ length grid
-  pub marks-fit : marks ≡ product sizes
-  pub near : Near sizes r
-  pub start-is : start ≡ pos (natAbs start)
-  pub steps-is : steps ≡ pos (natAbs steps)
-  pub times : natAbs start + natAbs steps ≤ 2147483647
+  pub shaped : Shaped rule (q .sizes) (length (q .grid))
+  pub scratch-fits : q .scratch ≡ length (q .grid)
+  pub marks-fit : q .marks ≡ product (q .sizes)
+  pub near : Near (q .sizes) r
+  pub start-is : q .start ≡ pos (natAbs (q .start))
+  pub steps-is : q .steps ≡ pos (natAbs (q .steps))
+  pub times : natAbs (q .start) + natAbs (q .steps) ≤ 2147483647
 
 -- whether a run of a source begins, and what it leaves of word table and name list
-pub record Opens (source ws ns sizes : List ℕ) (grid : List ℤ) (scratch marks : ℕ) (start steps : ℤ) (r : Opening) (ws′ ns′ : List ℕ) : Type 0 where
+pub record Opens (source ws ns : List ℕ) (q : Request) (r : Opening) (ws′ ns′ : List ℕ) : Type 0 where
   pub words : ws′ ≡ words-after (rooms-fit (length ws) (length ns)) source ws
   pub names : ns′ ≡ names-after (rooms-fit (length ws) (length ns)) source ns
-  pub closed : r .begun ≡ false → run-begins (request-of sizes grid scratch marks start steps) (read-source (rooms-fit (length ws) (length ns)) source) ≡ false
-  pub refuses : r .begun ≡ false → (counting : Counting)
-      → run-source counting (rooms-fit (length ws) (length ns)) source (request-of sizes grid scratch marks start steps) ≡ refused (r .number) (r .place) grid
-  pub opened : r .begun ≡ true → Begun (rooms-fit (length ws) (length ns)) source sizes grid scratch marks start steps ws′ (r .rule) (r .reach) (r .timed)
+  pub closed : r .begun ≡ false → run-begins q (read-source (rooms-fit (length ws) (length ns)) source) ≡ false
+  pub refuses : r .begun ≡ false → (counting : Counting) → run-source counting (rooms-fit (length ws) (length ns)) source q ≡ refused (r .number) (r .place) (q .grid)
+  pub opened : r .begun ≡ true → Begun (rooms-fit (length ws) (length ns)) source q ws′ (r .rule) (r .reach) (r .timed)
 
 -- ---- the whole run
 
--- the report with the grid that is left, the word table and the name list, scratch and marks, are those of the definitions
-pub record RunsSource (counting : Counting) (source ws ns sizes : List ℕ) (grid scratch : List ℤ) (marks : List ℕ) (start steps : ℤ) (r : Report) (ws′ ns′ : List ℕ) (grid′ scratch′ : List ℤ) (marks′ : List ℕ) : Type 0 where
-  pub report : told r grid′ ≡ run-source counting (rooms-fit (length ws) (length ns)) source (request-of sizes grid (length scratch) (length marks) start steps)
-  pub words : ws′ ≡ words-after (rooms-fit (length ws) (length ns)) source ws
-  pub names : ns′ ≡ names-after (rooms-fit (length ws) (length ns)) source ns
-  pub scratch-is : scratch′ ≡ room-after (pos 0) (rooms-fit (length ws) (length ns)) source (request-of sizes grid (length scratch) (length marks) start steps) scratch
-  pub marks-is : marks′ ≡ room-after 0 (rooms-fit (length ws) (length ns)) source (request-of sizes grid (length scratch) (length marks) start steps) marks
+-- the numbers that a run returns, and the memory that it leaves, are those of the definition
+pub record RunLeaves {N : Type 0} (form : NameForm N) (counting : Counting) (l : Lent N) (r : Report) (m : Memory N) : Type 0 where
+  pub is : record { report = told r (m .grid); memory = m } ≡ run-left form counting l

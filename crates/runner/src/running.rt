@@ -1,12 +1,9 @@
 // A run of a source, full or quiet.
 ghost use mathlib.Core.Path.{_≡_};
-ghost use lib.ListN.{length};
-ghost use Rattle.grammar.specs.Checking.{rooms-fit};
 ghost use Rattle.stepper.specs.Report.{full};
-ghost use Rattle.services.specs.Services.{run-source};
-ghost use Rattle.admission.specs.Admitting.{request-of};
+ghost use Rattle.services.specs.Calls.{flat-names, memory, lent, run-report};
 ghost use Rattle.iteration.specs.Stepwise.{told};
-ghost use Rattle.runner.specs.Sourcewise.{counting-of, every-step, RunsSource};
+ghost use Rattle.runner.specs.Sourcewise.{counting-of, every-step, RunLeaves};
 ghost use Rattle.runner.specs.Property3.{Agree};
 use crate::opening::open_run;
 use iteration::Report;
@@ -38,8 +35,8 @@ pub fn run(
     steps: i64,
     quiet: bool,
 ) -> Report
-    ensures { λ r. ⌜ RunsSource (counting-of quiet) (now (source .entry)) (now (words .entry)) (now (names .entry)) (now (sizes .entry)) (now (grid .entry)) (now (scratch .entry)) (now (marks .entry)) start steps r (now (words .exit)) (now (names .exit)) (now (grid .exit)) (now (scratch .exit)) (now (marks .exit)) ⌝ }
-    ensures agrees { λ r. ⌜ Agree (told r (now (grid .exit))) (run-source full (rooms-fit (length (now (words .entry))) (length (now (names .entry)))) (now (source .entry)) (request-of (now (sizes .entry)) (now (grid .entry)) (length (now (scratch .entry))) (length (now (marks .entry))) start steps)) ⌝ }
+    ensures { λ r. ⌜ RunLeaves flat-names (counting-of quiet) (lent (now (source .entry)) (now (sizes .entry)) (memory (now (words .entry)) (now (names .entry)) (now (grid .entry)) (now (scratch .entry)) (now (marks .entry))) start steps) r (memory (now (words .exit)) (now (names .exit)) (now (grid .exit)) (now (scratch .exit)) (now (marks .exit))) ⌝ }
+    ensures agrees { λ r. ⌜ Agree (told r (now (grid .exit))) (run-report flat-names full (lent (now (source .entry)) (now (sizes .entry)) (memory (now (words .entry)) (now (names .entry)) (now (grid .entry)) (now (scratch .entry)) (now (marks .entry))) start steps)) ⌝ }
 {
     let opening = open_run(
         source,

@@ -1,4 +1,5 @@
 -- Runs of a source, and the marked examples. Read in this order.
 pub mod Services
+pub mod Calls
 pub mod Cases
 pub mod Examples

@@ -1,7 +1,8 @@
 // Running a source.
 ghost use Rattle.stepper.specs.Report.{full, quiet};
+ghost use Rattle.services.specs.Calls.{flat-names, memory, lent, run-report};
 ghost use Rattle.runner.specs.Property3.{Agree};
-ghost use Rattle.cellang.specs.Told.{told-run, TellsRun};
+ghost use Rattle.cellang.specs.Told.{TellsRun};
 use entries::put_report;
 use runner::run;
 
@@ -20,7 +21,7 @@ pub extern "C" fn cellang_run_full(
     steps: i64,
     report: &mut [u64],
 ) -> u32
-    ensures { λ r. ⌜ TellsRun full (now (source .entry)) (now (words .entry)) (now (names .entry)) (now (sizes .entry)) (now (grid .entry)) (now (scratch .entry)) (now (marks .entry)) start steps (now (report .entry)) r (now (words .exit)) (now (names .exit)) (now (grid .exit)) (now (scratch .exit)) (now (marks .exit)) (now (report .exit)) ⌝ }
+    ensures { λ r. ⌜ TellsRun full (lent (now (source .entry)) (now (sizes .entry)) (memory (now (words .entry)) (now (names .entry)) (now (grid .entry)) (now (scratch .entry)) (now (marks .entry))) start steps) (now (report .entry)) r (memory (now (words .exit)) (now (names .exit)) (now (grid .exit)) (now (scratch .exit)) (now (marks .exit))) (now (report .exit)) ⌝ }
 {
     let told = run(
         source,
@@ -60,8 +61,8 @@ pub extern "C" fn cellang_run_quiet(
     steps: i64,
     report: &mut [u64],
 ) -> u32
-    ensures { λ r. ⌜ TellsRun quiet (now (source .entry)) (now (words .entry)) (now (names .entry)) (now (sizes .entry)) (now (grid .entry)) (now (scratch .entry)) (now (marks .entry)) start steps (now (report .entry)) r (now (words .exit)) (now (names .exit)) (now (grid .exit)) (now (scratch .exit)) (now (marks .exit)) (now (report .exit)) ⌝ }
-    ensures agrees { λ _. ⌜ Agree (told-run quiet (now (source .entry)) (now (words .entry)) (now (names .entry)) (now (sizes .entry)) (now (grid .entry)) (now (scratch .entry)) (now (marks .entry)) start steps) (told-run full (now (source .entry)) (now (words .entry)) (now (names .entry)) (now (sizes .entry)) (now (grid .entry)) (now (scratch .entry)) (now (marks .entry)) start steps) ⌝ }
+    ensures { λ r. ⌜ TellsRun quiet (lent (now (source .entry)) (now (sizes .entry)) (memory (now (words .entry)) (now (names .entry)) (now (grid .entry)) (now (scratch .entry)) (now (marks .entry))) start steps) (now (report .entry)) r (memory (now (words .exit)) (now (names .exit)) (now (grid .exit)) (now (scratch .exit)) (now (marks .exit))) (now (report .exit)) ⌝ }
+    ensures agrees { λ _. ⌜ Agree (run-report flat-names quiet (lent (now (source .entry)) (now (sizes .entry)) (memory (now (words .entry)) (now (names .entry)) (now (grid .entry)) (now (scratch .entry)) (now (marks .entry))) start steps)) (run-report flat-names full (lent (now (source .entry)) (now (sizes .entry)) (memory (now (words .entry)) (now (names .entry)) (now (grid .entry)) (now (scratch .entry)) (now (marks .entry))) start steps)) ⌝ }
 {
     let told = run(
         source,

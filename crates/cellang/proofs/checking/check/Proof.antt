@@ -1,4 +1,4 @@
--- A walk of the MIR, by hand, with two calls and no branch.
+-- A walk of the MIR, by hand, with two calls and no branch, written by tools/entry_walk.py.
 -- Each `&mut` slice goes to a callee for good, at its own lifetime, share and name; a `&` slice is Copy, and one copy of what it owns is kept for the exit.
 use mathlib.Core.Path.{_≡_, refl, sym, _∙_, ap, subst}
 use Prim.Native.Nat.{ℕ, _≤_, _<_, _^_}
@@ -120,17 +120,12 @@ module _ {M : Type 1} (𝓤 : URA M) (H : Heap 𝓤) (A : Atoms 𝓤) (W : Given
   may-store : (r : Answer) (z1 : List ℕ) → Said r z1 → (r .count ≤ 256) × (r .count ≤ length v2)
   may-store r z1 e = e .few
 
-  exits : (r : Answer) (z1 : List ℕ) (ns : List Name) → Is ReplyRow (r .reply) (reply-mach (r .reply) ∷ []) → Said r z1 → Stored r ns → length z1 ≡ length v1
-      → length ns ≡ length v2
-      → ent 𝓤 (⋆ 𝓤 H A ((‵ (flft κ0 q0) ⊛ ‵ (flft κ1 q1) ⊛ ‵ ftrue) ∷ (‵ (flft κ2 q2) ⊛ ‵ ftrue) ∷ ‵ Own0 ∷ ‵ (finally u32 γ1 z1) ∷ ‵ (finally Row γ2 ns) ∷ []))
-      (Post (reply-mach (r .reply)))
+  exits : (r : Answer) (z1 : List ℕ) (ns : List Name) → Is ReplyRow (r .reply) (reply-mach (r .reply) ∷ []) → Said r z1 → Stored r ns → length z1 ≡ length v1 → length ns ≡ length v2
+      → ent 𝓤 (⋆ 𝓤 H A ((‵ (flft κ0 q0) ⊛ ‵ (flft κ1 q1) ⊛ ‵ ftrue) ∷ (‵ (flft κ2 q2) ⊛ ‵ ftrue) ∷ ‵ Own0 ∷ ‵ (finally u32 γ1 z1) ∷ ‵ (finally Row γ2 ns) ∷ [])) (Post (reply-mach (r .reply)))
   exits r z1 ns is e h l1 ln =
       qed W ((‵ (flft κ0 q0) ⊛ ‵ (flft κ1 q1) ⊛ ‵ ftrue) ∷ (‵ (flft κ2 q2) ⊛ ‵ ftrue) ∷ ‵ Own0 ∷ ‵ (finally u32 γ1 z1) ∷ ‵ (finally Row γ2 ns) ∷ []) ∵
-      suffices ! _ (ends-at 𝓤 H A f.ended stayed (f.clauses 𝓤 H A mem run) W (((κ0, (κ1, (κ2, tt))), (q0, (q1, (q2, tt))), tt, x, at), tt) (reply-mach (r .reply)) (r .reply)
-      (tt, (z1, (ns, tt))) (tt, (l1, (ln, tt)))) $
-      says ! (all-said r z1 ns e h) $ split ! $ move ! (1 ∷ []) $ split ! $ move ! (1 ∷ []) $ drop ! $ move ! (2 ∷ []) $ split ! $ join ! $ move ! (1 ∷ 0 ∷ []) $ join ! $
-      move ! (1 ∷ 0 ∷ []) $ join ! $ frame ! $ nothing ! $ move ! (3 ∷ 0 ∷ []) $ fjoin ! $ move ! (2 ∷ 0 ∷ []) $ fjoin ! $ move ! (1 ∷ 0 ∷ []) $ fjoin ! $
-      owned ! ReplyRow (Is ReplyRow) (reply-makes 𝓤 H A) (r .reply) _ is $ move ! (1 ∷ 0 ∷ []) $ done !
+      suffices ! _ (ends-at 𝓤 H A f.ended stayed (f.clauses 𝓤 H A mem run) W (((κ0, (κ1, (κ2, tt))), (q0, (q1, (q2, tt))), tt, x, at), tt) (reply-mach (r .reply)) (r .reply) (tt, (z1, (ns, tt))) (tt, (l1, (ln, tt)))) $
+      says ! (all-said r z1 ns e h) $ split ! $ move ! (1 ∷ []) $ split ! $ move ! (1 ∷ []) $ drop ! $ move ! (2 ∷ []) $ split ! $ join ! $ move ! (1 ∷ 0 ∷ []) $ join ! $ move ! (1 ∷ 0 ∷ []) $ join ! $ frame ! $ nothing ! $ move ! (3 ∷ 0 ∷ []) $ fjoin ! $ move ! (2 ∷ 0 ∷ []) $ fjoin ! $ move ! (1 ∷ 0 ∷ []) $ fjoin ! $ owned ! ReplyRow (Is ReplyRow) (reply-makes 𝓤 H A) (r .reply) _ is $ move ! (1 ∷ 0 ∷ []) $ done !
 
   -- what each callee's triple binds outside, and that the caller has what it asks
   abbrev to-ck : Ck 𝓤 H A mem run .Ghost
@@ -149,88 +144,57 @@ module _ {M : Type 1} (𝓤 : URA M) (H : Heap 𝓤) (A : Atoms 𝓤) (W : Given
       → ent 𝓤 (sep 𝓤 (A .lft κ2 q2) (sem 𝓤 H A Own2)) (Sf 𝓤 H A mem run .pre (to-sf r))
   goes-sf r is fits within =
       qed W (‵ (flft κ2 q2) ∷ ‵ Own2 ∷ []) ∵ says ! within $ nothing ! $ move ! (1 ∷ 0 ∷ []) $ join ! $ frame ! $
-      nothing ! $ owned ! usize (Is usize) (uint-makes 𝓤 H A W w64) (r .count) _ (refl, fits) $ fjoin ! $
-      owned ! (Array Row 256) (Is (Array Row 256)) (array-makes 𝓤 H A W Row (makes 𝓤 H A) 256) (r .rows) _ is $ fjoin ! $
+      nothing ! $ owned ! usize (Is usize) (uint-makes 𝓤 H A W w64) (r .count) _ (refl, fits) $ fjoin ! $ owned ! (Array Row 256) (Is (Array Row 256)) (array-makes 𝓤 H A W Row (makes 𝓤 H A) 256) (r .rows) _ is $ fjoin ! $
       move ! (1 ∷ 0 ∷ []) $ fjoin ! $ done !
 
   module _ (C : Calls 𝓤 H) (Λ : Loops 𝓤 H) (fm : FmC 𝓤 H (W .laws) C) (known-ck : Triple 𝓤 (C #ck) (Ck 𝓤 H A mem run)) (known-sf : Triple 𝓤 (C #sf) (Sf 𝓤 H A mem run)) where
     walk : ent 𝓤 (onEntry 𝓤 H A f.signature (κ0, (κ1, (κ2, tt))) (q0, (q1, (q2, tt))) x at) (WpFn 𝓤 H C Λ code.function (s0 ∷ s1 ∷ s2 ∷ []) Post)
     walk =
-        qed W ((‵ (flft κ0 q0) ⊛ ‵ (flft κ1 q1) ⊛ ‵ (flft κ2 q2) ⊛ ‵ ftrue) ∷ ‵ (owns (ShrSlice (named 0) κ0 u8 ∷ MutSlice (named 1) κ1 u32 ∷ MutSlice (named 2) κ2 Row ∷ [])
-        x at) ∷ []) ∵ enter ! C Λ code.function (s0 ∷ s1 ∷ s2 ∷ []) _ $
-        alloc1 ! (λ l0. alloc1 ! (λ l1. alloc1 ! (λ l2. alloc1 ! (λ l3. alloc1 ! (λ l4. alloc1 !
-        (λ l5. alloc1 ! (λ l6. alloc1 ! (λ l7. alloc1 ! (λ l8. alloc1 ! (λ l9. alloc1 ! (λ l10. alloc0 ! $ params1 ! $
-        pass1 ! (init ! 18 refl (tt, (tt, (record { fits = g0 .0 }, tt)))) $ pass1 ! (init ! 16 refl (tt, (tt, (record { fits = g1 .0 }, tt)))) $
-        pass1 ! (init ! 14 refl (tt, (tt, (record { fits = g2 .0 }, tt)))) $ pass0 ! $
+        qed W ((‵ (flft κ0 q0) ⊛ ‵ (flft κ1 q1) ⊛ ‵ (flft κ2 q2) ⊛ ‵ ftrue) ∷ ‵ (owns (ShrSlice (named 0) κ0 u8 ∷ MutSlice (named 1) κ1 u32 ∷ MutSlice (named 2) κ2 Row ∷ []) x at) ∷ []) ∵ enter ! C Λ code.function (s0 ∷ s1 ∷ s2 ∷ []) _ $
+        alloc1 ! (λ l0. alloc1 ! (λ l1. alloc1 ! (λ l2. alloc1 ! (λ l3. alloc1 ! (λ l4. alloc1 ! (λ l5. alloc1 ! (λ l6. alloc1 ! (λ l7. alloc1 ! (λ l8. alloc1 ! (λ l9. alloc1 ! (λ l10. alloc0 ! $ params1 ! $
+        pass1 ! (init ! 18 refl (tt, (tt, (record { fits = g0 .0 }, tt)))) $ pass1 ! (init ! 16 refl (tt, (tt, (record { fits = g1 .0 }, tt)))) $ pass1 ! (init ! 14 refl (tt, (tt, (record { fits = g2 .0 }, tt)))) $ pass0 ! $
         assigns ! (addr ! (from ! (fld ! refl (hop ! (look-in ! 16 (sub ! 0 refl (whole !))) (stop !))))) (from ! (stop !)) (init ! 10 refl (tt, tt)) $
-        assigns ! (agg ! (and-then ! (load ! (from ! (stop !)) (look ! 10 refl)) (and-then ! (load ! (from ! (fld ! refl (stop !))) (look-in ! 16 (sub ! 1 refl (whole !))))
-        (no-more !)))) (from ! (stop !)) (init ! 8 refl (tt, (tt, (record { fits = g1 .0 }, tt)))) $
+        assigns ! (agg ! (and-then ! (load ! (from ! (stop !)) (look ! 10 refl)) (and-then ! (load ! (from ! (fld ! refl (stop !))) (look-in ! 16 (sub ! 1 refl (whole !)))) (no-more !)))) (from ! (stop !)) (init ! 8 refl (tt, (tt, (record { fits = g1 .0 }, tt)))) $
         assigns ! (of-opd ! (load ! (from ! (fld ! refl (stop !))) (look-in ! 14 (sub ! 1 refl (whole !))))) (from ! (stop !)) (init ! 6 refl (tt, record { fits = g2 .0 })) $
         -- what the parameters own is taken apart; of a `&` slice it is had twice
-        move ! (23 ∷ []) $ fsplit ! $ use1 W (‵ Own0 ⊛ ‵ Own0) (shr-slice-copy 𝓤 H A W (named 0) κ0 u8 .twice x0 (s0 ∷ [])) $ split ! $ move ! (2 ∷ []) $ fsplit ! $
-        move ! (1 ∷ []) $ fsplit ! $ move ! (27 ∷ []) $ split ! $ move ! (1 ∷ []) $ split ! $ move ! (1 ∷ []) $ split ! $
+        move ! (23 ∷ []) $ fsplit ! $ use1 W (‵ Own0 ⊛ ‵ Own0) (shr-slice-copy 𝓤 H A W (named 0) κ0 u8 .twice x0 (s0 ∷ [])) $ split ! $ move ! (2 ∷ []) $ fsplit ! $ move ! (1 ∷ []) $ fsplit ! $ move ! (27 ∷ []) $ split ! $ move ! (1 ∷ []) $ split ! $ move ! (1 ∷ []) $ split ! $
         -- the core is called
-        nothing ! $ move ! (3 ∷ 0 ∷ []) $ join ! $ move ! (3 ∷ 0 ∷ []) $ join ! $ nothing ! $ owned ! usize (Is usize) (uint-makes 𝓤 H A W w64) (length v2) _ (refl, g2 .0) $
-        fjoin ! $ move ! (6 ∷ 0 ∷ []) $ fjoin ! $ move ! (6 ∷ 0 ∷ []) $ fjoin ! $ move ! (1 ∷ 0 ∷ []) $ use2 W (raw (Ck 𝓤 H A mem run .pre to-ck)) goes-ck $
-        calls-at ! fm (Ck 𝓤 H A mem run) known-ck to-ck (and-then ! (load ! (from ! (stop !)) (look ! 24 refl))
-        (and-then ! (load ! (from ! (stop !)) (look ! 14 refl)) (and-then ! (load ! (from ! (stop !)) (look ! 12 refl)) (no-more !)))) (λ v.
-        use1 W (later (some (λ (r : Answer). ((‵ (flft κ0 q0) ⊛ ‵ (flft κ1 q1) ⊛ ‵ ftrue) ⊛ ‵ (OutRow .own r (v ∷ []))) ⊛
-        raw (ensured 𝓤 H A ck.ended (ck.clauses 𝓤 H A mem run) (κ0, (κ1, tt)) (x0, (x1, (length v2, tt))) tt r)))) (id⊢ 𝓤 _) $ await ! tt $ pick ! (λ r.
-        split ! $ move ! (1 ∷ []) $
-        use1 W (some (λ (zs : (Unit {0}) × ((List ℕ) × ((Unit {0}) × (Unit {0})))). ‵ (lasts ck.ended (κ0, (κ1, tt)) (x0, (x1, (length v2, tt))) zs) ⊛
-        raw (fact 𝓤 (Said r (zs .1 .0))))) (id⊢ 𝓤 _) $ pick ! (λ zs.
+        nothing ! $ move ! (3 ∷ 0 ∷ []) $ join ! $ move ! (3 ∷ 0 ∷ []) $ join ! $ nothing ! $ owned ! usize (Is usize) (uint-makes 𝓤 H A W w64) (length v2) _ (refl, g2 .0) $ fjoin ! $ move ! (6 ∷ 0 ∷ []) $ fjoin ! $ move ! (6 ∷ 0 ∷ []) $ fjoin ! $ move ! (1 ∷ 0 ∷ []) $ use2 W (raw (Ck 𝓤 H A mem run .pre to-ck)) goes-ck $
+        calls-at ! fm (Ck 𝓤 H A mem run) known-ck to-ck (and-then ! (load ! (from ! (stop !)) (look ! 24 refl)) (and-then ! (load ! (from ! (stop !)) (look ! 14 refl)) (and-then ! (load ! (from ! (stop !)) (look ! 12 refl)) (no-more !)))) (λ v.
+        use1 W (later (some (λ (r : Answer). ((‵ (flft κ0 q0) ⊛ ‵ (flft κ1 q1) ⊛ ‵ ftrue) ⊛ ‵ (OutRow .own r (v ∷ []))) ⊛ raw (ensured 𝓤 H A ck.ended (ck.clauses 𝓤 H A mem run) (κ0, (κ1, tt)) (x0, (x1, (length v2, tt))) tt r)))) (id⊢ 𝓤 _) $ await ! tt $ pick ! (λ r.
+        split ! $ move ! (1 ∷ []) $ use1 W (some (λ (zs : (Unit {0}) × ((List ℕ) × ((Unit {0}) × (Unit {0})))). ‵ (lasts ck.ended (κ0, (κ1, tt)) (x0, (x1, (length v2, tt))) zs) ⊛ raw (fact 𝓤 (Said r (zs .1 .0))))) (id⊢ 𝓤 _) $ pick ! (λ zs.
         split ! $ move ! (1 ∷ []) $ heard ! (Said r (zs .1 .0)) (λ e. fsplit ! $ drop ! $ fsplit ! $ fsplit ! $ move ! (1 ∷ []) $ feqL ! (λ l1.
         move ! (2 ∷ []) $ split ! $ move ! (1 ∷ []) $ peeks ! OutRow (Is OutRow) (shows 𝓤 H A OutRow) r (v ∷ []) (λ is.
-        land ! (from ! (stop !)) (init ! 21 refl (out-typed 𝓤 H A W r v is)) $
-        rewrite ! 21 (λ (y : Val). ‵ (fat fullShare O′.mir l4 0 y)) (ap only (out-tells r (v ∷ []) is)) refl $ drop ! $
+        land ! (from ! (stop !)) (init ! 21 refl (out-typed 𝓤 H A W r v is)) $ rewrite ! 21 (λ (y : Val). ‵ (fat fullShare O′.mir l4 0 y)) (ap only (out-tells r (v ∷ []) is)) refl $ drop ! $
         -- `store_first` is called
         assigns ! (addr ! (from ! (fld ! refl (hop ! (look-in ! 22 (sub ! 0 refl (whole !))) (stop !))))) (from ! (stop !)) (init ! 10 refl (tt, tt)) $
-        assigns ! (agg ! (and-then ! (load ! (from ! (stop !)) (look ! 10 refl)) (and-then ! (load ! (from ! (fld ! refl (stop !))) (look-in ! 22 (sub ! 1 refl (whole !))))
-        (no-more !)))) (from ! (stop !)) (init ! 8 refl (tt, (tt, (record { fits = g2 .0 }, tt)))) $
+        assigns ! (agg ! (and-then ! (load ! (from ! (stop !)) (look ! 10 refl)) (and-then ! (load ! (from ! (fld ! refl (stop !))) (look-in ! 22 (sub ! 1 refl (whole !)))) (no-more !)))) (from ! (stop !)) (init ! 8 refl (tt, (tt, (record { fits = g2 .0 }, tt)))) $
         move ! (3 ∷ 5 ∷ []) $ use2 W (raw (Sf 𝓤 H A mem run .pre (to-sf r))) (goes-sf r (rows-is r v is) (count-fits r v is) (may-store r (zs .1 .0) e)) $
-        calls-at ! fm (Sf 𝓤 H A mem run) known-sf (to-sf r) (and-then ! (load ! (from ! (stop !)) (look ! 7 refl))
-        (and-then ! (load ! (from ! (fld ! refl (stop !))) (look-in ! 19 (sub ! 1 refl (whole !))))
-        (and-then ! (load ! (from ! (fld ! refl (stop !))) (look-in ! 19 (sub ! 2 refl (whole !)))) (no-more !)))) (λ y.
-        use1 W (later (some (λ (z : Unit {0}). ((‵ (flft κ2 q2) ⊛ ‵ ftrue) ⊛ ‵ (unit .own z (y ∷ []))) ⊛
-        raw (ensured 𝓤 H A sf.ended (sf.clauses 𝓤 H A mem run) (κ2, tt) (x2, (r .rows, (r .count, tt))) tt z)))) (id⊢ 𝓤 _) $ await ! tt $ pick ! (λ z.
-        split ! $ move ! (1 ∷ []) $
-        use1 W (some (λ (ns : List Name × (Unit {0} × (Unit {0} × Unit {0}))). ‵ (lasts sf.ended (κ2, tt) (x2, (r .rows, (r .count, tt))) ns) ⊛ raw (fact 𝓤 (Stored r (ns .0)))))
-        (id⊢ 𝓤 _) $ pick ! (λ ns.
-        split ! $ move ! (1 ∷ []) $ heard ! (Stored r (ns .0)) (λ h. fsplit ! $ fsplit ! $ move ! (1 ∷ []) $ feqL ! (λ ln. move ! (2 ∷ []) $ split ! $ move ! (1 ∷ []) $
-        feqL ! (λ eu.
+        calls-at ! fm (Sf 𝓤 H A mem run) known-sf (to-sf r) (and-then ! (load ! (from ! (stop !)) (look ! 7 refl)) (and-then ! (load ! (from ! (fld ! refl (stop !))) (look-in ! 19 (sub ! 1 refl (whole !)))) (and-then ! (load ! (from ! (fld ! refl (stop !))) (look-in ! 19 (sub ! 2 refl (whole !)))) (no-more !)))) (λ y.
+        use1 W (later (some (λ (z : Unit {0}). ((‵ (flft κ2 q2) ⊛ ‵ ftrue) ⊛ ‵ (unit .own z (y ∷ []))) ⊛ raw (ensured 𝓤 H A sf.ended (sf.clauses 𝓤 H A mem run) (κ2, tt) (x2, (r .rows, (r .count, tt))) tt z)))) (id⊢ 𝓤 _) $ await ! tt $ pick ! (λ z.
+        split ! $ move ! (1 ∷ []) $ use1 W (some (λ (ns : List Name × (Unit {0} × (Unit {0} × Unit {0}))). ‵ (lasts sf.ended (κ2, tt) (x2, (r .rows, (r .count, tt))) ns) ⊛ raw (fact 𝓤 (Stored r (ns .0))))) (id⊢ 𝓤 _) $ pick ! (λ ns.
+        split ! $ move ! (1 ∷ []) $ heard ! (Stored r (ns .0)) (λ h. fsplit ! $ fsplit ! $ move ! (1 ∷ []) $ feqL ! (λ ln. move ! (2 ∷ []) $ split ! $ move ! (1 ∷ []) $ feqL ! (λ eu.
         land ! (from ! (stop !)) (init ! 13 refl (subst (λ (k : Val). T (hasTy tyUnit k) × WT k) (sym (ap only eu)) (tt, tt))) $
-        assigns ! (of-opd ! (load ! (from ! (fld ! refl (stop !))) (look-in ! 21 (sub ! 0 refl (whole !))))) (from ! (stop !))
-        (init ! 29 refl (reply-typed 𝓤 H A W (r .reply) (reply-is r v is))) $
-        returns ! (look ! 29 refl) $ forget ! 29 refl $ forget ! 27 refl $ forget ! 25 refl $ forget ! 23 refl $ forget ! 21 refl $ forget ! 19 refl $ forget ! 17 refl $
-        forget ! 15 refl $ forget ! 13 refl $ forget ! 11 refl $ forget ! 9 refl $
-        move ! (29 ∷ 30 ∷ []) $ free1 ! $ move ! (27 ∷ 28 ∷ []) $ free1 ! $ move ! (25 ∷ 26 ∷ []) $ free1 ! $ move ! (23 ∷ 24 ∷ []) $ free1 ! $ move ! (21 ∷ 22 ∷ []) $ free1 ! $
-        move ! (19 ∷ 20 ∷ []) $ free1 ! $ move ! (17 ∷ 18 ∷ []) $ free1 ! $ move ! (15 ∷ 16 ∷ []) $ free1 ! $ move ! (13 ∷ 14 ∷ []) $ free1 ! $ move ! (11 ∷ 12 ∷ []) $ free1 ! $
-        move ! (9 ∷ 10 ∷ []) $ free1 ! $ free0 ! $
+        assigns ! (of-opd ! (load ! (from ! (fld ! refl (stop !))) (look-in ! 21 (sub ! 0 refl (whole !))))) (from ! (stop !)) (init ! 29 refl (reply-typed 𝓤 H A W (r .reply) (reply-is r v is))) $
+        returns ! (look ! 29 refl) $ forget ! 29 refl $ forget ! 27 refl $ forget ! 25 refl $ forget ! 23 refl $ forget ! 21 refl $ forget ! 19 refl $ forget ! 17 refl $ forget ! 15 refl $ forget ! 13 refl $ forget ! 11 refl $ forget ! 9 refl $
+        move ! (29 ∷ 30 ∷ []) $ free1 ! $ move ! (27 ∷ 28 ∷ []) $ free1 ! $ move ! (25 ∷ 26 ∷ []) $ free1 ! $ move ! (23 ∷ 24 ∷ []) $ free1 ! $ move ! (21 ∷ 22 ∷ []) $ free1 ! $ move ! (19 ∷ 20 ∷ []) $ free1 ! $ move ! (17 ∷ 18 ∷ []) $ free1 ! $ move ! (15 ∷ 16 ∷ []) $ free1 ! $ move ! (13 ∷ 14 ∷ []) $ free1 ! $ move ! (11 ∷ 12 ∷ []) $ free1 ! $ move ! (9 ∷ 10 ∷ []) $ free1 ! $ free0 ! $
         keep ! (3 ∷ 0 ∷ 8 ∷ 4 ∷ 1 ∷ []) $ by ! (exits r (zs .1 .0) (ns .0) (reply-is r v is) e h l1 ln))))))))))))))))))))))))
 
 module _ {M : Type 1} (𝓤 : URA M) (H : Heap 𝓤) (A : Atoms 𝓤) (W : Given 𝓤 H A) (mem : Memory → SProp 𝓤) (run : Routine → Fun 𝓤) where
   walks : (C : Calls 𝓤 H) (Λ : Loops 𝓤 H) → FmC 𝓤 H (W .laws) C → Triple 𝓤 (C #ck) (Ck 𝓤 H A mem run) → Triple 𝓤 (C #sf) (Sf 𝓤 H A mem run)
       → Walks 𝓤 H A f.ended stayed (WpFn 𝓤 H C Λ code.function) (f.clauses 𝓤 H A mem run)
   walks C Λ fm known-ck known-sf = walked 𝓤 H A f.ended stayed (f.clauses 𝓤 H A mem run) (WpFn 𝓤 H C Λ code.function)
-      (λ κs. (slice-vals, (slice-vals, (slice-vals, tt)))) (λ κs. (
-        shr-slice-tells (named 0) (κs .0) u8,
-        (mut-slice-tells (named 1) (κs .1 .0) u32, (mut-slice-tells (named 2) (κs .1 .1 .0) Row, tt)),
-      ))
+      (λ κs. (slice-vals, (slice-vals, (slice-vals, tt)))) (λ κs. (shr-slice-tells (named 0) (κs .0) u8, (mut-slice-tells (named 1) (κs .1 .0) u32, (mut-slice-tells (named 2) (κs .1 .1 .0) Row, tt))))
       (λ κs qs bounds a _ are. via 𝓤 _ (fst∗ 𝓤 _ (emp 𝓤)) (walk 𝓤 H A W mem run (κs .0) (κs .1 .0) (κs .1 .1 .0) (qs .0) (qs .1 .0) (qs .1 .1 .0)
-      (a .0 .ptr .0) (a .0 .ptr .1) (a .0 .name) (a .0 .now) (a .1 .0 .ptr .0) (a .1 .0 .ptr .1) (a .1 .0 .name) (a .1 .0 .now) (a .1 .1 .0 .ptr .0) (a .1 .1 .0 .ptr .1)
-      (a .1 .1 .0 .name) (a .1 .1 .0 .now)
+      (a .0 .ptr .0) (a .0 .ptr .1) (a .0 .name) (a .0 .now) (a .1 .0 .ptr .0) (a .1 .0 .ptr .1) (a .1 .0 .name) (a .1 .0 .now) (a .1 .1 .0 .ptr .0) (a .1 .1 .0 .ptr .1) (a .1 .1 .0 .name) (a .1 .1 .0 .now)
       (are .0 .0 .1) (are .1 .0 .0 .1) (are .1 .1 .0 .0 .1) C Λ fm known-ck known-sf))
 
 meets : {M : Type 1} (𝓤 : URA M) (H : Heap 𝓤) (A : Atoms 𝓤) → Given 𝓤 H A → (mem : Memory → SProp 𝓤) (run : Routine → Fun 𝓤) (𝓣 : Tables 𝓤 H)
     → Triple 𝓤 (𝓣 .C #ck) (Ck 𝓤 H A mem run) → Triple 𝓤 (𝓣 .C #sf) (Sf 𝓤 H A mem run)
     → Meets 𝓤 H A f.signature (WpFn 𝓤 H (𝓣 .C) (𝓣 .Λ) code.function) (f.spec 𝓤 H A mem run)
 meets 𝓤 H A W mem run 𝓣 known-ck known-sf =
-    walk-meets 𝓤 H A f.ended stayed W (
-      goes-none-slice 𝓤 H A W 3 (0 ∷ []) tt (plain (λ _. u8)) yes,
-      (goes-gave-slice 𝓤 H A W 3 1 tt (plain (λ _. u32)), (goes-gave-slice 𝓤 H A W 3 2 tt (plain (λ _. Row)), tt)),
-    )
-    (f.clauses 𝓤 H A mem run) (WpFn 𝓤 H (𝓣 .C) (𝓣 .Λ) code.function) (WpFn-mono 𝓤 H (W .laws) 𝓣 code.function)
-    (walks 𝓤 H A W mem run (𝓣 .C) (𝓣 .Λ) (fmOf 𝓤 H (W .laws) 𝓣) known-ck known-sf)
+    walk-meets 𝓤 H A f.ended stayed W (goes-none-slice 𝓤 H A W 3 (0 ∷ []) tt (plain (λ _. u8)) yes, (goes-gave-slice 𝓤 H A W 3 1 tt (plain (λ _. u32)), (goes-gave-slice 𝓤 H A W 3 2 tt (plain (λ _. Row)), tt)))
+    (f.clauses 𝓤 H A mem run) (WpFn 𝓤 H (𝓣 .C) (𝓣 .Λ) code.function) (WpFn-mono 𝓤 H (W .laws) 𝓣 code.function) (walks 𝓤 H A W mem run (𝓣 .C) (𝓣 .Λ) (fmOf 𝓤 H (W .laws) 𝓣) known-ck known-sf)
 
 pub check-spec : {M : Type 1} → stated.statement M
 unfolding code.routine tablesOf

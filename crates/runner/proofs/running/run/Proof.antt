@@ -1,6 +1,7 @@
 use lib.ListN.{length}
+use Rattle.services.specs.Calls.{flat-names, memory, lent}
 use borrow.Author.Needs.{needs}
-use Rattle.runner.proofs.RunLaws.{closed-run, run-ready, run-done, cast-start, cast-steps, read-run, run-agrees}
+use Rattle.runner.proofs.RunLaws.{closed-run, run-ready, run-done, cast-start, cast-steps, read-times, run-agrees}
 use Rattle.runner.proofs.running.run.Statement.{statement}
 use Rattle.runner.proofs.running.run.Tie as tie
 
@@ -20,8 +21,8 @@ returns : tie.Need-returns
 returns c =
     let o = c .before .before .before .before .before .before in
     let s = o .before .before .before .before .before .before .before .before .before in
-    let ran = read-run (s .fits .start) (s .fits .steps) (closed-run (s .args .scratch .now) (s .args .marks .now) (o .open-run .ensures) (s .args .quiet) (c .if1 .taken)) in
-    (ran, run-agrees (s .args .quiet) (s .args .scratch .now) (s .args .marks .now) ran)
+    let ran = read-times (s .fits .start) (s .fits .steps) (closed-run (lent _ _ (memory _ _ _ (s .args .scratch .now) (s .args .marks .now)) _ _) (o .open-run .ensures) (s .args .quiet) (c .if1 .taken)) in
+    (ran, run-agrees flat-names (s .args .quiet) (lent _ _ (memory _ _ _ (s .args .scratch .now) (s .args .marks .now)) _ _) ran)
 
 all-open-requires : tie.Need-all-open-requires
 all-open-requires c κs = search needs
@@ -31,21 +32,21 @@ cast-run-steps c =
     let t = c .before .before .before .before .before .before .before in
     let o = t .before .before .before .before .before .before in
     let s = o .before .before .before .before .before .before .before .before .before in
-    cast-start (s .args .scratch .now) (s .args .marks .now) (o .open-run .ensures) (s .args .quiet) (t .if1 .left)
+    cast-start (lent _ _ (memory _ _ _ (s .args .scratch .now) (s .args .marks .now)) _ _) (o .open-run .ensures) (s .args .quiet) (t .if1 .left)
 
 cast-run-steps-2 : tie.Need-cast-run-steps-2
 cast-run-steps-2 c =
     let t = c .before .before .before .before .before .before .before in
     let o = t .before .before .before .before .before .before in
     let s = o .before .before .before .before .before .before .before .before .before in
-    cast-steps (s .args .scratch .now) (s .args .marks .now) (o .open-run .ensures) (s .args .quiet) (t .if1 .left)
+    cast-steps (lent _ _ (memory _ _ _ (s .args .scratch .now) (s .args .marks .now)) _ _) (o .open-run .ensures) (s .args .quiet) (t .if1 .left)
 
 run-steps-requires : tie.Need-run-steps-requires
 run-steps-requires c κs =
     let t = c .before .before .before .before .before .before .before in
     let o = t .before .before .before .before .before .before in
     let s = o .before .before .before .before .before .before .before .before .before in
-    run-ready (s .args .scratch .now) (s .args .marks .now) (o .open-run .ensures) (s .args .quiet) (t .if1 .left)
+    run-ready (lent _ _ (memory _ _ _ (s .args .scratch .now) (s .args .marks .now)) _ _) (o .open-run .ensures) (s .args .quiet) (t .if1 .left)
 
 clear-numbers-requires : tie.Need-clear-numbers-requires
 clear-numbers-requires c κs = search needs
@@ -73,10 +74,10 @@ returns-2 c =
     let r = c .before .before .before .before .before .before .before .before .before .before .before in
     let s = r .before .before .before .before .before .before .before .before .before .before .before .before .before .before .before .before .before .before .before .before .before .before .before in
     let ran =
-    read-run (s .fits .start) (s .fits .steps)
-    (run-done (s .args .scratch .now) (s .args .marks .now) (r .before .before .before .before .before .before .before .before .before .before .before .before .before .before .open-run .ensures) (s .args .quiet) (r .before .before .before .before .before .before .before .before .if1 .left) (length (r .run-steps .last .1 .1 .1 .1 .1 .1 .0))
+    read-times (s .fits .start) (s .fits .steps)
+    (run-done (lent _ _ (memory _ _ _ (s .args .scratch .now) (s .args .marks .now)) _ _) (r .before .before .before .before .before .before .before .before .before .before .before .before .before .before .open-run .ensures) (s .args .quiet) (r .before .before .before .before .before .before .before .before .if1 .left) (length (r .run-steps .last .1 .1 .1 .1 .1 .1 .0))
     (length (r .run-steps .last .1 .1 .1 .1 .1 .1 .1 .0)) (r .before .before .before .before .before .all-open .ensures) (r .run-steps .ensures) (c .before .before .before .before .before .clear-numbers .ensures) (search needs) (c .before .before .clear-marks .ensures) (search needs)) in
-    (ran, run-agrees (s .args .quiet) (s .args .scratch .now) (s .args .marks .now) ran)
+    (ran, run-agrees flat-names (s .args .quiet) (lent _ _ (memory _ _ _ (s .args .scratch .now) (s .args .marks .now)) _ _) ran)
 
 pub run-spec : {M : Type 1} → statement M
 run-spec =

@@ -1,8 +1,8 @@
 use borrow.Author.Needs.{needs}
-use Rattle.runner.proofs.RunLaws.{read-run}
+use Rattle.runner.proofs.RunLaws.{read-times}
 use Rattle.cellang.proofs.StoreLaws.{no-row-run, row-run}
-use Rattle.cellang.proofs.running.ran_full.Statement.{statement}
-use Rattle.cellang.proofs.running.ran_full.Tie as tie
+use Rattle.cellang.proofs.running.ran.Statement.{statement}
+use Rattle.cellang.proofs.running.ran.Tie as tie
 
 turned-away-requires : tie.Need-turned-away-requires
 turned-away-requires c κs = search needs
@@ -38,10 +38,10 @@ returns-2 : tie.Need-returns-2
 returns-2 c =
     let s = c .before .before .before .before .before .before .before .before .before .before .before .before .before .before .before .before .before .before .before .before .before in
     row-run _ _ _ _ _ _ _ _ (s .args .start) (s .args .steps) _ _ _ _ _ _ _ _ (c .before .before .before .before .before .before .before .before .before .before .before .before .before .before .before .before .if1 .left) (c .before .before .before .before .before .before .before .before .before .before .before .before .before .before .before .stored .ensures)
-    (read-run (s .fits .start) (s .fits .steps) (c .before .before .before .before .before .before .before .before .before .run .ensures .0)) (c .rows-of .ensures)
+    (read-times (s .fits .start) (s .fits .steps) (c .before .before .before .before .before .before .before .before .before .run .ensures .0)) (c .rows-of .ensures)
 
-pub ran-full-spec : {M : Type 1} → statement M
-ran-full-spec =
+pub ran-spec : {M : Type 1} → statement M
+ran-spec =
     tie.close
     (tie.spec
     turned-away-requires

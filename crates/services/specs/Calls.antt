@@ -1,0 +1,86 @@
+-- A run as a call: what is lent to it, what it leaves, and the one definition from the first to the second.
+use mathlib.Core.Bool.{Bool}
+use mathlib.Core.List.{List}
+use Prim.Native.Nat.{ℕ}
+use lib.ListN.{length}
+use lib.IntN.{ℤ, pos}
+use Rattle.grammar.specs.Checking.{rooms-fit, read-source, room-left, words-after}
+use Rattle.stepper.specs.Admission.{Request}
+use Rattle.stepper.specs.Report.{Counting, Report}
+use Rattle.services.specs.Services.{run-source, room-after}
+
+-- how the name list is lent: whether a word table and a name list of these lengths fit, the entry where no name is declared, and the entries for the
+-- flat words of a name list
+pub record NameForm (N : Type 0) : Type 0 where
+  pub fit : ℕ → ℕ → Bool
+  pub none : N
+  pub entries : List ℕ → List N
+
+-- flat words, four a name
+abbrev pub flat-names : NameForm ℕ
+flat-names = record { fit = rooms-fit; none = 0; entries = λ words. words }
+
+-- the memory that a run is lent to write, before the call or after it
+pub record Memory (N : Type 0) : Type 0 where
+  pub words : List ℕ
+  pub names : List N
+  pub grid : List ℤ
+  pub scratch : List ℤ
+  pub marks : List ℕ
+
+abbrev pub memory : {N : Type 0} → List ℕ → List N → List ℤ → List ℤ → List ℕ → Memory N
+memory words names grid scratch marks = record { words = words; names = names; grid = grid; scratch = scratch; marks = marks }
+
+-- what a run is lent: the source, the sizes, the memory, the start time and the number of steps
+pub record Lent (N : Type 0) : Type 0 where
+  pub source : List ℕ
+  pub sizes : List ℕ
+  pub memory : Memory N
+  pub start : ℤ
+  pub steps : ℤ
+
+abbrev pub lent : {N : Type 0} → List ℕ → List ℕ → Memory N → ℤ → ℤ → Lent N
+lent source sizes m start steps = record { source = source; sizes = sizes; memory = m; start = start; steps = steps }
+
+-- what a run leaves: its report, and the memory
+pub record Left (N : Type 0) : Type 0 where
+  pub report : Report
+  pub memory : Memory N
+
+-- word table and name list are of the right lengths
+abbrev pub fits : {N : Type 0} → NameForm N → Lent N → Bool
+fits form l = form .fit (length (l .memory .words)) (length (l .memory .names))
+
+-- what is asked of the run
+abbrev pub asked : {N : Type 0} → Lent N → Request
+asked l =
+    record {
+      sizes = l .sizes;
+      grid = l .memory .grid;
+      start = l .start;
+      steps = l .steps;
+      scratch = length (l .memory .scratch);
+      marks = length (l .memory .marks);
+    }
+
+-- the report of a run
+abbrev pub run-report : {N : Type 0} → NameForm N → Counting → Lent N → Report
+run-report form counting l = run-source counting (fits form l) (l .source) (asked l)
+
+-- the name list after a run
+abbrev pub names-left : {N : Type 0} → NameForm N → Bool → List ℕ → List N → List N
+names-left form fit source old = room-left (form .none) old (λ a. form .entries (a .names)) (read-source fit source)
+
+-- what a run leaves of what it is lent
+unfoldable pub run-left : {N : Type 0} → NameForm N → Counting → Lent N → Left N
+run-left form counting l =
+    record {
+      report = run-report form counting l;
+      memory = record {
+        words = words-after (fits form l) (l .source) (l .memory .words);
+        names = names-left form (fits form l) (l .source) (l .memory .names);
+        grid = run-report form counting l .grid;
+        scratch = room-after (pos 0) (fits form l) (l .source) (asked l) (l .memory .scratch);
+        marks = room-after 0 (fits form l) (l .source) (asked l) (l .memory .marks);
+      };
+    }
