@@ -144,7 +144,7 @@ pub fn quick(
 }
 
 // The expression at a position, of operators of a level or tighter.
-pub fn expression(
+fn expression(
     leaves: &[u32; 32776],
     words: &[u32],
     sizes: &[u32],

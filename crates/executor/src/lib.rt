@@ -1,7 +1,7 @@
 // Evaluating one cell, off the word table: statements.
 
-pub mod assignment;
-pub mod blocks;
+mod assignment;
+mod blocks;
 pub mod cell;
 
 // How statements go on: with the next one; by leaving the innermost loop; or not at all, after a fault, by its number and place.

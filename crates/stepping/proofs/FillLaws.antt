@@ -81,8 +81,8 @@ module _ (words : List ℕ) (rule : Rule) (sizes : List ℕ) (grid : List ℤ) (
 
     -- what the next cell's turn asks
     pub turning : {leaves place : List ℕ} {lent : ℕ} (i total : ℕ) (scratch : List ℤ) → Ready leaves words rule sizes grid old marks time count → Placed sizes i place → lent ≡ length old
-        → Filling i total scratch → i < length marks → marked marks i ≡ true → Turning leaves words rule sizes place i grid lent marks time total
-    turning i total scratch ready own size f l o =
+        → Filling i total scratch → i < length marks → Turning leaves words rule sizes place i grid lent time total
+    turning i total scratch ready own size f l =
         let m = ready .marks-fit in
         let r = ready .room in
         let t = f .counted in
@@ -95,7 +95,6 @@ module _ (words : List ℕ) (rule : Rule) (sizes : List ℕ) (grid : List ℤ) (
           small = ready .small;
           countable = omega (arith, how-many-le (marked marks) i);
           noted = ready .noted;
-          is-marked = o;
         }
 
     pub fill-skip : (i r total : ℕ) (scratch : List ℤ) → Filling i total scratch → NextMarked marks i r → Filling r total scratch

@@ -33,7 +33,7 @@ part-whole from n = omega arith
 pub part-length : (from n : ℕ) (xs : List ℤ) → from + n ≤ length xs → length (take (from + n - from) (drop from xs)) ≡ n
 part-length from n xs l = length-take-le (from + n - from) (drop from xs) (let e = length-drop from xs in omega arith) ∙ part-whole from n
 
-module _ {leaves words : List ℕ} {rule : Rule} {sizes place : List ℕ} {cell : ℕ} {grid : List ℤ} {lent : ℕ} {marks : List ℕ} {time count : ℕ} (t : Turning leaves words rule sizes place cell grid lent marks time count) where
+module _ {leaves words : List ℕ} {rule : Rule} {sizes place : List ℕ} {cell : ℕ} {grid : List ℤ} {lent time count : ℕ} (t : Turning leaves words rule sizes place cell grid lent time count) where
   pub turn-room : cell * rule .fields + rule .fields ≤ lent
   turn-room =
       let a = t .shaped .entries in

@@ -42,8 +42,8 @@ pub record Counted (words : List ℕ) (rule : Rule) (sizes : List ℕ) (cell : �
   pub says : (p : Program) → Holds words rule p → outcome-in r next ≡ given p (rule .fields) sizes grid time cell
   pub count-is : count-after r ≡ count + 1
 
--- what is asked of a cell's turn in a step
-pub record Turning (leaves words : List ℕ) (rule : Rule) (sizes place : List ℕ) (cell : ℕ) (grid : List ℤ) (lent : ℕ) (marks : List ℕ) (time count : ℕ) : Type 0 where
+-- what is asked of a cell's turn in a step, beside its mark
+pub record Turning (leaves words : List ℕ) (rule : Rule) (sizes place : List ℕ) (cell : ℕ) (grid : List ℤ) (lent time count : ℕ) : Type 0 where
   pub rule-fits : Sized (length words) rule
   pub shaped : Shaped rule sizes (length grid)
   pub scratch-fits : lent ≡ length grid
@@ -51,7 +51,6 @@ pub record Turning (leaves words : List ℕ) (rule : Rule) (sizes place : List �
   pub own : place ≡ coordinates sizes cell
   pub small : time < 2147483648
   pub countable : count < 18446744073709551615
-  pub is-marked : marked marks cell ≡ true
   pub noted : Leaves leaves words sizes (rule .tokens) (rule .fields) (rule .slots)
 
 -- the cell's next fields are in its part of scratch, and the other cells' parts stay

@@ -1,6 +1,9 @@
 // Evaluating one cell, with the count of the cells evaluated.
+ghost use mathlib.Core.Path.{_≡_};
+ghost use mathlib.Core.Bool.{true};
 ghost use Prim.Native.Nat.{_<_};
 ghost use lib.ListN.{length};
+ghost use Rattle.automaton.specs.Step.{marked};
 ghost use Rattle.executor.specs.Running.{Fit};
 ghost use Rattle.stepping.specs.Turns.{Counted, Turning, Turned};
 use crate::Evaluation;
@@ -8,7 +11,7 @@ use executor::Outcome;
 use executor::cell::evaluate_cell;
 use semantics::Rule;
 
-// Evaluates a cell, and counts it: the count given back is one higher, at a fault too. By no other way is a cell evaluated.
+// Evaluates a marked cell, and counts it: the count returned is one higher, at a fault too. A cell is evaluated in no other way.
 fn evaluate_counted(
     leaves: &[u32; 32776],
     words: &[u32],
@@ -18,12 +21,13 @@ fn evaluate_counted(
     cell: usize,
     grid: &[i32],
     next: &mut [i32],
+    marks: &[u8],
     vars: &mut [i32; 256],
     index: &mut [i32; 16],
     time: u32,
     count: u64,
 ) -> Evaluation
-    requires { ⌜ Fit (now leaves) (now words) rule (now sizes) (now place) cell (now grid) (length (now next)) time × (count < 18446744073709551615) ⌝ }
+    requires { ⌜ (marked (now marks) cell ≡ true) × Fit (now leaves) (now words) rule (now sizes) (now place) cell (now grid) (length (now next)) time × (count < 18446744073709551615) ⌝ }
     ensures { λ r. ⌜ Counted (now (words .entry)) rule (now (sizes .entry)) cell (now (grid .entry)) (now (next .exit)) time count r ⌝ }
 {
     let outcome = evaluate_cell(
@@ -45,7 +49,7 @@ fn evaluate_counted(
     }
 }
 
-// Evaluates a cell from the grid into its part of `scratch`. `place` is its coordinates.
+// Evaluates a marked cell from the grid into its part of `scratch`. `place` is its coordinates.
 pub fn evaluate_into(
     leaves: &[u32; 32776],
     words: &[u32],
@@ -61,7 +65,7 @@ pub fn evaluate_into(
     time: u32,
     count: u64,
 ) -> Evaluation
-    requires { ⌜ Turning (now leaves) (now words) rule (now sizes) (now place) cell (now grid) (length (now scratch)) (now marks) time count ⌝ }
+    requires { ⌜ (marked (now marks) cell ≡ true) × Turning (now leaves) (now words) rule (now sizes) (now place) cell (now grid) (length (now scratch)) time count ⌝ }
     ensures { λ r. ⌜ Turned (now (words .entry)) rule (now (sizes .entry)) cell (now (grid .entry)) (now (scratch .entry)) (now (scratch .exit)) time count r ⌝ }
 {
     let fields = rule.fields as usize;
@@ -76,6 +80,7 @@ pub fn evaluate_into(
         cell,
         grid,
         &mut scratch[from..end],
+        marks,
         vars,
         index,
         time,

@@ -1,6 +1,6 @@
-// One step of a rule under marks.
+// One step of a rule under marks. Outside this crate a cell is evaluated by `step` alone: `cells` is private.
 
-pub mod cells;
+mod cells;
 pub mod steps;
 
 // What evaluating one cell gives: the count, one higher; and at a fault its number and place.

@@ -10,21 +10,21 @@ cast-fields c = search needs
 
 mul-from : tie.Need-mul-from
 mul-from c =
-    let p = c .before .before .before .before .before .pre in
+    let p = c .before .before .before .before .before .pre .1 in
     let a = turn-room p in
     let b = turn-small p in
     search needs
 
 add-end : tie.Need-add-end
 add-end c =
-    let p = c .before .before .before .before .before .pre in
+    let p = c .before .before .before .before .before .pre .1 in
     let a = turn-room p in
     let b = turn-small p in
     search needs
 
 mul-evaluate-counted : tie.Need-mul-evaluate-counted
 mul-evaluate-counted c =
-    let p = c .before .before .before .before .before .pre in
+    let p = c .before .before .before .before .before .pre .1 in
     let a = turn-room p in
     let b = turn-small p in
     search needs
@@ -36,12 +36,12 @@ part-evaluate-counted-start : tie.Need-part-evaluate-counted-start
 part-evaluate-counted-start c = search needs
 
 part-evaluate-counted-end : tie.Need-part-evaluate-counted-end
-part-evaluate-counted-end c = turn-room (c .before .before .before .before .before .pre)
+part-evaluate-counted-end c = turn-room (c .before .before .before .before .before .pre .1)
 
 evaluate-counted-requires : tie.Need-evaluate-counted-requires
 evaluate-counted-requires c κs =
     let p = c .before .before .before .before .before .before .before .before .pre in
-    (turn-fit p (part-length _ _ _ (turn-room p)), p .countable)
+    (p .0, turn-fit (p .1) (part-length _ _ _ (turn-room (p .1))), p .1 .countable)
 
 same-length : tie.Need-same-length
 same-length c = search needs
@@ -49,8 +49,8 @@ same-length c = search needs
 returns : tie.Need-returns
 returns c =
     let s = c .before .before .before .before .before .before .before .before .before .before in
-    let long = part-length (s .args .cell * s .args .rule .fields) (s .args .rule .fields) (s .args .scratch .now) (turn-room (s .pre)) in
-    turned (s .pre) (c .before .evaluate-counted .ensures) refl (search needs) (part-whole _ _)
+    let long = part-length (s .args .cell * s .args .rule .fields) (s .args .rule .fields) (s .args .scratch .now) (turn-room (s .pre .1)) in
+    turned (s .pre .1) (c .before .evaluate-counted .ensures) refl (search needs) (part-whole _ _)
 
 pub evaluate-into-spec : {M : Type 1} → statement M
 evaluate-into-spec =

@@ -42,7 +42,8 @@ evaluate-into-requires : tie.Need-evaluate-into-requires Inv-loop μ-loop
 evaluate-into-requires c κs =
     let l = c .before .before .before .before .before .loop in
     let p = c .before .before .before .before .before .before .before .before .before .before .before .before .before .before .before .pre in
-    turning _ _ _ _ _ _ _ _ (l .cell) (l .total) (l .new) (p .0) (l .inv .5) (l .inv .3) (l .inv .0) (c .before .before .before .before .loop-test .taken) (l .inv .2 (c .before .before .before .before .loop-test .taken))
+    let t = c .before .before .before .before .loop-test .taken in
+    (l .inv .2 t, turning _ _ _ _ _ _ _ _ (l .cell) (l .total) (l .new) (p .0) (l .inv .5) (l .inv .3) (l .inv .0) t)
 
 enum-known-turn : tie.Need-enum-known-turn Inv-loop μ-loop
 enum-known-turn c = search needs
