@@ -241,19 +241,15 @@ fn nestings() -> Vec<Vec<u8>> {
     let mut row = Vec::new();
     let mut random = Random::new(14);
     for statements in 0..18 {
-        for total in [15, 16, 17] {
-            let parts = if statements < total {
-                total - statements
-            } else {
-                0
-            };
-            let which = random.next();
+        for total in [15_usize, 16, 17] {
+            let parts = total.saturating_sub(statements);
+            let which = random.word();
             row.push(nested(statements, parts, which, Inner::Literal).into_bytes());
             let fewer = parts.saturating_sub(1);
             row.push(nested(statements, fewer, which, Inner::Relative).into_bytes());
             row.push(nested(statements, parts, which, Inner::WrongBracket).into_bytes());
         }
-        row.push(nested(statements, 0, random.next(), Inner::ArrayDeclaration).into_bytes());
+        row.push(nested(statements, 0, random.word(), Inner::ArrayDeclaration).into_bytes());
     }
     for depth in [15, 16, 17] {
         let open = "(".repeat(depth);
@@ -554,7 +550,7 @@ pub fn any(random: &mut Random, small_only: bool) -> Vec<u8> {
                 Inner::WrongBracket,
             ]);
             let parts = total.saturating_sub(statements);
-            nested(statements, parts, random.next(), inner).into_bytes()
+            nested(statements, parts, random.word(), inner).into_bytes()
         }
         4 => {
             let size = random.below(4);
@@ -584,8 +580,8 @@ pub fn any(random: &mut Random, small_only: bool) -> Vec<u8> {
         }
         _ => {
             let length = MAX_SOURCE - 1 + random.below(4);
-            let start =
-                with_s(*random.pick(&["", "cell := ", "cell := 1 #", "x := y #", "cell := 1 "]));
+            let begun = random.pick(&["", "cell := ", "cell := 1 #", "x := y #", "cell := 1 "]);
+            let start = with_s(begun);
             let byte = *random.pick(b" 0#x\n$");
             filled(start, length, byte)
         }

@@ -7,7 +7,8 @@ impl Random {
         Random(seed ^ 0x5DEE_CE66_D1CE_4E5B)
     }
 
-    pub fn next(&mut self) -> u64 {
+    /// 64 bits.
+    pub fn word(&mut self) -> u64 {
         self.0 = self.0.wrapping_add(0x9E37_79B9_7F4A_7C15);
         let mut z = self.0;
         z = (z ^ (z >> 30)).wrapping_mul(0xBF58_476D_1CE4_E5B9);
@@ -17,12 +18,12 @@ impl Random {
 
     /// A number from 0 to `bound` - 1.
     pub fn below(&mut self, bound: usize) -> usize {
-        (self.next() >> 16) as usize % bound
+        (self.word() >> 16) as usize % bound
     }
 
     /// A number from `low` to `high`.
     pub fn between(&mut self, low: i64, high: i64) -> i64 {
-        low + (self.next() >> 8) as i64 % (high - low + 1)
+        low + (self.word() >> 8) as i64 % (high - low + 1)
     }
 
     /// True in `part` of 100 cases.

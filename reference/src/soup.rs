@@ -123,17 +123,19 @@ const FRAGMENTS: [&str; 80] = [
 pub fn soup(random: &mut Random) -> Vec<String> {
     let mut text = random.pick(&BEGINNINGS).to_string();
     if random.chance(50) {
-        text.push_str(*random.pick(&[" cell :=", " cell := 1 +", " x := 1 when", " cell . f :="]));
+        let begun = random.pick(&[" cell :=", " cell := 1 +", " x := 1 when", " cell . f :="]);
+        text.push_str(begun);
     }
     let parts = 1 + random.below(7);
     let fragments = random.chance(75);
     for _ in 0..parts {
         text.push(' ');
-        if fragments && random.chance(85) {
-            text.push_str(*random.pick(&FRAGMENTS));
+        let part = if fragments && random.chance(85) {
+            random.pick(&FRAGMENTS)
         } else {
-            text.push_str(*random.pick(&VOCABULARY));
-        }
+            random.pick(&VOCABULARY)
+        };
+        text.push_str(part);
     }
     text.split_whitespace().map(str::to_string).collect()
 }
