@@ -395,11 +395,12 @@ use Rattle.cellang.proofs.AnswerRow.{OutRow, ReplyRow, reply-mach, out-
         'builtins': 'i32, i64, bool, ', 'integers': 'use mathlib.Core.Bool.{Bool}\nuse lib.IntN.{ℤ}\n',
         'uses': '''
 use Rattle.stepper.specs.Report.{full}
-use Rattle.services.specs.Calls.{memory, lent, run-report}
+use Rattle.services.specs.Calls.{memory, lent, asked, read-lent, run-report}
+use Rattle.services.specs.RangesKept.{RangesKept}
 use Rattle.iteration.specs.Stepwise.{told}
 use Rattle.runner.specs.Sourcewise.{counting-of, RunLeaves}
 use Rattle.runner.specs.Property3.{Agree}
-use Rattle.runner.proofs.RunLaws.{run-agrees}
+use Rattle.runner.proofs.RunLaws.{run-agrees, run-ranges}
 use Rattle.records.specs.declared.Name.{Name}
 use Rattle.cellang.specs.declared.running.RunAnswer.{RunAnswer}
 use Rattle.cellang.specs.Left.{row-names}
@@ -408,8 +409,8 @@ use Rattle.cellang.proofs.running.RunAnswer.Laws as O′
 use Rattle.records.proofs.NameRow.{Row, vals, makes}
 use Rattle.cellang.proofs.RunAnswerRow.{OutRow, ReportRow, report-mach, out-tells, rows-is, count-fits, report-is, report-makes, out-typed, report-typed}''',
         'said': f'RunsOver (counting-of v9) (length v2) (λ m. {LENT.format("m")}) r (λ m. {EXIT.format("m")})',
-        'final': f'RunLeaves row-names (counting-of v9) {LENT.format("v2")} (r .report) {EXIT.format("ns")} × Agree (told (r .report) z4) (run-report row-names full {LENT.format("v2")})',
-        'proof': f'let left = subst (λ m. RunLeaves row-names (counting-of v9) {LENT.format("v2")} (r .report) {EXIT.format("m")}) (sym h) (e .stores v2 refl) in (left, run-agrees row-names v9 {LENT.format("v2")} left)',
+        'final': f'RunLeaves row-names (counting-of v9) {LENT.format("v2")} (r .report) {EXIT.format("ns")} × Agree (told (r .report) z4) (run-report row-names full {LENT.format("v2")}) × RangesKept (read-lent row-names {LENT.format("v2")}) (asked {LENT.format("v2")}) z4',
+        'proof': f'let left = subst (λ m. RunLeaves row-names (counting-of v9) {LENT.format("v2")} (r .report) {EXIT.format("m")}) (sym h) (e .stores v2 refl) in (left, run-agrees row-names v9 {LENT.format("v2")} left, run-ranges row-names (counting-of v9) {LENT.format("v2")} left)',
         'may': 'e .few',
     },
 ]

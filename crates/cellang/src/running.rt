@@ -1,7 +1,8 @@
 // A source run on a grid.
 ghost use mathlib.Core.List.{List};
 ghost use Rattle.stepper.specs.Report.{full};
-ghost use Rattle.services.specs.Calls.{memory, lent, run-report};
+ghost use Rattle.services.specs.Calls.{memory, lent, asked, read-lent, run-report};
+ghost use Rattle.services.specs.RangesKept.{RangesKept};
 ghost use Rattle.iteration.specs.Stepwise.{told};
 ghost use Rattle.runner.specs.Sourcewise.{counting-of, RunLeaves};
 ghost use Rattle.runner.specs.Property3.{Agree};
@@ -95,7 +96,7 @@ pub fn run(
     steps: i64,
     quiet: bool,
 ) -> Report
-    ensures { λ r. ⌜ (RunLeaves row-names (counting-of quiet) (lent (now (source .entry)) (now (sizes .entry)) (memory (now (words .entry)) (now (names .entry)) (now (grid .entry)) (now (scratch .entry)) (now (marks .entry))) start steps) r (memory (now (words .exit)) (now (names .exit)) (now (grid .exit)) (now (scratch .exit)) (now (marks .exit)))) × (Agree (told r (now (grid .exit))) (run-report row-names full (lent (now (source .entry)) (now (sizes .entry)) (memory (now (words .entry)) (now (names .entry)) (now (grid .entry)) (now (scratch .entry)) (now (marks .entry))) start steps))) ⌝ }
+    ensures { λ r. ⌜ (RunLeaves row-names (counting-of quiet) (lent (now (source .entry)) (now (sizes .entry)) (memory (now (words .entry)) (now (names .entry)) (now (grid .entry)) (now (scratch .entry)) (now (marks .entry))) start steps) r (memory (now (words .exit)) (now (names .exit)) (now (grid .exit)) (now (scratch .exit)) (now (marks .exit)))) × (Agree (told r (now (grid .exit))) (run-report row-names full (lent (now (source .entry)) (now (sizes .entry)) (memory (now (words .entry)) (now (names .entry)) (now (grid .entry)) (now (scratch .entry)) (now (marks .entry))) start steps))) × (RangesKept (read-lent row-names (lent (now (source .entry)) (now (sizes .entry)) (memory (now (words .entry)) (now (names .entry)) (now (grid .entry)) (now (scratch .entry)) (now (marks .entry))) start steps)) (asked (lent (now (source .entry)) (now (sizes .entry)) (memory (now (words .entry)) (now (names .entry)) (now (grid .entry)) (now (scratch .entry)) (now (marks .entry))) start steps)) (now (grid .exit))) ⌝ }
 {
     let c = ran(
         source,

@@ -28,7 +28,8 @@ use Rattle.stepper.specs.Locality.{running-lawful}
 use Rattle.stepper.specs.Report as report
 use Rattle.stepper.specs.Report.{Counting, full, ended, report-of, run}
 use Rattle.services.specs.Services.{run-begins, run-read, run-source, room-after}
-use Rattle.services.specs.Calls.{NameForm, flat-names, Memory, memory, Lent, lent, fits, asked, run-report, names-left, run-left}
+use Rattle.services.specs.Calls.{NameForm, flat-names, Memory, memory, Lent, lent, fits, asked, read-lent, run-report, names-left, run-left}
+use Rattle.services.specs.RangesKept.{RangesKept, grid-in-ranges}
 use Rattle.iteration.specs.declared.Report.{Report}
 use Rattle.runner.specs.declared.opening.Opening.{Opening}
 use Rattle.iteration.specs.Stepwise.{Begins, Runs, told, steps-report, Ran}
@@ -181,6 +182,12 @@ pub read-times : {N : Type 0} {form : NameForm N} {counting : Counting} {source 
     → RunLeaves form counting (lent source sizes m (toZ w64 (ofZ w64 start)) (toZ w64 (ofZ w64 steps))) said m′ → RunLeaves form counting (lent source sizes m start steps) said m′
 read-times {N} {form} {counting} {source} {sizes} {m} {m′} {start} {steps} {said} h k =
     subst₂ (λ (a b : ℤ). RunLeaves form counting (lent source sizes m a b) said m′) (toZ-ofZ h) (toZ-ofZ k)
+
+-- the grid that a run leaves has each field in its range
+pub run-ranges : {N : Type 0} (form : NameForm N) (counting : Counting) (l : Lent N) {said : Report} {m : Memory N} → RunLeaves form counting l said m
+    → RangesKept (read-lent form l) (asked l) (m .grid)
+run-ranges form counting l h =
+    subst (RangesKept (read-lent form l) (asked l)) (sym (ap (λ (r : report.Report). r .grid) (left-report h))) (grid-in-ranges counting (fits form l) (l .source) (asked l))
 
 -- what a run gives, full or quiet, agrees with the full run of the definition
 pub run-agrees : {N : Type 0} (form : NameForm N) (way : Bool) (l : Lent N) {said : Report} {m : Memory N} → RunLeaves form (counting-of way) l said m

@@ -1,7 +1,8 @@
 // A run of a source, full or quiet.
 ghost use mathlib.Core.Path.{_≡_};
 ghost use Rattle.stepper.specs.Report.{full};
-ghost use Rattle.services.specs.Calls.{flat-names, memory, lent, run-report};
+ghost use Rattle.services.specs.Calls.{flat-names, memory, lent, asked, read-lent, run-report};
+ghost use Rattle.services.specs.RangesKept.{RangesKept};
 ghost use Rattle.iteration.specs.Stepwise.{told};
 ghost use Rattle.runner.specs.Sourcewise.{counting-of, every-step, RunLeaves};
 ghost use Rattle.runner.specs.Property3.{Agree};
@@ -37,6 +38,7 @@ pub fn run(
 ) -> Report
     ensures { λ r. ⌜ RunLeaves flat-names (counting-of quiet) (lent (now (source .entry)) (now (sizes .entry)) (memory (now (words .entry)) (now (names .entry)) (now (grid .entry)) (now (scratch .entry)) (now (marks .entry))) start steps) r (memory (now (words .exit)) (now (names .exit)) (now (grid .exit)) (now (scratch .exit)) (now (marks .exit))) ⌝ }
     ensures agrees { λ r. ⌜ Agree (told r (now (grid .exit))) (run-report flat-names full (lent (now (source .entry)) (now (sizes .entry)) (memory (now (words .entry)) (now (names .entry)) (now (grid .entry)) (now (scratch .entry)) (now (marks .entry))) start steps)) ⌝ }
+    ensures ranges { λ _. ⌜ RangesKept (read-lent flat-names (lent (now (source .entry)) (now (sizes .entry)) (memory (now (words .entry)) (now (names .entry)) (now (grid .entry)) (now (scratch .entry)) (now (marks .entry))) start steps)) (asked (lent (now (source .entry)) (now (sizes .entry)) (memory (now (words .entry)) (now (names .entry)) (now (grid .entry)) (now (scratch .entry)) (now (marks .entry))) start steps)) (now (grid .exit)) ⌝ }
 {
     let opening = open_run(
         source,

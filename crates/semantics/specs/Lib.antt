@@ -1,6 +1,7 @@
 -- What evaluating one cell gives. Read in this order.
 pub mod Operators
 pub mod Evaluation
+pub mod Kept
 pub mod Written
 -- What it is for a program to stand in the word table, and what its leaf table is.
 pub mod Stands

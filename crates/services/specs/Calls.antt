@@ -4,7 +4,7 @@ use mathlib.Core.List.{List}
 use Prim.Native.Nat.{ℕ}
 use lib.ListN.{length}
 use lib.IntN.{ℤ, pos}
-use Rattle.grammar.specs.Checking.{rooms-fit, read-source, room-left, words-after}
+use Rattle.grammar.specs.Checking.{Outcome, rooms-fit, read-source, room-left, words-after}
 use Rattle.stepper.specs.Admission.{Request}
 use Rattle.stepper.specs.Report.{Counting, Report}
 use Rattle.services.specs.Services.{run-source, room-after}
@@ -62,6 +62,10 @@ asked l =
       scratch = length (l .memory .scratch);
       marks = length (l .memory .marks);
     }
+
+-- how reading the source ends
+abbrev pub read-lent : {N : Type 0} → NameForm N → Lent N → Outcome
+read-lent form l = read-source (fits form l) (l .source)
 
 -- the report of a run
 abbrev pub run-report : {N : Type 0} → NameForm N → Counting → Lent N → Report

@@ -1,5 +1,6 @@
 -- Runs of a source, and the marked examples. Read in this order.
 pub mod Services
 pub mod Calls
+pub mod RangesKept
 pub mod Cases
 pub mod Examples

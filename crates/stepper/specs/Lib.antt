@@ -3,4 +3,5 @@ pub mod Reach
 pub mod Admission
 pub mod Report
 pub mod Locality
+pub mod Ranges
 pub mod Fitting

@@ -1,6 +1,7 @@
 // Running a source.
 ghost use Rattle.stepper.specs.Report.{full, quiet};
-ghost use Rattle.services.specs.Calls.{flat-names, memory, lent, run-report};
+ghost use Rattle.services.specs.Calls.{flat-names, memory, lent, asked, read-lent, run-report};
+ghost use Rattle.services.specs.RangesKept.{RangesKept};
 ghost use Rattle.runner.specs.Property3.{Agree};
 ghost use Rattle.cellang.specs.Told.{TellsRun};
 use entries::put_report;
@@ -22,6 +23,7 @@ pub extern "C" fn cellang_run_full(
     report: &mut [u64],
 ) -> u32
     ensures { λ r. ⌜ TellsRun full (lent (now (source .entry)) (now (sizes .entry)) (memory (now (words .entry)) (now (names .entry)) (now (grid .entry)) (now (scratch .entry)) (now (marks .entry))) start steps) (now (report .entry)) r (memory (now (words .exit)) (now (names .exit)) (now (grid .exit)) (now (scratch .exit)) (now (marks .exit))) (now (report .exit)) ⌝ }
+    ensures ranges { λ _. ⌜ RangesKept (read-lent flat-names (lent (now (source .entry)) (now (sizes .entry)) (memory (now (words .entry)) (now (names .entry)) (now (grid .entry)) (now (scratch .entry)) (now (marks .entry))) start steps)) (asked (lent (now (source .entry)) (now (sizes .entry)) (memory (now (words .entry)) (now (names .entry)) (now (grid .entry)) (now (scratch .entry)) (now (marks .entry))) start steps)) (now (grid .exit)) ⌝ }
 {
     let told = run(
         source,
@@ -62,6 +64,7 @@ pub extern "C" fn cellang_run_quiet(
     report: &mut [u64],
 ) -> u32
     ensures { λ r. ⌜ TellsRun quiet (lent (now (source .entry)) (now (sizes .entry)) (memory (now (words .entry)) (now (names .entry)) (now (grid .entry)) (now (scratch .entry)) (now (marks .entry))) start steps) (now (report .entry)) r (memory (now (words .exit)) (now (names .exit)) (now (grid .exit)) (now (scratch .exit)) (now (marks .exit))) (now (report .exit)) ⌝ }
+    ensures ranges { λ _. ⌜ RangesKept (read-lent flat-names (lent (now (source .entry)) (now (sizes .entry)) (memory (now (words .entry)) (now (names .entry)) (now (grid .entry)) (now (scratch .entry)) (now (marks .entry))) start steps)) (asked (lent (now (source .entry)) (now (sizes .entry)) (memory (now (words .entry)) (now (names .entry)) (now (grid .entry)) (now (scratch .entry)) (now (marks .entry))) start steps)) (now (grid .exit)) ⌝ }
     ensures agrees { λ _. ⌜ Agree (run-report flat-names quiet (lent (now (source .entry)) (now (sizes .entry)) (memory (now (words .entry)) (now (names .entry)) (now (grid .entry)) (now (scratch .entry)) (now (marks .entry))) start steps)) (run-report flat-names full (lent (now (source .entry)) (now (sizes .entry)) (memory (now (words .entry)) (now (names .entry)) (now (grid .entry)) (now (scratch .entry)) (now (marks .entry))) start steps)) ⌝ }
 {
     let told = run(

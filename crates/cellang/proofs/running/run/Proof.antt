@@ -42,11 +42,12 @@ use denote.Triple.Clauses.{ensured, lasts}
 use denote.Triple.Walked.{says, Stays, stay-none, stay-none-slice, gave-slice, walkOf, goes-none, goes-none-slice, goes-gave-slice, Walks, ends-at, walked, walk-meets}
 use denote.Exit.{yes}
 use Rattle.stepper.specs.Report.{full}
-use Rattle.services.specs.Calls.{memory, lent, run-report}
+use Rattle.services.specs.Calls.{memory, lent, asked, read-lent, run-report}
+use Rattle.services.specs.RangesKept.{RangesKept}
 use Rattle.iteration.specs.Stepwise.{told}
 use Rattle.runner.specs.Sourcewise.{counting-of, RunLeaves}
 use Rattle.runner.specs.Property3.{Agree}
-use Rattle.runner.proofs.RunLaws.{run-agrees}
+use Rattle.runner.proofs.RunLaws.{run-agrees, run-ranges}
 use Rattle.records.specs.declared.Name.{Name}
 use Rattle.cellang.specs.declared.running.RunAnswer.{RunAnswer}
 use Rattle.cellang.specs.Left.{row-names}
@@ -160,8 +161,8 @@ module _ {M : Type 1} (𝓤 : URA M) (H : Heap 𝓤) (A : Atoms 𝓤) (W : Given
   abbrev Stored : RunAnswer → List Name → Type 0
   Stored r ns = ns ≡ take (r .count) (r .rows) ++ skip (r .count) v2
 
-  all-said : (r : RunAnswer) (z1 : List ℕ) (z4 : List ℤ) (z5 : List ℤ) (z6 : List ℕ) (ns : List Name) → Said r z1 z4 z5 z6 → Stored r ns → RunLeaves row-names (counting-of v9) (lent v0 v3 (memory v1 v2 v4 v5 v6) v7 v8) (r .report) (memory z1 ns z4 z5 z6) × Agree (told (r .report) z4) (run-report row-names full (lent v0 v3 (memory v1 v2 v4 v5 v6) v7 v8))
-  all-said r z1 z4 z5 z6 ns e h = let left = subst (λ m. RunLeaves row-names (counting-of v9) (lent v0 v3 (memory v1 v2 v4 v5 v6) v7 v8) (r .report) (memory z1 m z4 z5 z6)) (sym h) (e .stores v2 refl) in (left, run-agrees row-names v9 (lent v0 v3 (memory v1 v2 v4 v5 v6) v7 v8) left)
+  all-said : (r : RunAnswer) (z1 : List ℕ) (z4 : List ℤ) (z5 : List ℤ) (z6 : List ℕ) (ns : List Name) → Said r z1 z4 z5 z6 → Stored r ns → RunLeaves row-names (counting-of v9) (lent v0 v3 (memory v1 v2 v4 v5 v6) v7 v8) (r .report) (memory z1 ns z4 z5 z6) × Agree (told (r .report) z4) (run-report row-names full (lent v0 v3 (memory v1 v2 v4 v5 v6) v7 v8)) × RangesKept (read-lent row-names (lent v0 v3 (memory v1 v2 v4 v5 v6) v7 v8)) (asked (lent v0 v3 (memory v1 v2 v4 v5 v6) v7 v8)) z4
+  all-said r z1 z4 z5 z6 ns e h = let left = subst (λ m. RunLeaves row-names (counting-of v9) (lent v0 v3 (memory v1 v2 v4 v5 v6) v7 v8) (r .report) (memory z1 m z4 z5 z6)) (sym h) (e .stores v2 refl) in (left, run-agrees row-names v9 (lent v0 v3 (memory v1 v2 v4 v5 v6) v7 v8) left, run-ranges row-names (counting-of v9) (lent v0 v3 (memory v1 v2 v4 v5 v6) v7 v8) left)
 
   may-store : (r : RunAnswer) (z1 : List ℕ) (z4 : List ℤ) (z5 : List ℤ) (z6 : List ℕ) → Said r z1 z4 z5 z6 → (r .count ≤ 256) × (r .count ≤ length v2)
   may-store r z1 z4 z5 z6 e = e .few

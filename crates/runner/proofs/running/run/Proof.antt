@@ -1,7 +1,7 @@
 use lib.ListN.{length}
 use Rattle.services.specs.Calls.{flat-names, memory, lent}
 use borrow.Author.Needs.{needs}
-use Rattle.runner.proofs.RunLaws.{closed-run, run-ready, run-done, cast-start, cast-steps, read-times, run-agrees}
+use Rattle.runner.proofs.RunLaws.{closed-run, run-ready, run-done, cast-start, cast-steps, read-times, run-agrees, run-ranges}
 use Rattle.runner.proofs.running.run.Statement.{statement}
 use Rattle.runner.proofs.running.run.Tie as tie
 
@@ -22,7 +22,7 @@ returns c =
     let o = c .before .before .before .before .before .before in
     let s = o .before .before .before .before .before .before .before .before .before in
     let ran = read-times (s .fits .start) (s .fits .steps) (closed-run (lent _ _ (memory _ _ _ (s .args .scratch .now) (s .args .marks .now)) _ _) (o .open-run .ensures) (s .args .quiet) (c .if1 .taken)) in
-    (ran, run-agrees flat-names (s .args .quiet) (lent _ _ (memory _ _ _ (s .args .scratch .now) (s .args .marks .now)) _ _) ran)
+    (ran, run-agrees flat-names (s .args .quiet) (lent _ _ (memory _ _ _ (s .args .scratch .now) (s .args .marks .now)) _ _) ran, run-ranges flat-names _ (lent _ _ (memory _ _ _ (s .args .scratch .now) (s .args .marks .now)) _ _) ran)
 
 all-open-requires : tie.Need-all-open-requires
 all-open-requires c κs = search needs
@@ -77,7 +77,7 @@ returns-2 c =
     read-times (s .fits .start) (s .fits .steps)
     (run-done (lent _ _ (memory _ _ _ (s .args .scratch .now) (s .args .marks .now)) _ _) (r .before .before .before .before .before .before .before .before .before .before .before .before .before .before .open-run .ensures) (s .args .quiet) (r .before .before .before .before .before .before .before .before .if1 .left) (length (r .run-steps .last .1 .1 .1 .1 .1 .1 .0))
     (length (r .run-steps .last .1 .1 .1 .1 .1 .1 .1 .0)) (r .before .before .before .before .before .all-open .ensures) (r .run-steps .ensures) (c .before .before .before .before .before .clear-numbers .ensures) (search needs) (c .before .before .clear-marks .ensures) (search needs)) in
-    (ran, run-agrees flat-names (s .args .quiet) (lent _ _ (memory _ _ _ (s .args .scratch .now) (s .args .marks .now)) _ _) ran)
+    (ran, run-agrees flat-names (s .args .quiet) (lent _ _ (memory _ _ _ (s .args .scratch .now) (s .args .marks .now)) _ _) ran, run-ranges flat-names _ (lent _ _ (memory _ _ _ (s .args .scratch .now) (s .args .marks .now)) _ _) ran)
 
 pub run-spec : {M : Type 1} → statement M
 run-spec =

@@ -1,4 +1,6 @@
 use borrow.Author.Needs.{needs}
+use Rattle.services.specs.Calls.{flat-names}
+use Rattle.runner.proofs.RunLaws.{read-times, run-ranges}
 use Rattle.cellang.proofs.Telling.{tells-run}
 use Rattle.cellang.proofs.exports.running.cellang_run_full.Statement.{statement}
 use Rattle.cellang.proofs.exports.running.cellang_run_full.Tie as tie
@@ -30,7 +32,7 @@ same-length-6 c = search needs
 returns : tie.Need-returns
 returns c =
     let s = c .before .before .before .before .before .before .before .before .before .before .before .before .before .before .before .before .before .before .before .before .before .before .before .before in
-    tells-run (s .fits .start) (s .fits .steps) (c .before .before .before .before .before .before .before .before .before .before .before .before .run .ensures .0) (c .before .before .put-report .ensures)
+    (tells-run (s .fits .start) (s .fits .steps) (c .before .before .before .before .before .before .before .before .before .before .before .before .run .ensures .0) (c .before .before .put-report .ensures), run-ranges flat-names _ _ (read-times (s .fits .start) (s .fits .steps) (c .before .before .before .before .before .before .before .before .before .before .before .before .run .ensures .0)))
 
 pub cellang-run-full-spec : {M : Type 1} → statement M
 cellang-run-full-spec =

@@ -1,5 +1,7 @@
 use borrow.Author.Needs.{needs}
 use Rattle.runner.specs.Property3.{property-3}
+use Rattle.services.specs.Calls.{flat-names}
+use Rattle.runner.proofs.RunLaws.{read-times, run-ranges}
 use Rattle.cellang.proofs.Telling.{tells-run}
 use Rattle.cellang.proofs.exports.running.cellang_run_quiet.Statement.{statement}
 use Rattle.cellang.proofs.exports.running.cellang_run_quiet.Tie as tie
@@ -31,7 +33,7 @@ same-length-6 c = search needs
 returns : tie.Need-returns
 returns c =
     let s = c .before .before .before .before .before .before .before .before .before .before .before .before .before .before .before .before .before .before .before .before .before .before .before .before in
-    (tells-run (s .fits .start) (s .fits .steps) (c .before .before .before .before .before .before .before .before .before .before .before .before .run .ensures .0) (c .before .before .put-report .ensures), property-3 _ _ _ .agree)
+    (tells-run (s .fits .start) (s .fits .steps) (c .before .before .before .before .before .before .before .before .before .before .before .before .run .ensures .0) (c .before .before .put-report .ensures), run-ranges flat-names _ _ (read-times (s .fits .start) (s .fits .steps) (c .before .before .before .before .before .before .before .before .before .before .before .before .run .ensures .0)), property-3 _ _ _ .agree)
 
 pub cellang-run-quiet-spec : {M : Type 1} → statement M
 cellang-run-quiet-spec =
