@@ -187,22 +187,34 @@ fn literal_kind(source: &[u8], at: usize, end: usize) -> Kind {
     Kind::Literal(value as i32)
 }
 
+/// The place behind the separators and comments that stand at `at`.
+fn past_separators(source: &[u8], mut at: usize) -> usize {
+    while at < source.len() {
+        if is_separator(source[at]) {
+            at += 1;
+        } else if source[at] == b'#' {
+            while at < source.len() && !ends_line(source[at]) {
+                at += 1;
+            }
+        } else {
+            break;
+        }
+    }
+    at
+}
+
+/// The kind of the token behind another, however many there are before it.
+pub fn kind_behind(source: &[u8], token: Token) -> Option<Kind> {
+    let at = past_separators(source, (token.start + token.length) as usize);
+    (at < source.len()).then(|| read_token(source, at).0)
+}
+
 /// All tokens of a source of at most `MAX_SOURCE` bytes, with the stop.
 pub fn lex(source: &[u8]) -> Vec<Token> {
     let mut tokens = Vec::new();
     let mut at = 0;
     loop {
-        while at < source.len() {
-            if is_separator(source[at]) {
-                at += 1;
-            } else if source[at] == b'#' {
-                while at < source.len() && !ends_line(source[at]) {
-                    at += 1;
-                }
-            } else {
-                break;
-            }
-        }
+        at = past_separators(source, at);
         if at == source.len() {
             tokens.push(Token {
                 kind: Kind::Stop(7),

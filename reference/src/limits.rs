@@ -120,8 +120,52 @@ pub fn token_counts() -> Vec<Vec<u8>> {
         let text = of_tokens(MAX_TOKENS - 8);
         row.push(format!("{text}const a[] for 2 := 1 {last}").into_bytes());
     }
+    for (count, last, rest) in AFTER_OF {
+        row.push(format!("{}{rest}", up_to_of(count, last)).into_bytes());
+    }
     row
 }
+
+/// Constants c0, c1 and so on and the arrays a and b, so many that the declaration's `of`, the last word, is token number `last`.
+pub fn up_to_of(count: usize, last: usize) -> String {
+    let left = last - 3 - 4 * count - 12;
+    let sign = if left % 2 == 0 { "" } else { "-" };
+    let list = |length: usize| format!("for {length}:={}1", "1,".repeat(length - 1));
+    let (long, short) = (list(1_024), list(left / 2 - 1_024));
+    let text = format!("{}const a[] {long} const b[] {short}", constants(count));
+    let signed = text.replacen(":=1", &format!(":={sign}1"), 1);
+    format!("{signed} 1 dimensions of ")
+}
+
+/// A name behind the declaration's `of` and what stands behind it, about the greatest number of tokens: how many constants there are, the
+/// number of `of`, and the rest.
+const AFTER_OF: [(usize, usize, &str); 25] = [
+    (0, MAX_TOKENS - 1, "q..1"),
+    (0, MAX_TOKENS - 1, "a..1"),
+    (0, MAX_TOKENS - 1, "cell..1"),
+    (0, MAX_TOKENS - 1, "time..1"),
+    (0, MAX_TOKENS - 1, "q of 0..1"),
+    (0, MAX_TOKENS - 1, "cell of 0..1"),
+    (0, MAX_TOKENS - 1, "q,"),
+    (0, MAX_TOKENS - 1, "q["),
+    (0, MAX_TOKENS - 1, "q."),
+    (0, MAX_TOKENS - 1, "q->"),
+    (0, MAX_TOKENS - 1, "q$"),
+    (0, MAX_TOKENS - 1, "q 2147483648"),
+    (0, MAX_TOKENS - 1, "q"),
+    (0, MAX_TOKENS - 2, "q..1"),
+    (2, MAX_TOKENS - 1, "c1..5"),
+    (2, MAX_TOKENS - 1, "c1 # ->\n..5"),
+    (2, MAX_TOKENS - 1, "c1 of 0..1"),
+    (2, MAX_TOKENS - 2, "c1..5"),
+    (2, MAX_TOKENS - 3, "c1..5"),
+    (2, MAX_TOKENS, "c1..5"),
+    (MAX_NAMES - 2, MAX_TOKENS - 1, "c1..5"),
+    (MAX_NAMES - 2, MAX_TOKENS - 1, "c1 of 0..1"),
+    (MAX_NAMES - 2, MAX_TOKENS - 1, "q..1"),
+    (MAX_NAMES - 2, MAX_TOKENS - 1, "q of 0..1"),
+    (MAX_NAMES - 2, MAX_TOKENS - 3, "c1..5"),
+];
 
 // Number of names.
 

@@ -37,7 +37,7 @@
 
 mod expression;
 
-use crate::lex::{lex, Keyword, Kind, Symbol, Token, MAX_SOURCE};
+use crate::lex::{kind_behind, lex, Keyword, Kind, Symbol, Token, MAX_SOURCE};
 use crate::names::{
     Names, Record, ARRAY, CONSTANT, CONST_FIELD, FIELD, INDEX, MAX_NAMES, VARIABLE,
 };
@@ -381,10 +381,12 @@ impl Reader<'_> {
         self.expect_keyword(Keyword::Dimensions)?;
         self.expect_keyword(Keyword::Of)?;
         // "A name after the declaration's `of` begins a range exactly if `..`
-        // follows it." A name is never the last token, the stop is.
+        // follows it", also where `..` is one token too many.
         let begins_range = match self.token().kind {
             Kind::Literal(_) | Kind::Symbol(Symbol::Plus) | Kind::Symbol(Symbol::Minus) => true,
-            Kind::Name => self.tokens[self.at + 1].kind == Kind::Symbol(Symbol::DotDot),
+            Kind::Name => {
+                kind_behind(self.source, self.token()) == Some(Kind::Symbol(Symbol::DotDot))
+            }
             _ => false,
         };
         if begins_range {

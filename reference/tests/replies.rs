@@ -100,6 +100,33 @@ fn stops() {
     expect(3, &format!("{tokens}^1_"));
 }
 
+/// A name behind `of`, and `..` or another token as the 4,097th.
+#[test]
+fn last_tokens_after_of() {
+    let expect_of = |number, count, last, rest: &str| {
+        expect(number, &format!("{}{rest}", limits::up_to_of(count, last)));
+    };
+    expect_of(8, 0, 4095, "^q..1");
+    expect_of(8, 0, 4095, "^cell..1");
+    expect_of(8, 0, 4095, "^a..1");
+    expect_of(5, 2, 4095, "c1^..5");
+    expect_of(5, 2, 4095, "c1 # ->\n^..5");
+    expect_of(5, 254, 4095, "c1^..5");
+    expect_of(8, 254, 4095, "^q..1");
+    expect_of(5, 0, 4095, "q ^of 0..1");
+    expect_of(9, 0, 4095, "^cell of 0..1");
+    expect_of(15, 254, 4095, "^c1 of 0..1");
+    expect_of(5, 0, 4095, "q^[");
+    expect_of(5, 0, 4095, "q^->");
+    expect_of(3, 0, 4095, "q^$");
+    expect_of(4, 0, 4095, "q ^2147483648");
+    expect_of(7, 0, 4095, "q^");
+    expect_of(8, 0, 4094, "^q..1");
+    expect_of(5, 2, 4094, "c1..^5");
+    expect_of(0, 2, 4093, "c1..5");
+    expect_of(5, 2, 4096, "^c1..5");
+}
+
 #[test]
 fn names_and_fields() {
     expect_s(6, "cell ^[0] := 1");

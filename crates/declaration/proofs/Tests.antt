@@ -31,29 +31,29 @@ full-not n h = simp (lt-leb 8 n h)
 
 -- ---- an unnamed range
 
-module _ (t u : Token) where
-  pub unnamed-plus : t .kind ≡ 43 → true ≡ is-unnamed t u
+module _ (t : Token) (k : ℕ) where
+  pub unnamed-plus : t .kind ≡ 43 → true ≡ is-unnamed t k
   unfolding is-unnamed is-sign
   unnamed-plus e = simp (eq-eqb (t .kind) 43 e)
 
-  pub unnamed-minus : (t .kind ≡ 43 → ⊥) → t .kind ≡ 45 → true ≡ is-unnamed t u
+  pub unnamed-minus : (t .kind ≡ 43 → ⊥) → t .kind ≡ 45 → true ≡ is-unnamed t k
   unfolding is-unnamed is-sign
   unnamed-minus a e = simp (ne-eqb (t .kind) 43 a, eq-eqb (t .kind) 45 e)
 
   module _ (a : t .kind ≡ 43 → ⊥) (b : t .kind ≡ 45 → ⊥) where
-    pub unnamed-literal : t .kind ≡ 2 → true ≡ is-unnamed t u
+    pub unnamed-literal : t .kind ≡ 2 → true ≡ is-unnamed t k
     unfolding is-unnamed is-sign
     unnamed-literal e = simp (ne-eqb (t .kind) 43 a, ne-eqb (t .kind) 45 b, eq-eqb (t .kind) 2 e)
 
     module _ (c : t .kind ≡ 2 → ⊥) {r : Bool} (x : Named t r) where
-      rest : is-unnamed t u ≡ (r && eqb (u .kind) 129)
+      rest : is-unnamed t k ≡ (r && eqb k 129)
       unfolding is-unnamed is-sign
       rest = simp (ne-eqb (t .kind) 43 a, ne-eqb (t .kind) 45 b, ne-eqb (t .kind) 2 c, x .is)
 
-      pub unnamed-name : r ≡ true → eqb (u .kind) 129 ≡ is-unnamed t u
+      pub unnamed-name : r ≡ true → eqb k 129 ≡ is-unnamed t k
       unnamed-name e = sym (rest ∙ rw e)
 
-      pub named-not : r ≡ false → false ≡ is-unnamed t u
+      pub named-not : r ≡ false → false ≡ is-unnamed t k
       named-not e = sym (rest ∙ rw e)
 
 -- ---- groups

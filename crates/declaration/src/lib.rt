@@ -13,6 +13,7 @@ ghost use Rattle.reader.specs.Reading.{Ready, Reads};
 ghost use Rattle.declaration.specs.Fields.{full-of, Counted, Ranges, Fields, Ends, Starts, Dims, Fielded, Declares, Ranged};
 use constants::read_constant;
 use constants::read_range;
+use program::kind_at;
 use program::put_word;
 use program::token_at;
 use reader::Read;
@@ -171,9 +172,10 @@ fn read_groups(
     }
 }
 
-// Whether a single unnamed range follows: a sign or a literal begins it, and a name exactly if `..` follows that.
-fn is_unnamed(t: Token, u: Token) -> bool
-    ensures { λ r. ⌜ r ≡ is-unnamed t u ⌝ }
+// Whether a single unnamed range follows: a sign or a literal begins it, and a name exactly if `..` follows that (k is the kind of
+// what follows).
+fn is_unnamed(t: Token, k: u32) -> bool
+    ensures { λ r. ⌜ r ≡ is-unnamed t k ⌝ }
 {
     if t.kind == kind::PLUS {
         return true;
@@ -185,7 +187,7 @@ fn is_unnamed(t: Token, u: Token) -> bool
         return true;
     }
     if is_name(t) {
-        return u.kind == kind::DOTS;
+        return k == kind::DOTS;
     }
     false
 }
@@ -203,8 +205,8 @@ fn read_fields(
     ensures { λ r. ⌜ ((dims : ℤ) → Reads (Fielded (now (words .exit)) base dims) (read-fields base dims) (now (source .entry)) scan 256 s (now (names .entry)) (now (words .entry)) r (now (names .exit)) (now (words .exit))) ⌝ }
 {
     let t = token_at(words, scan, s.at);
-    let u = token_at(words, scan, s.at + 1);
-    if is_unnamed(t, u) {
+    let k = kind_at(words, scan, s.at + 1);
+    if is_unnamed(t, k) {
         let r = read_range(source, names, words, scan, s, 4294967296);
         let Read::Next(a) = r else {
             return r;

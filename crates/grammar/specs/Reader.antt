@@ -12,7 +12,7 @@ use Rattle.value.specs.Choice.{if_then_else_}
 use Rattle.token.specs.declared.Token.{Token}
 use Rattle.token.specs.declared.Scan.{Scan}
 use Rattle.token.specs.Kind.{kind}
-use Rattle.token.specs.Scanning.{token-in}
+use Rattle.token.specs.Scanning.{token-in, kind-in}
 use Rattle.names.specs.declared.Entry.{Entry}
 use Rattle.names.specs.Names.{name-kind, is, most-names, entry-at, with-entry, with-value, find-name}
 use Rattle.program.specs.Table.{with-word}
@@ -135,9 +135,9 @@ is-kind t k = eqb (t .kind) k
 unfoldable pub next-token : Reader Token
 next-token input s = ok (token-of input s (s .at), s)
 
--- the token behind the next one
-unfoldable pub token-after : Reader Token
-token-after input s = ok (token-of input s (s .at + 1), s)
+-- the kind of the token behind the next one, also where that is the one at which the sequence stops
+unfoldable pub kind-after : Reader ℕ
+kind-after input s = ok (kind-in (s .words) (input .scan) (s .at + 1), s)
 
 -- the position of the next token
 unfoldable pub position : Reader ℕ

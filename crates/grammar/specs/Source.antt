@@ -15,7 +15,7 @@ use Rattle.names.specs.Names.{name-kind, name-words, is, entry-at, with-value}
 use Rattle.program.specs.Syntax.{Range, Block, Program}
 use Rattle.program.specs.Table.{word-at, with-range}
 use Rattle.grammar.specs.Complaint.{no-complaint}
-use Rattle.grammar.specs.Reader.{Input, State, Result, ok, fail, Reader, _>>=_, _>>_, _▷_, return, Turn, again, done, repeat, turns, refuse-with, refuse, refuse-last, is-kind, next-token, token-after, position, advance, expect, forbid, is-name, declare, fresh, token-of}
+use Rattle.grammar.specs.Reader.{Input, State, Result, ok, fail, Reader, _>>=_, _>>_, _▷_, return, Turn, again, done, repeat, turns, refuse-with, refuse, refuse-last, is-kind, next-token, kind-after, position, advance, expect, forbid, is-name, declare, fresh, token-of}
 use Rattle.grammar.specs.Constants.{is-sign, read-constant, any-range, read-constants}
 use Rattle.grammar.specs.Expressions.{Cell}
 use Rattle.grammar.specs.Statements.{read-block}
@@ -64,9 +64,9 @@ group-turn base got =
 unfoldable pub read-dims : Reader ℤ
 read-dims = read-constant >>= λ z. if within (pos 1) (pos 3) z then return z else refuse-last 10
 
--- whether a single unnamed range follows: a sign or a literal begins it, and a name exactly if `..` follows that
-unfoldable pub is-unnamed : Token → Token → Bool
-is-unnamed t u = is-sign t || is-kind t (kind .literal) || is-name t && is-kind u (kind .dots)
+-- whether a single unnamed range follows: a sign or a literal begins it, and a name exactly if `..` follows that (k is the kind of what follows)
+unfoldable pub is-unnamed : Token → ℕ → Bool
+is-unnamed t k = is-sign t || is-kind t (kind .literal) || is-name t && eqb k (kind .dots)
 
 -- what a cell is, and the range of each field
 pub record Declared : Type 0 where
@@ -80,8 +80,8 @@ declared dims named fields = record { cell = record { dims = encode-of dims; nam
 unfoldable pub read-fields : ℕ → ℤ → Reader Declared
 read-fields base dims =
     next-token >>= λ t.
-    token-after >>= λ u.
-    if is-unnamed t u then (any-range >>= put-ranges base [] 1 ▷ declared dims false)
+    kind-after >>= λ k.
+    if is-unnamed t k then (any-range >>= put-ranges base [] 1 ▷ declared dims false)
     else (repeat turns (group-turn base) [] ▷ declared dims true)
 
 -- the cell declaration

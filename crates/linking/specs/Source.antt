@@ -14,13 +14,14 @@ use Rattle.value.specs.Number.{within}
 use Rattle.value.specs.Worked.{decode-of, encode-of}
 use Rattle.value.specs.Laws.{never, and-both}
 use Rattle.token.specs.Kind.{kind}
+use Rattle.token.specs.Scanning.{kind-in}
 use Rattle.names.specs.declared.Entry.{Entry}
 use Rattle.names.specs.Names.{name-kind, entry-at}
 use Rattle.program.specs.Syntax.{Range, range, no-range}
 use Rattle.program.specs.Table.{word-at, with-word, with-range, range-at}
 use Rattle.grammar.specs.Reader.{Input, State, again, done, turns, token-of, is-kind, repeat, return}
 use Rattle.grammar.specs.Source.{field-turn, with-ranges, put-ranges, read-group, group-turn, read-dims, is-unnamed, Declared, declared, read-fields, read-cell}
-use Rattle.linking.specs.Steps.{advanced, written, named, Gives, gave, refused-last, bind, made, choose, at-position, at-token, at-token-after, over, named-it, expected, forbidden, Turned, repeated}
+use Rattle.linking.specs.Steps.{advanced, written, named, Gives, gave, refused-last, bind, made, choose, at-position, at-token, at-kind-after, over, named-it, expected, forbidden, Turned, repeated}
 use Rattle.linking.specs.Runs.{word-other, both-2, both-3, tokens, head-at, Text, Signable, Sound, Run, stay, join, go-on, write, entry-new, entry-kept}
 use Rattle.linking.specs.Naming.{of-kind, name-it}
 use Rattle.linking.specs.Constants.{Piece, one-token, signable-decoded, constant-gives, range-gives, fresh-it}
@@ -268,8 +269,8 @@ module _ {input : Input} {text : List ℕ} (T : Text input text) where
       let b : Bare s₀ (advanced s₀) = record { run = p .run; none = λ slot l m k. absurd (omega arith) } in
       let f : Fields s₀ [] (advanced s₀) = record { bare = b; long = omega arith; most = omega arith; ranges = λ k l. absurd (omega arith); ends = λ k l. absurd (omega arith) } in
       at-token _
-      (at-token-after _
-      (choose (is-unnamed (token-of input (advanced s₀) (t .at + 1 + 1)) (token-of input (advanced s₀) (t .at + 1 + 1 + 1)))
+      (at-kind-after _
+      (choose (is-unnamed (token-of input (advanced s₀) (t .at + 1 + 1)) (kind-in (advanced s₀ .words) (input .scan) (t .at + 1 + 1 + 1)))
       (λ _. made (declared z false) (bind (range-gives T 4294967296 (p .run .sound)) (λ r u g. put-ranges-it {Q = λ all t. Fields s₀ all t × (0 < length all)} (s₀ .at) [] 1 r (more-ranges (r₁ .sound) f (g .piece .run) (bare-piece b (g .piece)) 1 r (g .low-in) (g .high-in) (omega (arith, g .piece .far)) (omega arith), omega arith))) (λ all u k. read-from z false (h .2) (h .1) r₁ (k .0) (k .1)))
       (λ _. made (declared z true) (fields-gives (r₁ .sound) f) (λ all u k. read-from z true (h .2) (h .1) r₁ (k .0) (k .1)))))))))
     where

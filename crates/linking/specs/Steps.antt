@@ -7,11 +7,12 @@ use mathlib.Core.Option.{Option, none, some}
 use lib.Dec.{eqb}
 use Rattle.value.specs.Choice.{if_then_else_}
 use Rattle.token.specs.declared.Token.{Token}
+use Rattle.token.specs.Scanning.{kind-in}
 use Rattle.names.specs.declared.Entry.{Entry}
 use Rattle.names.specs.Names.{entry-at, with-entry, with-value, find-name}
 use Rattle.program.specs.Table.{with-word}
 use Rattle.grammar.specs.Complaint.{complaint, first-of}
-use Rattle.grammar.specs.Reader.{Input, State, Result, ok, fail, Reader, and-then, _>>=_, _>>_, _▷_, return, unit, nothing, Turn, again, done, turned, get-state, token-of, refuse, refuse-last, note, repeat, next-token, token-after, position, advance, put, put-both, expect-or, forbid, opening, on-slot, by-name, entry-in, declare, revalue}
+use Rattle.grammar.specs.Reader.{Input, State, Result, ok, fail, Reader, and-then, _>>=_, _>>_, _▷_, return, unit, nothing, Turn, again, done, turned, get-state, token-of, refuse, refuse-last, note, repeat, next-token, kind-after, position, advance, put, put-both, expect-or, forbid, opening, on-slot, by-name, entry-in, declare, revalue}
 
 -- ---- states
 
@@ -102,9 +103,9 @@ module _ {A : Type 0} {input : Input} {s : State} {Q : A → State → Type 0} w
   unfolding next-token _>>=_
   at-token h x = record { is = x .is }
 
-  pub at-token-after : (h : Token → Reader A) → Gives input (h (token-of input s (s .at + 1))) s Q → Gives input (token-after >>= h) s Q
-  unfolding token-after _>>=_
-  at-token-after h x = record { is = x .is }
+  pub at-kind-after : (h : ℕ → Reader A) → Gives input (h (kind-in (s .words) (input .scan) (s .at + 1))) s Q → Gives input (kind-after >>= h) s Q
+  unfolding kind-after _>>=_
+  at-kind-after h x = record { is = x .is }
 
   pub at-state : (h : State → Reader A) → Gives input (h s) s Q → Gives input (get-state >>= h) s Q
   unfolding get-state _>>=_

@@ -2,7 +2,7 @@
 ghost use mathlib.Core.Path.{_≡_};
 ghost use Prim.Native.Nat.{_<_, _≤_};
 ghost use lib.ListN.{length};
-ghost use Rattle.token.specs.Scanning.{most-tokens, table-words};
+ghost use Rattle.token.specs.Scanning.{most-tokens, table-words, kind-in};
 ghost use Rattle.program.specs.Table.{word-at, with-word};
 ghost use Rattle.program.specs.Standing.{Stands};
 use token::Scan;
@@ -29,6 +29,17 @@ pub fn token_at(words: &[u32], scan: Scan, i: usize) -> Token
         len: 0,
         value: scan.number,
     }
+}
+
+// The kind of the token at position i, also of the one behind the last at which the sequence stops.
+pub fn kind_at(words: &[u32], scan: Scan, i: usize) -> u32
+    requires { ⌜ (scan .count ≤ most-tokens) × (length (now words) ≡ table-words) ⌝ }
+    ensures { λ r. ⌜ r ≡ kind-in (now (words .entry)) scan i ⌝ }
+{
+    if i < scan.count {
+        return words[4 * i];
+    }
+    scan.kind
 }
 
 // Word w of the token at position i; 0 behind the table's end.

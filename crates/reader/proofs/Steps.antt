@@ -8,6 +8,7 @@ use mathlib.Core.Option.{Option, none, some}
 use Rattle.value.specs.Choice.{if_then_else_}
 use Rattle.token.specs.declared.Scan.{Scan}
 use Rattle.token.specs.declared.Token.{Token}
+use Rattle.token.specs.Scanning.{kind-in}
 use Rattle.names.specs.declared.Entry.{Entry}
 use Rattle.names.specs.declared.Found.{Found}
 use Rattle.names.specs.declared.Found.the-variants.{At, Missing}
@@ -15,7 +16,7 @@ use Rattle.names.specs.Names.{entry-at, with-value, find-name}
 use Rattle.names.specs.Finding.{found-of, Below, Finds}
 use Rattle.program.specs.Table.{with-word}
 use Rattle.program.specs.Standing.{Stands}
-use Rattle.grammar.specs.Reader.{Result, ok, fail, Input, State, Reader, and-then, _>>=_, _▷_, return, unit, get-state, refuse, refuse-last, note, next-token, token-after, position, advance, put, on-slot, by-name, entry-in, declare, revalue, reference, use-name}
+use Rattle.grammar.specs.Reader.{Result, ok, fail, Input, State, Reader, and-then, _>>=_, _▷_, return, unit, get-state, refuse, refuse-last, note, next-token, kind-after, position, advance, put, on-slot, by-name, entry-in, declare, revalue, reference, use-name}
 use Rattle.reader.specs.Reading.{input, state, exactly, anything, word, only, Told, Gives, refusal, moved-of, Moved, Carries, Noted, declared-of, Declares, Uses}
 use Rattle.reader.specs.declared.Reading.{Reading}
 use Rattle.reader.specs.declared.Read.{Read}
@@ -123,14 +124,14 @@ pub below-slot : {n slot : ℕ} {q : Found} → Below n q → q ≡ At slot → 
 below-slot x e = rw e at x
 
 module _ {A : Type 0} {source : List ℕ} {sc : Scan} {R : A → Reading → Type 0} {s : Reading} {ns ws ns₁ ws₁ : List ℕ} {r : Read} where
-  -- the next token, the token behind it, the position, the state, the name in a slot
+  -- the next token, the kind of the token behind it, the position, the state, the name in a slot
   pub token : (h : Token → Reader A) {t : Token} → Stands ws sc (s .at) t → Gives R (h t) source sc s ns ws r ns₁ ws₁ → Gives R (next-token >>= h) source sc s ns ws r ns₁ ws₁
   unfolding next-token _>>=_
   token h e x = by-another (ap (λ (u : Token). h u (input source sc) (state s ns ws)) (sym (e .is))) x
 
-  pub token-behind : (h : Token → Reader A) {t : Token} → Stands ws sc (s .at + 1) t → Gives R (h t) source sc s ns ws r ns₁ ws₁ → Gives R (token-after >>= h) source sc s ns ws r ns₁ ws₁
-  unfolding token-after _>>=_
-  token-behind h e x = by-another (ap (λ (u : Token). h u (input source sc) (state s ns ws)) (sym (e .is))) x
+  pub kind-behind : (h : ℕ → Reader A) {k : ℕ} → k ≡ kind-in ws sc (s .at + 1) → Gives R (h k) source sc s ns ws r ns₁ ws₁ → Gives R (kind-after >>= h) source sc s ns ws r ns₁ ws₁
+  unfolding kind-after _>>=_
+  kind-behind h e x = by-another (ap (λ (k : ℕ). h k (input source sc) (state s ns ws)) (sym e)) x
 
   pub here : (h : ℕ → Reader A) → Gives R (h (s .at)) source sc s ns ws r ns₁ ws₁ → Gives R (position >>= h) source sc s ns ws r ns₁ ws₁
   unfolding position _>>=_

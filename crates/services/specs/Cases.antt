@@ -81,9 +81,9 @@ unfolding same-report Listed.list-of Step.first-fault Step.how-many Step.any-of 
     Bytes.member Bytes.same Bytes.kind-of Bytes.fold Kind.level-of Lexeme.find-kind Lexeme.starts Lexeme.in-name
     Lexeme.in-literal Lexeme.extent Lexeme.decimal Lexeme.word Lexeme.digits Lexeme.punctuation Lexeme.read-token
     Scanning.blanks Scanning.stop-number Scanning.scan-from Scanning.scan Scanning.token-words Scanning.scanned-words
-    Scanning.token-in Names.entry-at Names.entries-from Names.is-field Names.is-visible Names.in-space Names.letters
-    Names.find Names.find-name Complaint.before Complaint.first-of Complaint.broken Reader._>>=_ Reader.return
-    Reader.get-state Reader.refuse Reader.refuse-last Reader.note Reader.repeat Reader.next-token Reader.token-after
+    Scanning.token-in Scanning.kind-in Names.entry-at Names.entries-from Names.is-field Names.is-visible Names.in-space
+    Names.letters Names.find Names.find-name Complaint.before Complaint.first-of Complaint.broken Reader._>>=_ Reader.return
+    Reader.get-state Reader.refuse Reader.refuse-last Reader.note Reader.repeat Reader.next-token Reader.kind-after
     Reader.position Reader.advance Reader.put Reader.expect-or Reader.forbid Reader.opening Reader.is-name Reader.by-name
     Reader.entry-in Reader.declare Reader.revalue Reader.fresh Reader.reference Reader.use-name Constants.is-sign
     Constants.named-constant Constants.read-constant Constants.negated Constants.read-signed Constants.read-range

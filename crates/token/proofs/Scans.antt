@@ -86,20 +86,20 @@ pub ruleset Clears = (clear-start, clear-more, clear-all)
 -- ---- one turn of the scan
 
 abbrev behind : List Token → Scanned → Scanned
-behind ts x = record { tokens = ts ++ x .tokens; number = x .number; place = x .place }
+behind ts x = record { tokens = ts ++ x .tokens; number = x .number; place = x .place; kind = x .kind }
 
 behind-more : (ts us : List Token) (x : Scanned) → behind ts (behind us x) ≡ behind (ts ++ us) x
-behind-more ts us x = ap (λ (l : List Token). record { tokens = l; number = x .number; place = x .place }) (sym (append-assoc ts us (x .tokens)))
+behind-more ts us x = ap (λ (l : List Token). record { tokens = l; number = x .number; place = x .place; kind = x .kind }) (sym (append-assoc ts us (x .tokens)))
 
 behind-one : {t u : Token} {x y : Scanned} → t ≡ u → x ≡ y → behind (t ∷ []) x ≡ behind (u ∷ []) y
 behind-one {u = u} {x = x} p q = ap (λ (a : Token). behind (a ∷ []) x) p ∙ ap (behind (u ∷ [])) q
 
 module _ (turns place count : ℕ) (s : List ℕ) where
-  scan-end : drop (blanks false s) s ≡ [] → scan-from (suc turns) place count s ≡ stopped 7 (place + blanks false s)
+  scan-end : drop (blanks false s) s ≡ [] → scan-from (suc turns) place count s ≡ stopped 7 (place + blanks false s) 0
   unfolding scan-from
   scan-end e = rw (scan-from, e)
 
-  scan-stop : (rest : List ℕ) → drop (blanks false s) s ≡ rest → 0 < length rest → (stop-number count (read-token rest) ≡ 0 → ⊥) → scan-from (suc turns) place count s ≡ stopped (stop-number count (read-token rest)) (place + blanks false s)
+  scan-stop : (rest : List ℕ) → drop (blanks false s) s ≡ rest → 0 < length rest → (stop-number count (read-token rest) ≡ 0 → ⊥) → scan-from (suc turns) place count s ≡ stopped (stop-number count (read-token rest)) (place + blanks false s) (read-token rest .kind)
   unfolding scan-from
   scan-stop [] e h d = absurd (not-suc-le-zero h)
   scan-stop (b ∷ bs) e h d = rw (scan-from, e, ne-eqb (stop-number count (read-token (b ∷ bs))) 0 d)
@@ -138,10 +138,10 @@ go-start source ws h e =
       left = rw e;
     }
 
--- the scan stops with number n at a place
-stops : {source ws : List ℕ} {place count n at : ℕ} (g : Going source ws place count) → scan-from (suc (g .turns)) place count (drop place source) ≡ stopped n at → at ≤ length source → Fills source (record { count = count; number = n; place = at }) ws
-stops {source} {ws} {place} {count} {n} {at} g e h =
-    let all : scan source ≡ behind (g .tokens) (stopped n at) = g .left ∙ ap (behind (g .tokens)) e in
+-- the scan stops with number n at a place, where a token of kind k stands
+stops : {source ws : List ℕ} {place count n at k : ℕ} (g : Going source ws place count) → scan-from (suc (g .turns)) place count (drop place source) ≡ stopped n at k → at ≤ length source → Fills source (record { count = count; number = n; place = at; kind = k }) ws
+stops {source} {ws} {place} {count} {n} {at} {k} g e h =
+    let all : scan source ≡ behind (g .tokens) (stopped n at k) = g .left ∙ ap (behind (g .tokens)) e in
     record {
       is = sym (ap scan-of all ∙ rw (append-nil, g .many));
       tokens = g .written ∙ sym (ap (λ (x : Scanned). token-words (x .tokens)) all ∙ rw append-nil);
@@ -156,7 +156,7 @@ module _ (source ws : List ℕ) {place count : ℕ} (g : Going source ws place c
   inside : at ≤ length source
   inside = omega (arith, w .within, g .within, w .is)
 
-  pub go-end : length source ≤ at → Fills source (record { count = count; number = 7; place = at }) ws
+  pub go-end : length source ≤ at → Fills source (record { count = count; number = 7; place = at; kind = 0 }) ws
   go-end h = stops g (scan-end (g .turns) place count (drop place source) (rest ∙ drop-of-length-le source h) ∙ rw (← w .is)) inside
 
   module _ (h : at < length source) {r : Lexed} (p : Reads source at r) {n : ℕ} (q : Stops count (r .token) n) where
@@ -166,8 +166,11 @@ module _ (source ws : List ℕ) {place count : ℕ} (g : Going source ws place c
     number : n ≡ stop-number count (read-token (drop at source))
     number = q .is ∙ rw (p .is)
 
-    pub go-stop : (n ≡ 0 → ⊥) → Fills source (record { count = count; number = n; place = at }) ws
-    go-stop d = stops g (scan-stop (g .turns) place count (drop place source) (drop at source) rest some (λ e. d (number ∙ e)) ∙ rw (← number, ← w .is)) inside
+    kind : r .token .kind ≡ read-token (drop at source) .kind
+    kind = rw (p .is)
+
+    pub go-stop : (n ≡ 0 → ⊥) → Fills source (record { count = count; number = n; place = at; kind = r .token .kind }) ws
+    go-stop d = stops g (scan-stop (g .turns) place count (drop place source) (drop at source) rest some (λ e. d (number ∙ e)) ∙ rw (← number, ← w .is, ← kind)) inside
 
     pub go-on : n ≡ 0 → {ws′ : List ℕ} → ws′ ≡ take (4 * count) ws ++ token-words (r .token ∷ []) ++ drop (4 * count + 4) ws → Going source ws′ (r .next .at) (count + 1)
     unfolding token-words

@@ -36,34 +36,35 @@ stop-number count w =
     else if eqb (w .kind) (kind .refused) then 6
     else 0
 
--- the tokens, and the number and place of the stop behind them
+-- the tokens, the number and place of the stop behind them, and the kind of the token at which their sequence stops
 pub record Scanned : Type 0 where
   pub tokens : List Token
   pub number : ℕ
   pub place : ℕ
+  pub kind : ℕ
 
-abbrev pub stopped : ℕ → ℕ → Scanned
-stopped number place = record { tokens = []; number = number; place = place }
+abbrev pub stopped : ℕ → ℕ → ℕ → Scanned
+stopped number place kind = record { tokens = []; number = number; place = place; kind = kind }
 
 abbrev pub token-of : Lexeme → ℕ → Token
 token-of w place = record { kind = w .kind; start = place; len = w .len; value = w .value }
 
 -- the tokens from a place on, whose bytes are s, after `count` tokens. Each turn takes at least one byte, so that as many
--- turns as bytes, and one for the end, are enough. The end of the source stops the sequence with number 7
+-- turns as bytes, and one for the end, are enough. The end of the source stops the sequence with number 7 and no token
 unfoldable pub scan-from : ℕ → ℕ → ℕ → List ℕ → Scanned
-scan-from zero place count s = stopped 7 place
+scan-from zero place count s = stopped 7 place (kind .stop)
 scan-from (suc turns) place count s =
     let skipped = blanks false s in
     let here = place + skipped in
     elim (drop skipped s) [
-      | [] ↦ stopped 7 here
+      | [] ↦ stopped 7 here (kind .stop)
       | b ∷ bs ↦
           let w = read-token (b ∷ bs) in
           elim (eqb (stop-number count w) 0) [
             | true ↦
                 let after = scan-from turns (here + w .len) (suc count) (drop (w .len) (b ∷ bs)) in
-                record { tokens = token-of w here ∷ after .tokens; number = after .number; place = after .place }
-            | false ↦ stopped (stop-number count w) here
+                record { tokens = token-of w here ∷ after .tokens; number = after .number; place = after .place; kind = after .kind }
+            | false ↦ stopped (stop-number count w) here (w .kind)
           ]
     ]
 
@@ -89,7 +90,7 @@ scanned-words s = token-words (s .tokens) ++ replicate (table-words - length (to
 
 -- how many tokens there are, and the stop
 abbrev pub scan-of : Scanned → Scan
-scan-of s = record { count = length (s .tokens); number = s .number; place = s .place }
+scan-of s = record { count = length (s .tokens); number = s .number; place = s .place; kind = s .kind }
 
 -- the token at position i of a table
 abbrev pub token-at : List ℕ → ℕ → Token
@@ -108,3 +109,7 @@ stop-of s = record { kind = kind .stop; start = s .place; len = 0; value = s .nu
 -- the token at position i, or the stop behind the last one
 unfoldable pub token-in : List ℕ → Scan → ℕ → Token
 token-in words s i = if ltb i (s .count) then token-at words i else stop-of s
+
+-- the kind of the token at position i, also of the one behind the last at which the sequence stops
+unfoldable pub kind-in : List ℕ → Scan → ℕ → ℕ
+kind-in words s i = if ltb i (s .count) then token-at words i .kind else s .kind

@@ -24,11 +24,12 @@ pub struct Token {
     pub value: u32,
 }
 
-// What scanning a source finds: how many tokens, and the number and the place of the stop behind them.
+// What scanning a source finds: how many tokens, the number and the place of the stop behind them, and the kind of the token there.
 pub struct Scan {
     pub count: usize,
     pub number: u32,
     pub place: u32,
+    pub kind: u32,
 }
 
 // A reading position, handed by value from token to token.

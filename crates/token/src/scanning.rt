@@ -52,6 +52,7 @@ pub fn read_tokens(source: &[u8], kinds: &[u8; 256], rows: &[u8; 300], words: &m
                 count,
                 number: 7,
                 place: at as u32,
+                kind: crate::kind::STOP,
             };
         }
         let read = here.next(source, kinds, rows);
@@ -62,6 +63,7 @@ pub fn read_tokens(source: &[u8], kinds: &[u8; 256], rows: &[u8; 300], words: &m
                 count,
                 number,
                 place: at as u32,
+                kind: token.kind,
             };
         }
         write_token(words, count, token);

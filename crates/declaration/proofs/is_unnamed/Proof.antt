@@ -26,11 +26,11 @@ is-name-requires c κs = search needs
 
 returns-4 : tie.Need-returns-4
 returns-4 c =
-    let if1 = c .before .before .before .before .before .before .before .if1 in
-    let if2 = c .before .before .before .before .before .if2 in
-    let if3 = c .before .before .before .if3 in
-    let is-name = c .before .before .is-name in
-    let if4 = c .before .if4 in
+    let if1 = c .before .before .before .before .before .before .if1 in
+    let if2 = c .before .before .before .before .if2 in
+    let if3 = c .before .before .if3 in
+    let is-name = c .before .is-name in
+    let if4 = c .if4 in
     unnamed-name _ _ (if1 .left) (if2 .left) (if3 .left) (is-name .ensures) (if4 .taken)
 
 returns-5 : tie.Need-returns-5

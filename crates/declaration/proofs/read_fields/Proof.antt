@@ -3,7 +3,7 @@ use mathlib.Core.Path.{_∙_, sym, refl}
 use mathlib.Core.Bool.{true, false}
 use Rattle.grammar.specs.Source.{read-fields, declared}
 use Rattle.reader.specs.Reading.{anything}
-use Rattle.reader.proofs.Steps.{on-told, off, so, other, token, token-behind, made}
+use Rattle.reader.proofs.Steps.{on-told, off, so, other, token, kind-behind, made}
 use Rattle.reader.proofs.Going.{nowhere, went, goes-on}
 use borrow.Author.Needs.{needs}
 use Rattle.declaration.proofs.Grouping.{unnamed-put}
@@ -14,11 +14,11 @@ use Rattle.declaration.proofs.read_fields.Tie as tie
 token-at-requires : tie.Need-token-at-requires
 token-at-requires c κs = search needs
 
-add-token-at : tie.Need-add-token-at
-add-token-at c = search needs
+add-kind-at : tie.Need-add-kind-at
+add-kind-at c = search needs
 
-token-at-requires-2 : tie.Need-token-at-requires-2
-token-at-requires-2 c κs = search needs
+kind-at-requires : tie.Need-kind-at-requires
+kind-at-requires c κs = search needs
 
 is-unnamed-requires : tie.Need-is-unnamed-requires
 is-unnamed-requires c κs = search needs
@@ -42,7 +42,7 @@ returns : tie.Need-returns
 unfolding read-fields
 returns c =
     let token-at = c .before .before .before .before .before .before .before .before .before .before .before .before .token-at in
-    let token-at2 = c .before .before .before .before .before .before .before .before .before .token-at2 in
+    let kind-at = c .before .before .before .before .before .before .before .before .before .kind-at in
     let is-unnamed = c .before .before .before .before .before .before .before .before .is-unnamed in
     let if1 = c .before .before .before .before .before .before .before .if1 in
     let read-range = c .before .before .before .before .read-range in
@@ -51,7 +51,7 @@ returns c =
     let y = enum-told .given .1 in
     record {
       gives =
-          token _ (token-at .ensures) (token-behind _ (token-at2 .ensures) (so _ _ (sym (is-unnamed .ensures) ∙ if1 .taken) (off _
+          token _ (token-at .ensures) (kind-behind _ (kind-at .ensures) (so _ _ (sym (is-unnamed .ensures) ∙ if1 .taken) (off _
           (off {Q = anything} _ (read-range .ensures .gives) y) y)));
       onward = nowhere y;
     }
@@ -76,7 +76,7 @@ unfolding read-fields
 returns-2 c =
     let pre = c .before .before .before .before .before .before .before .before .before .before .before .before .before .before .before .before .before .before .before .before .before .before .before .pre in
     let token-at = c .before .before .before .before .before .before .before .before .before .before .before .before .before .before .before .before .before .before .token-at in
-    let token-at2 = c .before .before .before .before .before .before .before .before .before .before .before .before .before .before .before .token-at2 in
+    let kind-at = c .before .before .before .before .before .before .before .before .before .before .before .before .before .before .before .kind-at in
     let is-unnamed = c .before .before .before .before .before .before .before .before .before .before .before .before .before .before .is-unnamed in
     let if1 = c .before .before .before .before .before .before .before .before .before .before .before .before .before .if1 in
     let read-range = c .before .before .before .before .before .before .before .before .before .before .read-range in
@@ -88,7 +88,7 @@ returns-2 c =
     let m = carrying .ensures in
     record {
       gives =
-          token _ (token-at .ensures) (token-behind _ (token-at2 .ensures) (so _ _ (sym (is-unnamed .ensures) ∙ if1 .taken) (made
+          token _ (token-at .ensures) (kind-behind _ (kind-at .ensures) (so _ _ (sym (is-unnamed .ensures) ∙ if1 .taken) (made
           (declared dims false) (on-told _ (read-range .ensures .gives) (r .given .1) (unnamed-put _ (write-ranges .ensures)
           (omega (arith, pre .1, w .past)) m)) (λ rs t p. with-fields dims false refl p))));
       onward = goes-on (omega (arith, m .at, w .past)) (omega (arith, m .at, w .within)) (omega (arith, m .count, w .few, pre .0 .few));
@@ -107,7 +107,7 @@ returns-3 : tie.Need-returns-3
 unfolding read-fields
 returns-3 c =
     let token-at = c .before .before .before .before .before .before .before .before .before .before .before .before .token-at in
-    let token-at2 = c .before .before .before .before .before .before .before .before .before .token-at2 in
+    let kind-at = c .before .before .before .before .before .before .before .before .before .kind-at in
     let is-unnamed = c .before .before .before .before .before .before .before .before .is-unnamed in
     let if1 = c .before .before .before .before .before .before .before .if1 in
     let read-groups = c .before .before .before .before .read-groups in
@@ -115,7 +115,7 @@ returns-3 c =
     let g = read-groups .ensures in
     record {
       gives =
-          token _ (token-at .ensures) (token-behind _ (token-at2 .ensures) (other _ _ (sym (is-unnamed .ensures) ∙ if1 .left) (made
+          token _ (token-at .ensures) (kind-behind _ (kind-at .ensures) (other _ _ (sym (is-unnamed .ensures) ∙ if1 .left) (made
           (declared dims true) (g .gives) (λ rs t p. with-fields dims true refl p))));
       onward = g .onward;
     }
@@ -125,8 +125,8 @@ read-fields-spec =
     tie.close
     (tie.spec
     token-at-requires
-    add-token-at
-    token-at-requires-2
+    add-kind-at
+    kind-at-requires
     is-unnamed-requires
     read-range-requires
     enum-known-r
