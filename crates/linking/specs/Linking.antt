@@ -46,7 +46,7 @@ words-long [] = refl
 words-long (t ∷ ts) = omega (arith, words-long ts)
 
 -- the token whose words stand at a position
-record There (source words : List ℕ) (i : ℕ) : Type 0 where
+pub record There (source words : List ℕ) (i : ℕ) : Type 0 where
   pub token : Token
   pub fit : Fit source token
   pub head : head-at words i ≡ token .kind
@@ -93,11 +93,11 @@ module _ (source : List ℕ) (short : length source ≤ 65535) where
   good = scanned-good source
 
   -- the token at a position of the text
-  at : (i : ℕ) → i < tokens (input-of source) → There source (scanned-words (scan source)) i
+  pub at : (i : ℕ) → i < tokens (input-of source) → There source (scanned-words (scan source)) i
   unfolding scanned-words
   at i l = there source (scan source .tokens) (good .fit) _ i l
 
-  start-of : (i : ℕ) (l : i < tokens (input-of source)) → span-at (scanned-words (scan source)) i % 65536 ≡ at i l .token .start
+  pub start-of : (i : ℕ) (l : i < tokens (input-of source)) → span-at (scanned-words (scan source)) i % 65536 ≡ at i l .token .start
   start-of i l = let s = at i l .span in let f = at i l .fit .inside in omega arith
 
   len-of : (i : ℕ) (l : i < tokens (input-of source)) → span-at (scanned-words (scan source)) i / 65536 ≡ at i l .token .len

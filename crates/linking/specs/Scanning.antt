@@ -26,7 +26,7 @@ same-lists [] (y ∷ ys) e = never e
 same-lists (x ∷ xs) [] e = never e
 same-lists (x ∷ xs) (y ∷ ys) e = let h = and-both (eqb x y) (same xs ys) e in ap₂ (λ (a : ℕ) (b : List ℕ). a ∷ b) (eqb-true x y (h .0)) (same-lists xs ys (h .1))
 
-extent-within : (test : List ℕ → Bool) (s : List ℕ) → extent test s ≤ length s
+pub extent-within : (test : List ℕ → Bool) (s : List ℕ) → extent test s ≤ length s
 unfolding extent
 extent-within test [] = omega arith
 extent-within test (b ∷ bs) = by (test (b ∷ bs) || eqb (kind-of b) (byte-kind .underscore) && test bs) (extent-within test bs)
@@ -44,11 +44,11 @@ letters-here source (suc n) p l =
     rw (drop-cons source p 0 h, ← e) (ap (λ (x : List ℕ). fold (getD source p 0) ∷ x) (letters-here source n (p + 1) (omega (arith, length-drop p source, length-drop (p + 1) source))))
 
 -- every kind that a list of spellings can give satisfies a test
-unfoldable all-kinds : (ℕ → Bool) → List Spelled → Bool
+unfoldable pub all-kinds : (ℕ → Bool) → List Spelled → Bool
 all-kinds test [] = true
 all-kinds test (s ∷ ss) = test (s .kind) && all-kinds test ss
 
-kinds-kept : (test : ℕ → Bool) (w : List ℕ) (ss : List Spelled) (other : ℕ) → test other ≡ true → all-kinds test ss ≡ true → test (find-kind w ss other) ≡ true
+pub kinds-kept : (test : ℕ → Bool) (w : List ℕ) (ss : List Spelled) (other : ℕ) → test other ≡ true → all-kinds test ss ≡ true → test (find-kind w ss other) ≡ true
 unfolding find-kind all-kinds
 kinds-kept test w [] other o a = o
 kinds-kept test w (s ∷ ss) other o a = let h = and-both (test (s .kind)) (all-kinds test ss) a in by (same w (s .letters)) (h .0) (kinds-kept test w ss other o (h .1))
@@ -95,7 +95,7 @@ digits-lex s n = by (starts (byte-kind .letter) (drop n s) || starts (byte-kind 
     by false false e = other-lex s (kind .literal) n (decimal 0 (take n s)) (omega (arith, ltb-false 2147483647 (decimal 0 (take n s)) e)) (λ q. absurd (omega arith)) (λ q z. omega arith) refl
 
 -- a byte that is a sign is no number of a word or a stop
-sign-byte : (b : ℕ) → eqb (kind-of b) (byte-kind .sign) ≡ true → (b ≡ 0 → ⊥) × (wordlike b ≡ false)
+pub sign-byte : (b : ℕ) → eqb (kind-of b) (byte-kind .sign) ≡ true → (b ≡ 0 → ⊥) × (wordlike b ≡ false)
 unfolding kind-of wordlike member
 sign-byte b e = (
   λ q. no 0 refl q,
