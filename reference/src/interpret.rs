@@ -50,17 +50,8 @@ pub fn apply(operator: Binary, a: i32, b: i32, place: u32) -> Result<i32, Fault>
         Binary::Subtract => in_range(wide_a - wide_b, place),
         Binary::Quotient | Binary::Remainder if b == 0 => Err(Fault::new(31, place)),
         Binary::Quotient => in_range(wide_a / wide_b, place),
-        Binary::Remainder => {
-            // a - b*(a/b) for positive b, a + b*(a/b) for negative b; the
-            // parts are not checked.
-            let product = wide_b * (wide_a / wide_b);
-            let result = if b > 0 {
-                wide_a - product
-            } else {
-                wide_a + product
-            };
-            in_range(result, place)
-        }
+        // a - b*(a/b); never out of range.
+        Binary::Remainder => in_range(wide_a - wide_b * (wide_a / wide_b), place),
         Binary::Equal => Ok((a == b).into()),
         Binary::NotEqual => Ok((a != b).into()),
         Binary::Less => Ok((a < b).into()),

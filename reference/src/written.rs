@@ -129,12 +129,40 @@ pub fn runs() -> Vec<RunCase> {
         "5 % -3",
         "-5 % -3",
         "6 % -3",
+        "-6 % -3",
+        "0 % -3",
+        "2147483647 % -1",
+        "2147483647 % (-2147483647 - 1)",
+        "-2147483647 % (-2147483647 - 1)",
+        "(-2147483647 - 1) % (-2147483647 - 1)",
+        "(-2147483647 - 1) % -2",
+        "(-2147483647 - 1) % 3",
+        "(-2147483647 - 1) % -3",
+        "(-2147483647 - 1) % 0",
+        "-7 % 0",
+        "0 % 0",
+        "1 + (-2147483647 - 1) % -1 % -1",
         "time + cell",
     ] {
         add(&format!("{wide}cell := {expression}"), &[2], &[0, 3], 0, 1);
         let through = format!("{nine}x := {expression} cell := 4 when x > 0 := 5 when x < 0");
         add(&through, &[2], &[0, 3], 2, 1);
     }
+    // Both signs of dividend and divisor, a divisor 0 among them or not.
+    let mut pairs = Vec::new();
+    for a in [-9, -7, -4, -1, 0, 1, 4, 7, 9] {
+        for b in [-9, -7, -2, -1, 1, 2, 7, 9] {
+            pairs.extend([a, b, 5]);
+        }
+    }
+    let three = "1 dimensions of const a, const b, c of -9..9 end ";
+    let by = format!("{three}cell.c := cell.a % cell.b");
+    add(&by, &[72], &pairs, 0, 2);
+    pairs[3 * 40 + 1] = 0;
+    add(&by, &[72], &pairs, 0, 2);
+    let apart = format!("{three}cell.c := cell.a - cell.b * (cell.a / cell.b) - cell.a % cell.b");
+    pairs[3 * 40 + 1] = -3;
+    add(&apart, &[72], &pairs, 0, 2);
     // Where 33 points, chains, and faults that hide others.
     add(
         &format!("{s}cell := 1 when cell := 2 when 1 := 3 otherwise"),

@@ -70,7 +70,7 @@ fn m8_to_m11() {
     assert_eq!(value("1 | 0 & 0"), 0);
     assert_eq!(value("7 / -2"), -3);
     assert_eq!(value("-7 % 2"), -1);
-    assert_eq!(value("7 % -2"), 13);
+    assert_eq!(value("7 % -2"), 1);
 }
 
 #[test]

@@ -42,10 +42,39 @@ fn faults() {
     assert_eq!(at("cell := 1 when 0 := 10 when 1"), [33, 39, 0, 0, 1, 1]);
     assert_eq!(at("cell := 1 / 0 when 0"), [0, 0, 0, 1, 2, 2]);
     assert_eq!(at("x := (1 / 0) + (1 % 0)"), [31, 30, 0, 0, 1, 1]);
-    assert_eq!(at("x := 2147483647 % -2147483647"), [30, 38, 0, 0, 1, 1]);
+    assert_eq!(at("x := 2147483647 % -2147483647"), [0, 0, 0, 1, 2, 2]);
     assert_eq!(at("x := 1073741823 % -2147483647"), [0, 0, 0, 1, 2, 2]);
-    assert_eq!(at("x := (0-2147483647-1) % -1"), [30, 44, 0, 0, 1, 1]);
+    assert_eq!(at("x := (0-2147483647-1) % -1"), [0, 0, 0, 1, 2, 2]);
     assert_eq!(at("x := (0-2147483647-1) / -1"), [30, 44, 0, 0, 1, 1]);
+}
+
+#[test]
+fn remainders() {
+    let least = "(0-2147483647-1)";
+    for (a, b, wanted) in [
+        ("7", "2", 1),
+        ("7", "-2", 1),
+        ("-7", "2", -1),
+        ("-7", "-2", -1),
+        ("5", "-3", 2),
+        ("-5", "-3", -2),
+        ("6", "-3", 0),
+        (least, "-1", 0),
+        (least, "1", 0),
+        (least, least, 0),
+        (least, "-2147483647", -1),
+        ("2147483647", "-2147483647", 0),
+        ("2147483647", least, 2_147_483_647),
+    ] {
+        let wide = "1 dimensions of -2147483647..2147483647 ";
+        let source = format!("{wide}cell := {a} % {b}");
+        let case = RunCase::new(source.into(), &[1], vec![9], 0, 1);
+        for quiet in [false, true] {
+            let outcome = run_case(&case, quiet);
+            assert_eq!(outcome.report.number, 0, "{a} % {b}");
+            assert_eq!(outcome.grid, [wanted], "{a} % {b}");
+        }
+    }
 }
 
 #[test]

@@ -87,7 +87,7 @@ fn m8_to_m11() {
         ("1 | 0 & 0", 0),
         ("7 / -2", -3),
         ("-7 % 2", -1),
-        ("7 % -2", 13),
+        ("7 % -2", 1),
     ] {
         for mode in MODES {
             let source = format!("1 dimensions of -99..99 cell := {expression}");

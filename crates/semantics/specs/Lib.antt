@@ -3,6 +3,8 @@ pub mod Operators
 pub mod Evaluation
 pub mod Kept
 pub mod Written
+-- Which faults an operator gives.
+pub mod FaultLaws
 -- What it is for a program to stand in the word table, and what its leaf table is.
 pub mod Stands
 pub mod Leaves

@@ -35,7 +35,7 @@ marked-examples =
     ∷ gives "1 | 0 & 0" (pos 0)
     ∷ gives "7 / -2" (negsuc 2)
     ∷ gives "-7 % 2" (negsuc 0)
-    ∷ gives "7 % -2" (pos 13)
+    ∷ gives "7 % -2" (pos 1)
     -- M12: the own cell, and 23
     ∷ runs (line "0..1" "cell := [5]") (ask (5 ∷ []) (pos 0 ∷ pos 1 ∷ pos 1 ∷ pos 0 ∷ pos 1 ∷ []) (pos 0) (pos 1))
     (report 0 0 0 1 5 (pos 0 ∷ pos 1 ∷ pos 1 ∷ pos 0 ∷ pos 1 ∷ [])) 5
