@@ -80,7 +80,6 @@ enum cellang_reply {
     CELLANG_BAD_NUMBER = 10,            /* dimensions not 1 to 3, a range reversed or too long, a ninth field, a bad array size, or
                                            a wrong count of values; at the constant, the upper bound, the field, the size, the extra
                                            comma or the token after the last value */
-    CELLANG_SIGN_OUT_OF_RANGE = 11,     /* a sign takes a constant out of range; at the constant */
     CELLANG_WRONG_ACCESS = 12,          /* . on a plain number, an unknown field, an array constant without [, or a wrong count of
                                            indices; at that token or in its stead */
     CELLANG_RELATION_ON_RELATION = 13,  /* a relation on a bare relation; at the second operator */

@@ -22,7 +22,6 @@
 //! | 10 | "range reversed or too long", at "the upper bound's constant" | `range` |
 //! | 10 | "ninth field" | `field` |
 //! | 10 | "array size bad"; "value count wrong" at "the extra comma or the token after the last value" | `array_constant` (the second one is noted) |
-//! | 11 | "a sign takes a constant out of range": cannot happen, as no constant is the least value | none |
 //! | 12 | "`.` on a plain number" | `plain_name_end`, `no_field_here` |
 //! | 12 | "unknown field" | `field_reference` |
 //! | 12 | "array constant without `[`" | `primary` (noted) |

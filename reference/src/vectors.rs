@@ -76,7 +76,7 @@ pub fn runs(seed: u64, count: usize, small: bool) -> impl Iterator<Item = RunCas
 }
 
 /// Sources from the papers' own examples.
-const EXAMPLES: [&str; 34] = [
+const EXAMPLES: [&str; 40] = [
     "",
     "1 dimensions of 0..1 ",
     "1 dimensions of 0..1 x := y",
@@ -111,6 +111,12 @@ const EXAMPLES: [&str; 34] = [
     "1 dimensions of 0..1 forall i : 0..1 end forall i : 0..1 end i := 1",
     "1 dimensions of 0..1 forall i : agent end",
     "1 dimensions of 0..1 cell := 1 -> 2",
+    "1 dimensions of -2147483647..0",
+    "1 dimensions of -2147483648..0",
+    "1 dimensions of 0..1 const m := -2147483647 const p := -m cell := p - m",
+    "1 dimensions of 0..1 const m := +2147483647 const a[] for 2 := -m, +m cell := a[0]",
+    "1 dimensions of 0..1 cell := [-2147483647]",
+    "1 dimensions of 0..1 cell := -(0-2147483647-1)",
     "1 dimensions of i of 0..1 end i := cell.i forall j : 0..1 cell.i := [j].i when i = j end",
 ];
 

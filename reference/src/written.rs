@@ -57,6 +57,13 @@ pub fn runs() -> Vec<RunCase> {
         1,
     );
     add(
+        &format!("{s}const m := -2147483647 cell := cell + [m]"),
+        &[2],
+        &[0, 1],
+        0,
+        1,
+    );
+    add(
         "2 dimensions of 0..1 cell := [1,-4] + [-3,0]",
         &[2, 3],
         &[0; 6],

@@ -290,6 +290,20 @@ fn many_names() {
     );
 }
 
+/// No literal is over 2147483647, so every constant has a negative.
+#[test]
+fn signs() {
+    expect(0, "1 dimensions of -2147483647..0");
+    expect(4, "1 dimensions of -^2147483648..0");
+    expect_s(0, "const m := -2147483647 const p := -m cell := -p");
+    expect_s(0, "const m := +2147483647 const a[] for 2 := -m, +m");
+    expect_s(0, "cell := [-2147483647]");
+    let source = "const m := -2147483647 const p := -m 1 dimensions of m..p";
+    let names = check(source.as_bytes()).program.unwrap().names;
+    let values: Vec<i32> = names.iter().map(|record| record.value).collect();
+    assert_eq!(values, [-2_147_483_647, 2_147_483_647]);
+}
+
 #[test]
 fn records() {
     let source = "const n := -2 const A[] for 2 := 1, n 1 dimensions of n.. 5 x := 1 \

@@ -84,8 +84,6 @@ pub enum Reason {
     /// Dimensions not 1 to 3, a range reversed or too long, a ninth field, a
     /// bad array size, or a wrong count of values.
     BadNumber = 10,
-    /// A sign takes a constant out of range.
-    SignOutOfRange = 11,
     /// `.` on a plain number, an unknown field, an array constant without
     /// `[`, or a wrong count of indices.
     WrongAccess = 12,
@@ -110,7 +108,6 @@ impl Reason {
             8 => Reason::NameUnknown,
             9 => Reason::NameUsed,
             10 => Reason::BadNumber,
-            11 => Reason::SignOutOfRange,
             12 => Reason::WrongAccess,
             13 => Reason::RelationOnRelation,
             14 => Reason::NestedTooDeep,
@@ -135,7 +132,6 @@ impl fmt::Display for Reason {
             Reason::BadNumber => {
                 "wrong number of dimensions, fields or values, wrong array size, or wrong range"
             }
-            Reason::SignOutOfRange => "sign takes a constant out of range",
             Reason::WrongAccess => {
                 "`.` on a plain number, unknown field, array constant without `[`, or wrong index count"
             }

@@ -183,7 +183,6 @@ fn checks() {
         compare_check(&source, &mut seen);
     }
     print_seen("checks", &seen);
-    // No constant is the least value, so 11 is never given.
     for number in [0, 2, 3, 4, 5, 6, 7, 8, 9, 10, 12, 13, 14, 15] {
         assert!(seen[number] > 0, "no check gave {number}");
     }

@@ -44,13 +44,12 @@ fn replies() {
         Reason::NameUnknown,
         Reason::NameUsed,
         Reason::BadNumber,
-        Reason::SignOutOfRange,
         Reason::WrongAccess,
         Reason::RelationOnRelation,
         Reason::NestedTooDeep,
         Reason::TooManyNames,
     ];
-    for (reason, number) in reasons.into_iter().zip(1..) {
+    for (reason, number) in reasons.into_iter().zip((1..=10).chain(12..=15)) {
         assert_eq!(reason as u32, number);
         assert_eq!(named(&name_of(reason)), Some(number), "{reason:?}");
     }

@@ -14,7 +14,6 @@ fn say_source(number: u32) {
         8 => say(b"a name that is unknown, or of the wrong sort for a constant or an index"),
         9 => say(b"a name that is already used, or that cannot be assigned to"),
         10 => say(b"wrong dimensions, range, number of fields, array size or number of values"),
-        11 => say(b"a sign takes a constant out of range"),
         12 => say(b"wrong use of a field, an array constant or a relative index"),
         13 => say(b"a relation on a bare relation"),
         14 => say(b"more than 16 open if, forall, ( and [ together"),

@@ -2,11 +2,10 @@
 ghost use mathlib.Core.Path.{_≡_};
 ghost use Prim.Native.Nat.{_<_, _≤_};
 ghost use lib.ListN.{length};
-ghost use Rattle.value.specs.Worked.{decode-of};
 ghost use Rattle.token.specs.Scanning.{most-tokens, table-words};
 ghost use Rattle.names.specs.Names.{most-names};
-ghost use Rattle.grammar.specs.Constants.{read-constant, negated, read-signed, read-range, read-values, read-size, array-head, array-constant, simple-constant, constant-value, read-declaration, read-constants};
-ghost use Rattle.reader.specs.Reading.{anything, number, bounds, Ready, Reads, Stays, Passes};
+ghost use Rattle.grammar.specs.Constants.{read-constant, read-signed, read-range, read-values, read-size, array-head, array-constant, simple-constant, constant-value, read-declaration, read-constants};
+ghost use Rattle.reader.specs.Reading.{anything, number, bounds, Ready, Reads, Stays};
 ghost use Rattle.constants.specs.Fitting.{fits-of};
 use names::Found;
 use names::entry_in;
@@ -28,7 +27,7 @@ use reader::use_name;
 use token::Scan;
 use token::kind;
 use value::Value;
-use value::Worked;
+use value::opposite;
 
 // ---- constants and ranges
 
@@ -62,19 +61,6 @@ pub fn read_constant(
     refuse(words, scan, s, s.at, 7)
 }
 
-// The negative of the constant just read, refused 11 out of range.
-fn negated(words: &[u32], scan: Scan, s: Reading) -> Read
-    requires { ⌜ (scan .count ≤ most-tokens) × (length (now words) ≡ table-words) × (1 ≤ s .at) × (s .at ≤ scan .count) ⌝ }
-    ensures { λ r. ⌜ Passes number (negated (decode-of (s .word))) scan 0 s (now (words .entry)) r ⌝ }
-{
-    let v = Value::decode(s.word);
-    match v.negate() {
-        Worked::Number(z) => Read::Next(carrying(s, z.encode(), 0)),
-        Worked::OutOfRange => refuse(words, scan, s, s.at - 1, 11),
-        Worked::ZeroDivisor => refuse(words, scan, s, s.at - 1, 11),
-    }
-}
-
 // A constant with at most one sign.
 pub fn read_signed(source: &[u8], names: &[u32], words: &mut [u32], scan: Scan, s: Reading) -> Read
     requires { ⌜ Ready scan (length (now names)) (length (now words)) s ⌝ }
@@ -86,7 +72,7 @@ pub fn read_signed(source: &[u8], names: &[u32], words: &mut [u32], scan: Scan, 
         let Read::Next(a) = r else {
             return r;
         };
-        return negated(words, scan, a);
+        return Read::Next(carrying(a, opposite(a.word), 0));
     }
     if t.kind == kind::PLUS {
         return read_constant(source, names, words, scan, moved(s));

@@ -5,13 +5,12 @@ use mathlib.Core.Path.{_≡_, refl, ap, subst, _∙_}
 use mathlib.Core.Bool.{Bool, true, false, _&&_}
 use mathlib.Core.List.{List}
 use mathlib.Core.Option.{Option, none, some}
-use lib.IntN.{ℤ, negℤ}
+use lib.IntN.{ℤ}
 use lib.Dec.{leb, ltb}
 use lib.ListN.{getD}
 use lib.Seq.{getD-set-other}
 use Rattle.value.specs.Choice.{if_then_else_}
-use Rattle.value.specs.Number.{in-range}
-use Rattle.value.specs.Worked.{decode-of, span-of}
+use Rattle.value.specs.Worked.{decode-of, opposite-of, span-of}
 use Rattle.token.specs.declared.Token.{Token}
 use Rattle.token.specs.declared.Scan.{Scan}
 use Rattle.token.specs.Kind.{kind}
@@ -19,7 +18,7 @@ use Rattle.names.specs.Names.{name-kind, is, find-name}
 use Rattle.program.specs.Syntax.{Range, range}
 use Rattle.program.specs.Table.{with-word}
 use Rattle.grammar.specs.Reader.{Input, State, Result, ok, fail, Reader, and-then, _>>=_, return, refuse, refuse-last, is-kind, next-token, position, advance, put, expect-or, is-name, on-slot, by-name, entry-in, use-name}
-use Rattle.grammar.specs.Constants.{named-constant, read-constant, negated, read-signed, read-range}
+use Rattle.grammar.specs.Constants.{named-constant, read-constant, read-signed, read-range}
 use Rattle.reader.specs.Reading.{input, state, Gives}
 use Rattle.reader.specs.declared.Reading.{Reading}
 use Rattle.reader.specs.declared.Read.{Read}
@@ -128,15 +127,11 @@ keeps-constant =
     keeps-if (is-kind t (kind .literal)) (keeps-on _ _ keeps-advance (λ _. keeps-return (decode-of (t .value))))
     (keeps-if (is-name t) (keeps-by-name t false keeps-named (keeps-refuse 8)) (keeps-refuse 7)))
 
-pub keeps-negated : (z : ℤ) → Keeps (negated z)
-unfolding negated
-keeps-negated z = keeps-if (in-range (negℤ z)) (keeps-return (negℤ z)) (keeps-refuse-last 11)
-
 pub keeps-signed : Keeps read-signed
 unfolding read-signed
 keeps-signed =
     let signed = keeps-on _ _ keeps-advance (λ _. keeps-constant) in
-    keeps-on _ _ keeps-token (λ t. keeps-if (is-kind t (kind .minus)) (keeps-on _ _ signed keeps-negated) (keeps-if (is-kind t (kind .plus)) signed keeps-constant))
+    keeps-on _ _ keeps-token (λ t. keeps-if (is-kind t (kind .minus)) (keeps-on _ _ signed (λ z. keeps-return (opposite-of z))) (keeps-if (is-kind t (kind .plus)) signed keeps-constant))
 
 pub keeps-range : (most : ℕ) → Keeps (read-range most)
 unfolding read-range

@@ -2,15 +2,15 @@
 use mathlib.Core.Bool.{Bool, true, false, _&&_, _||_}
 use Prim.Native.Nat.{ℕ, _+_}
 use lib.Dec.{leb, ltb}
-use lib.IntN.{ℤ, pos, negℤ}
+use lib.IntN.{ℤ, pos}
 use Rattle.value.specs.Choice.{if_then_else_}
-use Rattle.value.specs.Number.{in-range, within}
-use Rattle.value.specs.Worked.{decode-of, encode-of, span-of}
+use Rattle.value.specs.Number.{within}
+use Rattle.value.specs.Worked.{decode-of, encode-of, opposite-of, span-of}
 use Rattle.token.specs.declared.Token.{Token}
 use Rattle.token.specs.Kind.{kind}
 use Rattle.names.specs.Names.{name-kind, is}
 use Rattle.program.specs.Syntax.{Range, range}
-use Rattle.grammar.specs.Reader.{Reader, _>>=_, _>>_, return, unit, nothing, Turn, again, done, repeat, turns, refuse, refuse-last, note, is-kind, next-token, position, advance, put, put-both, expect, opening, is-name, by-name, entry-in, declare, fresh-name, use-name}
+use Rattle.grammar.specs.Reader.{Reader, _>>=_, _>>_, _▷_, return, unit, nothing, Turn, again, done, repeat, turns, refuse, refuse-last, note, is-kind, next-token, position, advance, put, put-both, expect, opening, is-name, by-name, entry-in, declare, fresh-name, use-name}
 
 -- ---- constants and ranges
 
@@ -32,15 +32,11 @@ read-constant =
     else if is-name t then by-name t false named-constant (refuse 8)
     else refuse 7
 
--- behind a minus: the negative, refused 11 out of range
-unfoldable pub negated : ℤ → Reader ℤ
-negated z = if in-range (negℤ z) then return (negℤ z) else refuse-last 11
-
--- a constant with at most one sign
+-- a constant with at most one sign. No constant is the least value (`signs-in-range` in `linking`), so that what stands behind a minus is its negative
 unfoldable pub read-signed : Reader ℤ
 read-signed =
     next-token >>= λ t.
-    if is-kind t (kind .minus) then advance >> read-constant >>= negated
+    if is-kind t (kind .minus) then (advance >> read-constant ▷ opposite-of)
     else if is-kind t (kind .plus) then advance >> read-constant
     else read-constant
 

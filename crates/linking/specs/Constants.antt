@@ -2,7 +2,7 @@
 use Prim.Native.Nat.{ℕ, zero, suc, _+_, _-_, _*_, _≤_, _<_}
 use native.Mathlib.Nat.{le-refl}
 use native.Mathlib.Omega.{arith}
-use mathlib.Core.Path.{_≡_, refl, sym, _∙_, subst, subst₂}
+use mathlib.Core.Path.{_≡_, refl, sym, ap, _∙_, subst, subst₂}
 use mathlib.Core.Logic.{_⊎_, inl, inr}
 use mathlib.Core.Bool.{Bool, true, false, not, cond, _&&_, _||_}
 use mathlib.Core.List.{List}
@@ -12,15 +12,15 @@ use lib.ListN.{length}
 use borrow.Author.Tests.{lt-ltb, ltb-true, ltb-false, leb-true, leb-false, le-leb, eqb-true, not-false}
 use Rattle.value.specs.Choice.{if_then_else_}
 use Rattle.value.specs.Number.{in-range, within}
-use Rattle.value.specs.Worked.{decode-of, encode-of, span-of}
+use Rattle.value.specs.Worked.{decode-of, encode-of, opposite-of, span-of}
 use Rattle.value.specs.Laws.{and-both, decode-encode}
 use Rattle.token.specs.Kind.{kind}
 use Rattle.names.specs.declared.Entry.{Entry}
 use Rattle.names.specs.Names.{name-kind, is, entry-at, most-names}
 use Rattle.program.specs.Syntax.{Range, range}
 use Rattle.program.specs.Table.{word-at}
-use Rattle.grammar.specs.Reader.{Input, State, Reader, _>>=_, _>>_, return, unit, is-kind, again, done, turns, token-of, position, advance, put, is-name, entry-in, fresh, reference, use-name}
-use Rattle.grammar.specs.Constants.{is-sign, named-constant, read-constant, negated, read-signed, read-range, value-turn, read-values, read-size, array-head, array-constant, simple-constant, constant-value, read-declaration, constants-turn, read-constants}
+use Rattle.grammar.specs.Reader.{Input, State, Result, ok, fail, Reader, and-then, _>>=_, _>>_, _▷_, return, next-token, unit, is-kind, again, done, turns, token-of, position, advance, put, is-name, entry-in, fresh, reference, use-name}
+use Rattle.grammar.specs.Constants.{is-sign, named-constant, read-constant, read-signed, read-range, value-turn, read-values, read-size, array-head, array-constant, simple-constant, constant-value, read-declaration, constants-turn, read-constants}
 use Rattle.linking.specs.Steps.{advanced, written, Gives, gave, refused, refused-last, bind, regroup, given-as, choose, at-position, at-token, at-state, at-entry, over, wrote, wrote-both, wrote-last, noted-it, named-it, by-found, expected, opened, Turned, repeated}
 use Rattle.linking.specs.Runs.{word-put, both-2, both-3, tokens, head-at, Text, Signable, Sound, Run, stay, join, go-on, write-first, write-plain}
 use Rattle.linking.specs.Naming.{token-value, of-kind, head-is, name-it, still-noted, note-it, found-name}
@@ -68,6 +68,13 @@ signable-range (negsuc n) l = simp (le-leb n 2147483647 (omega arith))
 
 pub signable-decoded : (z : ℤ) → Signable z → decode-of (encode-of z) ≡ z
 signable-decoded z l = decode-encode z (signable-range z l)
+
+-- the value with the other sign is the negative
+opposite-is : (z : ℤ) → Signable z → opposite-of z ≡ negℤ z
+opposite-is z l = signable-decoded (negℤ z) (negative-signable z l)
+
+opposite-signable : (z : ℤ) → Signable z → Signable (opposite-of z)
+opposite-signable z l = subst Signable (sym (opposite-is z l)) (negative-signable z l)
 
 encoded-signable : (z : ℤ) → Signable z → Signable (decode-of (encode-of z))
 encoded-signable z l = subst Signable (sym (signable-decoded z l)) l
@@ -132,10 +139,6 @@ module _ {input : Input} {text : List ℕ} (T : Text input text) where
       constant : s .at < tokens input → (slot : ℕ) → slot < s .count → eqb (entry-at (s .names) slot .kind) (name-kind .constant) ≡ true → Gives input (use-name slot >> return (decode-of (entry-at (s .names) slot .word))) s (Constant s)
       constant l slot m c = used-it slot _ (gave _ (use-piece x l slot, x .entries slot m .small (eqb-true _ _ c), refl))
 
-  negated-gives : {s t : State} (z : ℤ) → Signable z → Piece input text s t → t .at ≡ (if is-sign (token-of input s (s .at)) then s .at + 2 else s .at + 1) → Gives input (negated z) t (Signed s)
-  unfolding negated
-  negated-gives z small p n = choose (in-range (negℤ z)) (λ q. gave (negℤ z) (p, negative-signable z small, n)) (λ _. refused-last 11)
-
   pub signed-gives : {s : State} → Sound input text s → Gives input read-signed s (Signed s)
   unfolding read-signed is-sign
   signed-gives {s} x =
@@ -143,13 +146,40 @@ module _ {input : Input} {text : List ℕ} (T : Text input text) where
       (choose _
       (λ q.
       let p = one-token x (of-kind x (s .at) (kind .minus) (omega arith) q) in
-      regroup _ _ _ (over (bind (constant-gives (p .run .sound)) (λ z t h. negated-gives z (h .1) (join-pieces p (h .0)) (rw (q, or-true (eqb (token-of input s (s .at) .kind) (kind .plus))) (omega (arith, h .2)))))))
+      regroup _ _ _ (over (bind (constant-gives (p .run .sound)) (λ z t h. gave (opposite-of z) (join-pieces p (h .0), opposite-signable z (h .1), rw (q, or-true (eqb (token-of input s (s .at) .kind) (kind .plus))) (omega (arith, h .2)))))))
       (λ q.
       choose _
       (λ q₁.
       let p = one-token x (of-kind x (s .at) (kind .plus) (omega arith) q₁) in
       over (given-as (constant-gives (p .run .sound)) (λ z t h. (join-pieces p (h .0), h .1, rw q₁ (omega (arith, h .2))))))
       (λ q₁. given-as (constant-gives x) (λ z t h. (h .0, h .1, rw (q₁, q) (h .2))))))
+
+  -- a constant with at most one sign, with the negative whatever its size
+  pub exact-signed : Reader ℤ
+  exact-signed =
+      next-token >>= λ t.
+      if is-kind t (kind .minus) then (advance >> read-constant ▷ negℤ)
+      else if is-kind t (kind .plus) then advance >> read-constant
+      else read-constant
+
+  -- no sign takes a constant out of range: in every state that reading can be in, the constant behind a minus has a negative
+  pub signs-in-range : {s : State} → Sound input text s → read-signed input s ≡ exact-signed input s
+  unfolding read-signed exact-signed next-token advance _>>=_ return
+  signs-in-range {s} x = by (is-kind (token-of input s (s .at)) (kind .minus)) refl
+    where
+      rest : Reader ℤ
+      rest = if is-kind (token-of input s (s .at)) (kind .plus) then advance >> read-constant else read-constant
+
+      behind : is-kind (token-of input s (s .at)) (kind .minus) ≡ true → (r : Result (ℤ × State)) → read-constant input (advanced s) ≡ r → and-then r (λ z t. ok (opposite-of z, t)) ≡ and-then r (λ z t. ok (negℤ z, t))
+      behind q (ok r) e =
+          let l = of-kind x (s .at) (kind .minus) (omega arith) q in
+          let h = constant-gives (one-token x l .run .sound) .is (r .0) (r .1) e in
+          ap (λ (z : ℤ). ok (z, r .1)) (opposite-is (r .0) (h .1))
+      behind q (fail n p) e = refl
+
+      by : (b : Bool) → is-kind (token-of input s (s .at)) (kind .minus) ≡ b → (if b then (advance >> read-constant ▷ opposite-of) else rest) input s ≡ (if b then (advance >> read-constant ▷ negℤ) else rest) input s
+      by true q = behind q (read-constant input (advanced s)) refl
+      by false q = refl
 
   -- a range is read, whose bounds are literals with at most one sign
   pub record Ranged (most : ℕ) (s : State) (r : Range) (t : State) : Type 0 where

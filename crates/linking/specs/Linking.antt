@@ -15,7 +15,7 @@ use Rattle.token.specs.declared.Token.{Token}
 use Rattle.token.specs.Kind.{kind}
 use Rattle.token.specs.Lexeme.{find-kind, keywords}
 use Rattle.token.specs.Scanning.{scan, token-words, scanned-words}
-use Rattle.names.specs.Names.{letters}
+use Rattle.names.specs.Names.{name-kind, entry-at, letters}
 use mathlib.Core.Option.{Option}
 use Rattle.program.specs.Syntax.{range, no-range, Expr, Clause, Block}
 use Rattle.program.specs.Table.{word-at}
@@ -192,6 +192,8 @@ pub record Linked (source : List ℕ) (s₁ s₂ s₃ : State) (d : Declared) (b
   pub in-order : s₂ .at ≤ s₃ .at
   pub within : s₃ .at ≤ tokens (input-of source)
   pub few-names : s₃ .count ≤ 256
+  -- every simple constant is a literal with at most one sign
+  pub constants : (slot : ℕ) → slot < s₃ .count → entry-at (s₃ .names) slot .kind ≡ name-kind .constant → Signable (decode-of (entry-at (s₃ .names) slot .word))
   pub size : length (s₃ .words) ≡ 16384
   -- the tokens are those of the source
   pub heads : (i : ℕ) → head-at (s₃ .words) i ≡ head-at (scanned-words (scan source)) i
@@ -220,6 +222,7 @@ linking source short s₁ s₂ s₃ d b p q r stop clear =
       in-order = run .on;
       within = run .sound .within;
       few-names = run .sound .most;
+      constants = λ slot l. run .sound .entries slot l .small;
       size = run .sound .size;
       heads = run .sound .heads;
       spans = run .sound .spans;

@@ -38,7 +38,7 @@ alike input start n start′ n′ = same (letters (input .source) start n) (lett
 pub record Text (input : Input) (text : List ℕ) : Type 0 where
   pub few : tokens input ≤ 4096
   pub size : length text ≡ 16384
-  -- a literal's value is a word, and a `:=` has none
+  -- a literal's value is at most 2147483647, and a `:=` has none
   pub values : (i : ℕ) → word-at text i 2 < 2147483648
   pub clean : (i : ℕ) → head-at text i ≡ kind .assign → word-at text i 2 ≡ 0
   -- no token has a word 3

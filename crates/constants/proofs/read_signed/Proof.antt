@@ -1,8 +1,9 @@
 use Rattle.grammar.specs.Constants.{read-signed}
-use Rattle.reader.proofs.Steps.{on, on-told, off, so, other, token, advanced}
-use Rattle.reader.proofs.Going.{nowhere, went, further}
+use Rattle.value.specs.Worked.{decode-of}
+use Rattle.reader.proofs.Steps.{on, on-told, off, so, other, token, advanced, carried}
+use Rattle.reader.proofs.Going.{nowhere, went, further, goes-on}
 use native.Mathlib.Omega.{arith}
-use mathlib.Core.Path.{_∙_, refl}
+use mathlib.Core.Path.{_∙_, refl, sym, ap}
 use borrow.Author.Tests.{eq-eqb, ne-eqb}
 use borrow.Author.Needs.{needs}
 use Rattle.constants.proofs.read_signed.Statement.{statement}
@@ -44,13 +45,11 @@ returns c =
       onward = nowhere y;
     }
 
-negated-requires : tie.Need-negated-requires
-negated-requires c κs =
-    let pre = c .before .before .before .before .before .before .before .before .before .before .before .before .before .before .before .before .pre in
-    let read-constant = c .before .before .before .before .before .before .read-constant in
-    let r = c .before .before .r in
-    let w = went (read-constant .ensures .onward) (r .given .1) in
-    (pre .tokens, read-constant .kept .1 .1 .0 ∙ pre .table, omega (arith, w .past), w .within)
+opposite-requires : tie.Need-opposite-requires
+opposite-requires c κs = search needs
+
+carrying-requires : tie.Need-carrying-requires
+carrying-requires c κs = search needs
 
 same-length-2 : tie.Need-same-length-2
 same-length-2 c = search needs
@@ -63,7 +62,8 @@ returns-2 c =
     let moved = c .before .before .before .before .before .before .before .before .moved in
     let read-constant = c .before .before .before .before .before .before .before .read-constant in
     let r = c .before .before .before .r in
-    let negated = c .negated in
+    let opposite = c .before .opposite in
+    let carrying = c .carrying in
     let m = moved .ensures in
     let w = went (read-constant .ensures .onward) (r .given .1) in
     record {
@@ -71,8 +71,8 @@ returns-2 c =
           token _ (token-at .ensures)
           (so _ _ (eq-eqb _ _ (if1 .taken))
           (on-told _ (on _ (advanced m) refl (λ _ _. read-constant .ensures .gives)) (r .given .1)
-          (negated .ensures .gives _ _)));
-      onward = further (negated .ensures .onward) (omega (arith, w .past, m .at)) (omega (arith, w .few, m .count));
+          (carried _ (carrying .ensures) (ap decode-of (sym (carrying .ensures .word ∙ opposite .ensures))))));
+      onward = goes-on (omega (arith, carrying .ensures .at, w .past, m .at)) (omega (arith, carrying .ensures .at, w .within)) (omega (arith, carrying .ensures .count, w .few, m .count));
     }
 
 moved-requires-2 : tie.Need-moved-requires-2
@@ -135,7 +135,8 @@ read-signed-spec =
     enum-told
     same-length
     returns
-    negated-requires
+    opposite-requires
+    carrying-requires
     same-length-2
     returns-2
     moved-requires-2
