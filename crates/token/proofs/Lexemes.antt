@@ -13,16 +13,21 @@ use Rattle.value.specs.Choice.{if_then_else_}
 use Rattle.token.specs.Bytes.{kind-of, member, fold}
 use Rattle.token.specs.Lexeme.{Lexeme, find-kind, keywords, two-byte-tokens, starts, in-name, in-literal, extent, decimal, lexeme-of, unreadable, word, digits, punctuation, read-token}
 use Rattle.token.specs.declared.Lexed.{Lexed}
-use Rattle.token.specs.Promises.{Walks, head-kind, too-large, spellings, word-here, digits-here, lexed-of, Reads}
+use Rattle.token.specs.declared.spelling.Group.{Group}
+use Rattle.token.specs.Promises.{Walks, head-kind, too-large, spellings, Groups, word-here, digits-here, lexed-of, Reads}
 use Rattle.token.proofs.Heads.{drop-here, starts-as}
 use Rattle.token.proofs.Extents.{extent-within, extent-first}
-use Rattle.token.proofs.Words.{bytes-of, some-kind, signs-fold, too-short}
+use Rattle.token.proofs.Words.{bytes-of, size-a, by-length, some-kind, signs-fold, too-short}
 
 -- ---- a word
 
-pub word-read : (s : List ℕ) (at : ℕ) {end k : ℕ} {r : Lexed} → Walks (extent in-name (drop at s)) s at end → k ≡ find-kind (bytes-of s at (end - at)) (slice 0 17 spellings) 1 → r ≡ lexed-of (lexeme-of k (end - at) 0) at → r ≡ lexed-of (word-here (drop at s)) at
+pub word-read : (s : List ℕ) (at : ℕ) {end k : ℕ} {g : Group} {r : Lexed} → Walks (extent in-name (drop at s)) s at end → at < length s → Groups (end - at) g → k ≡ find-kind (bytes-of s at (end - at)) (slice (g .from) (g .to) spellings) 1 → r ≡ lexed-of (lexeme-of k (end - at) 0) at → r ≡ lexed-of (word-here (drop at s)) at
 unfolding word
-word-read s at {end} e q p = let n : end - at ≡ extent in-name (drop at s) = omega (arith, e .is) in p ∙ rw (q, n)
+word-read s at {end} {k} {g} e l h q p =
+    let n : end - at ≡ extent in-name (drop at s) = omega (arith, e .is) in
+    let w = bytes-of s at (end - at) in
+    let kind-is : k ≡ find-kind w keywords 1 = q ∙ rw (h .is) (sym (by-length w (end - at) keywords 1 (size-a s at (end - at) 0 0 (omega (arith, e .within)) (omega arith)))) in
+    p ∙ rw (kind-is, n)
 
 -- ---- a literal
 

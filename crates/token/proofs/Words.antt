@@ -8,12 +8,13 @@ use native.Mathlib.Numerals.{add-one}
 use lib.Dec.{T, eqb, leb, ltb, eqb→eq, leb→le, ltb→lt}
 use lib.ListN.{length, take, drop, getD, length-take, length-drop, length-map, drop-of-length-le, List·getD-map}
 use lib.Seq.{slice, slice-cons, getD-take, getD-drop}
-use borrow.Author.Tests.{eq-eqb, ne-eqb, le-leb, lt-leb, ltb-true, ltb-false}
+use borrow.Author.Tests.{eq-eqb, ne-eqb, eqb-false, le-leb, lt-leb, ltb-true, ltb-false}
 use Rattle.value.specs.Choice.{if_then_else_}
 use Rattle.token.specs.Bytes.{between, fold, same}
 use Rattle.token.specs.Lexeme.{Spelled, find-kind}
 use Rattle.token.specs.declared.spelling.Fixed.{Fixed}
-use Rattle.token.specs.Promises.{spellings, spelling, all-rows, Fixes}
+use Rattle.token.specs.declared.spelling.Group.{Group}
+use Rattle.token.specs.Promises.{of-length, spellings, spelling, all-rows, Fixes, Groups}
 use Rattle.token.proofs.Table.{both, below}
 use Rattle.token.proofs.Heads.{drop-here}
 
@@ -89,7 +90,7 @@ pub compare-start : (s : List ℕ) (at n start m : ℕ) → Comparing s at n sta
 compare-start s at n start m = record { left = refl }
 
 module _ (s : List ℕ) (at n start m : ℕ) (h : at + n ≤ length s) (l : start + m ≤ 300) where
-  size-a : length (bytes-of s at n) ≡ n
+  pub size-a : length (bytes-of s at n) ≡ n
   size-a = length-map (take n (drop at s)) fold ∙ length-take n (drop at s) ∙ simp length-drop (omega arith)
 
   size-b : length (letters-at start m) ≡ m
@@ -169,6 +170,29 @@ some-kind w (x ∷ xs) other h l =
     go : (t : Bool) {a b : ℕ} → 0 < a → 0 < b → 0 < elim t [ true ↦ a | false ↦ b ]
     go true p q = p
     go false p q = q
+
+-- a spelling of another length is passed over: only those of the same length count
+pub by-length : (w : List ℕ) (n : ℕ) (t : List Spelled) (other : ℕ) → length w ≡ n → find-kind w t other ≡ find-kind w (of-length n t) other
+by-length w n [] other e = refl
+by-length w n (x ∷ xs) other e = by (eqb (length (x .letters)) n) refl (same w (x .letters)) refl (by-length w n xs other e)
+  where
+    by : (b : Bool) → eqb (length (x .letters)) n ≡ b → (c : Bool) → same w (x .letters) ≡ c → find-kind w xs other ≡ find-kind w (of-length n xs) other
+        → find-kind w (x ∷ xs) other ≡ find-kind w (if b then x ∷ of-length n xs else of-length n xs) other
+    by true q true p r = found w x xs other p ∙ sym (found w x (of-length n xs) other p)
+    by true q false p r = missed w x xs other p ∙ r ∙ sym (missed w x (of-length n xs) other p)
+    by false q c p r = missed w x xs other (unlike w (x .letters) (λ d. eqb-false (length (x .letters)) n q (sym d ∙ e))) ∙ r
+
+-- the groups, each as it computes
+pub group : (k : ℕ) {n : ℕ} → n ≡ k → {g : Group} → Groups k g → Groups n g
+group k e h = rw e h
+
+-- no keyword and no predefined name has another length
+pub no-group : (n : ℕ) → (n ≡ 2 → ⊥) → (n ≡ 3 → ⊥) → (n ≡ 4 → ⊥) → (n ≡ 5 → ⊥) → (n ≡ 6 → ⊥) → (n ≡ 9 → ⊥) → (n ≡ 10 → ⊥) → Groups n (record { from = 0; to = 0 })
+no-group n n₂ n₃ n₄ n₅ n₆ n₉ n₁₀ =
+    record {
+      is = simp (ne-eqb 2 n (λ e. n₂ (sym e)), ne-eqb 3 n (λ e. n₃ (sym e)), ne-eqb 4 n (λ e. n₄ (sym e)), ne-eqb 5 n (λ e. n₅ (sym e)), ne-eqb 6 n (λ e. n₆ (sym e)), ne-eqb 9 n (λ e. n₉ (sym e)), ne-eqb 10 n (λ e. n₁₀ (sym e)));
+      few = omega arith;
+    }
 
 -- from number i on is what is left to search
 pub record Seeking (w : List ℕ) (from to other i : ℕ) : Type 0 where

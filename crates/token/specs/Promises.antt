@@ -4,6 +4,7 @@ use mathlib.Core.Path.{_≡_}
 use mathlib.Core.List.{List, [], _∷_, _++_}
 use Prim.Native.Nat.{ℕ, _+_, _-_, _*_, _≤_, _<_}
 use lib.ListN.{length, take, drop, getD, replicate}
+use lib.Seq.{slice}
 use lib.Dec.{eqb}
 use Rattle.value.specs.Choice.{if_then_else_}
 use Rattle.token.specs.Bytes.{byte-kind, kind-of}
@@ -13,6 +14,7 @@ use Rattle.token.specs.declared.Token.{Token}
 use Rattle.token.specs.declared.Scan.{Scan}
 use Rattle.token.specs.declared.Lexed.{Lexed}
 use Rattle.token.specs.declared.spelling.Fixed.{Fixed}
+use Rattle.token.specs.declared.spelling.Group.{Group}
 
 -- the table has the kind of each byte
 pub record Sorts (table : List ℕ) : Type 0 where
@@ -64,9 +66,16 @@ with-digit n b = if eqb b 95 then n else n * 10 + (b - 48)
 
 -- ---- fixed spellings
 
--- the keywords and the predefined names, and behind them the two-byte tokens
+-- those of n letters, in their order
+abbrev pub of-length : ℕ → List Spelled → List Spelled
+of-length n [] = []
+of-length n (s ∷ ss) = if eqb (length (s .letters)) n then s ∷ of-length n ss else of-length n ss
+
+-- the keywords and the predefined names by their length, and behind them the two-byte tokens
 abbrev pub spellings : List Spelled
-spellings = keywords ++ two-byte-tokens
+spellings =
+    of-length 2 keywords ++ of-length 3 keywords ++ of-length 4 keywords ++ of-length 5 keywords ++ of-length 6 keywords
+    ++ of-length 9 keywords ++ of-length 10 keywords ++ two-byte-tokens
 
 -- the spelling with number i
 abbrev pub spelling : ℕ → Spelled
@@ -88,6 +97,11 @@ pub record Fixes (i : ℕ) (f : Fixed) : Type 0 where
   pub letters : take (f .len) (drop (f .start) all-rows) ≡ spelling i .letters
   pub kind : f .kind ≡ spelling i .kind
   pub fits : f .start + f .len ≤ 300
+
+-- the numbers of the keywords and predefined names of n letters
+pub record Groups (n : ℕ) (g : Group) : Type 0 where
+  pub is : slice (g .from) (g .to) spellings ≡ of-length n keywords
+  pub few : g .to ≤ 25
 
 -- ---- a token at its place
 

@@ -32,13 +32,14 @@ pub fn read_word(source: &[u8], kinds: &[u8; 256], rows: &[u8; 300], at: usize) 
     ensures { λ r. ⌜ r ≡ lexed-of (word-here (drop at (now (source .entry)))) at ⌝ }
 {
     let len = runs::run_end(source, kinds, at, true) - at;
+    let group = spelling::group_of(len);
     let kind = spelling::find_kind(
         source,
         rows,
         at,
         len,
-        0,
-        spelling::KEYWORDS,
+        group.from,
+        group.to,
         crate::kind::NAME,
     );
     token_of(kind, at, len, 0)

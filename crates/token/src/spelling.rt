@@ -1,4 +1,4 @@
-// The fixed spellings: the keywords and the predefined names, and behind them the two-byte tokens.
+// The fixed spellings: the keywords and the predefined names by their length, and behind them the two-byte tokens.
 ghost use mathlib.Core.Path.{_≡_};
 ghost use mathlib.Core.List.{map};
 ghost use Prim.Native.Nat.{_+_, _<_, _≤_};
@@ -6,7 +6,7 @@ ghost use lib.ListN.{length, take, drop, getD};
 ghost use lib.Seq.{slice};
 ghost use Rattle.token.specs.Bytes.{fold, same};
 ghost use Rattle.token.specs.Lexeme.{find-kind};
-ghost use Rattle.token.specs.Promises.{spellings, all-rows, Fixes};
+ghost use Rattle.token.specs.Promises.{spellings, all-rows, Fixes, Groups};
 
 // How many there are: the keywords and predefined names, and all.
 pub const KEYWORDS: usize = 17;
@@ -15,23 +15,23 @@ pub const SPELLINGS: usize = 25;
 
 // A row of twelve bytes for each: the number of its letters, the token's kind, and its letters.
 const ROWS: [u8; 300] = *b"\
-    \x05\x12agent     \
-    \x05\x05const     \
-    \x0a\x06dimensions\
-    \x04\x07else      \
-    \x05\x08elsif     \
-    \x03\x09end       \
-    \x04\x0aexit      \
-    \x03\x0bfor       \
-    \x06\x0cforall    \
     \x02\x0dif        \
     \x02\x0eof        \
-    \x09\x0fotherwise \
+    \x03\x09end       \
+    \x03\x0bfor       \
+    \x04\x07else      \
+    \x04\x0aexit      \
     \x04\x10then      \
     \x04\x11when      \
     \x04\x03cell      \
     \x04\x04time      \
+    \x05\x12agent     \
+    \x05\x05const     \
+    \x05\x08elsif     \
+    \x06\x0cforall    \
     \x06\x12random    \
+    \x09\x0fotherwise \
+    \x0a\x06dimensions\
     \x02\x80:=        \
     \x02\x81..        \
     \x02\x82<=        \
@@ -73,6 +73,28 @@ fn fixed_at(rows: &[u8; 300], i: usize) -> Fixed
         start: start + 2,
         len: row_byte(rows, start) as usize,
         kind: row_byte(rows, start + 1) as u32,
+    }
+}
+
+// A group of fixed spellings: the numbers from one up to another.
+pub struct Group {
+    pub from: usize,
+    pub to: usize,
+}
+
+// The keywords and predefined names of n letters.
+pub fn group_of(n: usize) -> Group
+    ensures { λ r. ⌜ Groups n r ⌝ }
+{
+    match n {
+        2 => Group { from: 0, to: 2 },
+        3 => Group { from: 2, to: 4 },
+        4 => Group { from: 4, to: 10 },
+        5 => Group { from: 10, to: 13 },
+        6 => Group { from: 13, to: 15 },
+        9 => Group { from: 15, to: 16 },
+        10 => Group { from: 16, to: 17 },
+        _ => Group { from: 0, to: 0 },
     }
 }
 

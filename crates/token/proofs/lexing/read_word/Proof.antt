@@ -10,6 +10,9 @@ run-end-requires c κs = search needs
 sub-len : tie.Need-sub-len
 sub-len c = search needs
 
+group-of-requires : tie.Need-group-of-requires
+group-of-requires c κs = search needs
+
 find-kind-requires : tie.Need-find-kind-requires
 find-kind-requires c κs = search needs
 
@@ -21,4 +24,4 @@ returns c = search word-read
 
 pub read-word-spec : {M : Type 1} → statement M
 read-word-spec =
-    tie.close (tie.spec run-end-requires sub-len find-kind-requires token-of-requires returns)
+    tie.close (tie.spec run-end-requires sub-len group-of-requires find-kind-requires token-of-requires returns)
