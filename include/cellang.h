@@ -54,11 +54,17 @@ enum cellang_kind {
     CELLANG_CONST_FIELD = 6     /* the field's number, from 0 */
 };
 
+/* ---- the built-in list */
+
+/* The predefined names. Every call that reads a source is lent this list beside it: exactly these bytes, without the 0 behind them. */
+#define CELLANG_BUILT_IN "cell time random"
+#define CELLANG_BUILT_IN_LENGTH 16
+
 /* ---- replies */
 
 /*
  * What a call gives back. 1, then 2, are tried before any token; then the smallest place wins, then
- * the lowest number. 20 to 24 are tried in this order once the source is accepted. "At" says which
+ * the lowest number, where 40 to 45 stand between 9 and 12. 10 and 11 are not given. 20 to 24 are tried in this order once the source is accepted. "At" says which
  * byte of the source the place names, where the end of the source stands at its length; where
  * nothing is said the place is 0.
  */
@@ -66,7 +72,8 @@ enum cellang_reply {
     CELLANG_DONE = 0, /* the source is accepted, or all steps are done */
 
     /* the source is refused */
-    CELLANG_ROOM_LENGTH = 1,            /* the word table or the name list is of the wrong length */
+    CELLANG_ROOM_LENGTH = 1,            /* word table, name list or built-in list wrong: the first two of the wrong length, the list
+                                           any other bytes than CELLANG_BUILT_IN */
     CELLANG_SOURCE_TOO_LONG = 2,        /* more than 65,535 bytes; the place is 65535 */
     CELLANG_NO_TOKEN = 3,               /* no token can be read; at its first byte */
     CELLANG_LITERAL_TOO_LARGE = 4,      /* a literal over 2147483647; at it */
@@ -77,14 +84,17 @@ enum cellang_reply {
     CELLANG_NOT_ALLOWED = 7,            /* a token that the grammar does not allow; at it */
     CELLANG_NAME_UNKNOWN = 8,           /* a name unknown, or of the wrong sort for a constant or index; at it */
     CELLANG_NAME_USED = 9,              /* a name already used, or not assignable; at it */
-    CELLANG_BAD_NUMBER = 10,            /* dimensions not 1 to 3, a range reversed or too long, a ninth field, a bad array size, or
-                                           a wrong count of values; at the constant, the upper bound, the field, the size, the extra
-                                           comma or the token after the last value */
     CELLANG_WRONG_ACCESS = 12,          /* . on a plain number, an unknown field, an array constant without [, or a wrong count of
                                            indices; at that token or in its stead */
     CELLANG_RELATION_ON_RELATION = 13,  /* a relation on a bare relation; at the second operator */
     CELLANG_NESTED_TOO_DEEP = 14,       /* the 17th nesting; at the opening token */
     CELLANG_TOO_MANY_NAMES = 15,        /* the 257th name; at it */
+    CELLANG_BAD_DIMENSIONS = 40,        /* dimensions not 1 to 3; at the constant */
+    CELLANG_RANGE_REVERSED = 41,        /* a range reversed; at the upper bound's constant */
+    CELLANG_LOOP_TOO_LONG = 42,         /* a forall range of more than 4,096 values; at the upper bound's constant */
+    CELLANG_TOO_MANY_FIELDS = 43,       /* the ninth field; at its name */
+    CELLANG_BAD_ARRAY_SIZE = 44,        /* an array's size not 1 to 1,024; at the size */
+    CELLANG_VALUE_COUNT = 45,           /* too many values, at the extra comma, or too few, at the token after the last one */
 
     /* the source is accepted, but the run is not admitted */
     CELLANG_BAD_SHAPE = 20,        /* number or size of dimensions, or the total of cells, wrong */
@@ -107,10 +117,24 @@ enum cellang_reply {
  *             words and names         grid                      scratch and marks
  *   1, 2      as they were            as it was                 as they were
  *   3 to 15   zero                    as it was                 as they were
+ *   40 to 45  zero                    as it was                 as they were
  *   20 to 24  the program, then zero  as it was                 as they were
  *   30 to 33  the program, then zero  after the steps done      zero
  *   0         the program, then zero  after all steps           zero, even after 0 steps
  */
+
+/* ---- spellings */
+
+/*
+ * A refusal that stands on a token of the source, 3 to 15 or 40 to 45, is told with the spelling of that token: a part of the
+ * source, or of the built-in list. For `cell`, `time` and `random`, in any letter case, it is the name in the list; for 3 it is
+ * the one byte at the place. At the end of the source, and with all other replies, there is none.
+ */
+enum cellang_spelling {
+    CELLANG_SPELLING_NONE = 0,      /* first byte and length are 0 */
+    CELLANG_SPELLING_IN_SOURCE = 1, /* so many bytes of the source */
+    CELLANG_SPELLING_IN_LIST = 2    /* so many bytes of the built-in list */
+};
 
 /* ---- checking */
 
@@ -118,12 +142,16 @@ enum cellang_reply {
 enum cellang_reply_entry {
     CELLANG_REPLY_NUMBER = 0,
     CELLANG_REPLY_PLACE = 1,
-    CELLANG_REPLY_LENGTH = 2 /* entries in all */
+    CELLANG_REPLY_SPELLING = 2,        /* where the spelling stands: a cellang_spelling */
+    CELLANG_REPLY_SPELLING_START = 3,  /* its first byte */
+    CELLANG_REPLY_SPELLING_LENGTH = 4, /* its length in bytes */
+    CELLANG_REPLY_LENGTH = 5           /* entries in all */
 };
 
-/* Checks a source. Gives 0 or 1 to 15. */
+/* Checks a source. Gives 0, or the number that refuses it. */
 uint32_t cellang_check(
     const uint8_t *source, size_t source_length,
+    const uint8_t *list, size_t list_length,
     uint32_t *words, size_t words_length,
     uint32_t *names, size_t names_length,
     uint32_t *reply, size_t reply_length);
@@ -137,7 +165,10 @@ enum cellang_report_entry {
     CELLANG_REPORT_CELL = 2,   /* the number of the faulting cell, at 30 to 33; else 0 */
     CELLANG_REPORT_STEPS = 3,  /* the steps done, at 0 and 30 to 33; else 0 */
     CELLANG_REPORT_COUNT = 4,  /* how many times a cell was evaluated, at 0 and 30 to 33; else 0 */
-    CELLANG_REPORT_LENGTH = 5  /* entries in all */
+    CELLANG_REPORT_SPELLING = 5,        /* where the spelling stands: a cellang_spelling */
+    CELLANG_REPORT_SPELLING_START = 6,  /* its first byte */
+    CELLANG_REPORT_SPELLING_LENGTH = 7, /* its length in bytes */
+    CELLANG_REPORT_LENGTH = 8           /* entries in all */
 };
 
 /*
@@ -154,6 +185,7 @@ enum cellang_report_entry {
  */
 uint32_t cellang_run_full(
     const uint8_t *source, size_t source_length,
+    const uint8_t *list, size_t list_length,
     uint32_t *words, size_t words_length,
     uint32_t *names, size_t names_length,
     const uint32_t *shape, size_t shape_length,
@@ -165,6 +197,7 @@ uint32_t cellang_run_full(
 
 uint32_t cellang_run_quiet(
     const uint8_t *source, size_t source_length,
+    const uint8_t *list, size_t list_length,
     uint32_t *words, size_t words_length,
     uint32_t *names, size_t names_length,
     const uint32_t *shape, size_t shape_length,

@@ -367,30 +367,31 @@ unfolding code.routine tablesOf
     return '\n'.join(o) + '\n'
 
 MEMORY = '(memory {0} {1} {2} {3} {4})'
-ENTRY = MEMORY.format('v1', '{0}', 'v4', 'v5', 'v6')
-EXIT = MEMORY.format('z1', '{0}', 'z4', 'z5', 'z6')
-LENT = '(lent v0 v3 ' + ENTRY + ' v7 v8)'
+ENTRY = MEMORY.format('v2', '{0}', 'v5', 'v6', 'v7')
+EXIT = MEMORY.format('z2', '{0}', 'z5', 'z6', 'z7')
+LENT = '(lent v0 v1 v4 ' + ENTRY + ' v8 v9)'
 
 CALLS = [
     {
         'module': 'checking', 'fn': 'check', 'core': 'checked', 'answer': 'reply', 'outcome': 'Answer',
-        'params': [('shr', 'u8'), ('mut', 'u32'), ('names', 'Row')],
+        'params': [('shr', 'u8'), ('shr', 'u8'), ('mut', 'u32'), ('names', 'Row')],
         'vals': '', 'plains': '', 'signed': '', 'builtins': '', 'integers': '',
         'uses': '''
 use Rattle.records.specs.declared.Name.{Name}
 use Rattle.cellang.specs.declared.checking.Answer.{Answer}
+use Rattle.cellang.specs.Left.{lent-rows-fit}
 use Rattle.cellang.specs.Promises.{ChecksOver, ChecksRows}
 use Rattle.cellang.proofs.checking.Answer.Laws as O′
 use Rattle.records.proofs.NameRow.{Row, vals, makes}
 use Rattle.cellang.proofs.AnswerRow.{OutRow, ReplyRow, reply-mach, out-tells, rows-is, count-fits, reply-is, reply-makes, out-typed, reply-typed}''',
-        'said': 'ChecksOver v0 v1 (length v2) r z1',
-        'final': 'ChecksRows v0 v1 v2 (r .reply) z1 ns',
-        'proof': 'record { reply = e .reply; words = e .words; names = h ∙ e .stores v2 refl }',
+        'said': 'ChecksOver (lent-rows-fit v1 (length v2) (length v3)) v0 v2 (length v3) r z2',
+        'final': 'ChecksRows (lent-rows-fit v1 (length v2) (length v3)) v0 v2 v3 (r .reply) z2 ns',
+        'proof': 'record { reply = e .reply; words = e .words; names = h ∙ e .stores v3 refl }',
         'may': 'e .few',
     },
     {
         'module': 'running', 'fn': 'run', 'core': 'ran', 'answer': 'report', 'outcome': 'RunAnswer',
-        'params': [('shr', 'u8'), ('mut', 'u32'), ('names', 'Row'), ('shr', 'u32'), ('mut', 'i32'), ('mut', 'i32'), ('mut', 'u8'), ('sint', 'w64'), ('sint', 'w64'), ('bool', '')],
+        'params': [('shr', 'u8'), ('shr', 'u8'), ('mut', 'u32'), ('names', 'Row'), ('shr', 'u32'), ('mut', 'i32'), ('mut', 'i32'), ('mut', 'u8'), ('sint', 'w64'), ('sint', 'w64'), ('bool', '')],
         'vals': ', vbool, ofZ', 'plains': ', bool-vals, bool-tells, bool-makes, bool-lawful', 'signed': 'use denote.Signed.{sint-vals, sint-tells, sint-makes, sint-lawful}\n',
         'builtins': 'i32, i64, bool, ', 'integers': 'use mathlib.Core.Bool.{Bool}\nuse lib.IntN.{ℤ}\n',
         'uses': '''
@@ -408,9 +409,9 @@ use Rattle.cellang.specs.Promises.{RunsOver}
 use Rattle.cellang.proofs.running.RunAnswer.Laws as O′
 use Rattle.records.proofs.NameRow.{Row, vals, makes}
 use Rattle.cellang.proofs.RunAnswerRow.{OutRow, ReportRow, report-mach, out-tells, rows-is, count-fits, report-is, report-makes, out-typed, report-typed}''',
-        'said': f'RunsOver (counting-of v9) (length v2) (λ m. {LENT.format("m")}) r (λ m. {EXIT.format("m")})',
-        'final': f'RunLeaves row-names (counting-of v9) {LENT.format("v2")} (r .report) {EXIT.format("ns")} × Agree (told (r .report) z4) (run-report row-names full {LENT.format("v2")}) × RangesKept (read-lent row-names {LENT.format("v2")}) (asked {LENT.format("v2")}) z4',
-        'proof': f'let left = subst (λ m. RunLeaves row-names (counting-of v9) {LENT.format("v2")} (r .report) {EXIT.format("m")}) (sym h) (e .stores v2 refl) in (left, run-agrees row-names v9 {LENT.format("v2")} left, run-ranges row-names (counting-of v9) {LENT.format("v2")} left)',
+        'said': f'RunsOver (counting-of v10) (length v3) (λ m. {LENT.format("m")}) r (λ m. {EXIT.format("m")})',
+        'final': f'RunLeaves row-names (counting-of v10) {LENT.format("v3")} (r .report) {EXIT.format("ns")} × Agree (told (r .report) z5) (run-report row-names full {LENT.format("v3")}) × RangesKept (read-lent row-names {LENT.format("v3")}) (asked {LENT.format("v3")}) z5',
+        'proof': f'let left = subst (λ m. RunLeaves row-names (counting-of v10) {LENT.format("v3")} (r .report) {EXIT.format("m")}) (sym h) (e .stores v3 refl) in (left, run-agrees row-names v10 {LENT.format("v3")} left, run-ranges row-names (counting-of v10) {LENT.format("v3")} left)',
         'may': 'e .few',
     },
 ]

@@ -136,6 +136,7 @@ fn run_proved(mode: Mode, source: &str, grid: &[i32], fields: usize, steps: i64)
 fn run_second(source: &str, sizes: &[u32], grid: &[i32], steps: i64) -> Vec<i32> {
     let lent = reference::Lent {
         source: source.as_bytes(),
+        list: reference::BUILT_IN,
         words: WORDS,
         names: NAME_WORDS / 4,
         shape: sizes,

@@ -1,4 +1,4 @@
-/* Calls the library from C: the marked examples M1 to M13, and what the lent memory holds afterwards. */
+/* Calls the library from C: the marked examples M1 to M13, spellings, and what the lent memory holds afterwards. */
 #include "cellang.h"
 
 #include <stdio.h>
@@ -7,6 +7,7 @@
 #define S "1 dimensions of 0..1 "
 #define MOST_CELLS 8
 #define UNTOUCHED 77
+#define LIST (const uint8_t *)CELLANG_BUILT_IN, CELLANG_BUILT_IN_LENGTH
 
 static uint32_t words[CELLANG_WORDS];
 static uint32_t names[CELLANG_NAME_WORDS];
@@ -40,7 +41,7 @@ static void expect_check(const char *what, const char *source, uint32_t number, 
     uint32_t given;
     memset(words, UNTOUCHED, sizeof words);
     memset(names, UNTOUCHED, sizeof names);
-    given = cellang_check((const uint8_t *)source, strlen(source), words, CELLANG_WORDS, names, CELLANG_NAME_WORDS,
+    given = cellang_check((const uint8_t *)source, strlen(source), LIST, words, CELLANG_WORDS, names, CELLANG_NAME_WORDS,
                           reply, CELLANG_REPLY_LENGTH);
     expect(given == number, what);
     expect(reply[CELLANG_REPLY_NUMBER] == number && reply[CELLANG_REPLY_PLACE] == place, what);
@@ -54,8 +55,9 @@ struct expected {
     int32_t grid[MOST_CELLS];
 };
 
-typedef uint32_t run_call(const uint8_t *, size_t, uint32_t *, size_t, uint32_t *, size_t, const uint32_t *, size_t,
-                          int32_t *, size_t, int32_t *, size_t, uint8_t *, size_t, int64_t, int64_t, uint64_t *, size_t);
+typedef uint32_t run_call(const uint8_t *, size_t, const uint8_t *, size_t, uint32_t *, size_t, uint32_t *, size_t,
+                          const uint32_t *, size_t, int32_t *, size_t, int32_t *, size_t, uint8_t *, size_t, int64_t, int64_t,
+                          uint64_t *, size_t);
 
 /* Runs a source on a row of cells of one field each. */
 static void expect_run(const char *what, run_call *run, const char *source, const int32_t *before, uint32_t cells,
@@ -67,7 +69,7 @@ static void expect_run(const char *what, run_call *run, const char *source, cons
     memcpy(grid, before, cells * sizeof *grid);
     memset(scratch, UNTOUCHED, sizeof scratch);
     memset(marks, UNTOUCHED, sizeof marks);
-    given = run((const uint8_t *)source, strlen(source), words, CELLANG_WORDS, names, CELLANG_NAME_WORDS, &cells, 1,
+    given = run((const uint8_t *)source, strlen(source), LIST, words, CELLANG_WORDS, names, CELLANG_NAME_WORDS, &cells, 1,
                 grid, cells, scratch, cells, marks, cells, start, steps, report, CELLANG_REPORT_LENGTH);
     expect(given == after->report[0], what);
     expect(memcmp(report, after->report, sizeof report) == 0, what);
@@ -113,20 +115,97 @@ static void marked_examples(void) {
     expect_check("M13", "4 dimensions of 0..1", CELLANG_BAD_NUMBER, 0);
 }
 
+/* Whether the three numbers of a spelling name these bytes of the source or of the list. */
+static int spells(const char *source, uint64_t stands, uint64_t start, uint64_t length, const char *expected) {
+    const char *from = stands == CELLANG_SPELLING_IN_LIST ? CELLANG_BUILT_IN : source;
+    if (stands == CELLANG_SPELLING_NONE) {
+        return start == 0 && length == 0 && *expected == 0;
+    }
+    return start + length <= strlen(from) && length == strlen(expected) && memcmp(from + start, expected, length) == 0;
+}
+
+/* Checks and runs a source that is refused with a spelling. */
+static void expect_spelling(const char *source, uint32_t number, enum cellang_spelling stands, const char *expected) {
+    const uint32_t shape[] = {1};
+    uint32_t reply[CELLANG_REPLY_LENGTH];
+    uint64_t report[CELLANG_REPORT_LENGTH];
+    uint32_t given = cellang_check((const uint8_t *)source, strlen(source), LIST, words, CELLANG_WORDS, names,
+                                   CELLANG_NAME_WORDS, reply, CELLANG_REPLY_LENGTH);
+    expect(given == number && reply[CELLANG_REPLY_SPELLING] == (uint32_t)stands, source);
+    expect(spells(source, reply[CELLANG_REPLY_SPELLING], reply[CELLANG_REPLY_SPELLING_START],
+                  reply[CELLANG_REPLY_SPELLING_LENGTH], expected), source);
+    given = cellang_run_quiet((const uint8_t *)source, strlen(source), LIST, words, CELLANG_WORDS, names, CELLANG_NAME_WORDS,
+                              shape, 1, grid, 1, scratch, 1, marks, 1, 0, 1, report, CELLANG_REPORT_LENGTH);
+    expect(given == number && report[CELLANG_REPORT_SPELLING] == (uint64_t)stands, source);
+    expect(spells(source, report[CELLANG_REPORT_SPELLING], report[CELLANG_REPORT_SPELLING_START],
+                  report[CELLANG_REPORT_SPELLING_LENGTH], expected), source);
+}
+
+static void spellings(void) {
+    expect_spelling(S "x := y", CELLANG_NAME_UNKNOWN, CELLANG_SPELLING_IN_SOURCE, "y");
+    expect_spelling(S "x := Y_1z", CELLANG_NAME_UNKNOWN, CELLANG_SPELLING_IN_SOURCE, "Y_1z");
+    expect_spelling(S "12ab", CELLANG_NO_TOKEN, CELLANG_SPELLING_IN_SOURCE, "1");
+    expect_spelling(S "cell := 9_999_999_999", CELLANG_LITERAL_TOO_LARGE, CELLANG_SPELLING_IN_SOURCE, "9_999_999_999");
+    expect_spelling(S "AGENT", CELLANG_NOT_TAKEN, CELLANG_SPELLING_IN_SOURCE, "AGENT");
+    expect_spelling(S "cell := 1 -> 2", CELLANG_NOT_TAKEN, CELLANG_SPELLING_IN_SOURCE, "->");
+    expect_spelling(S "cell := Otherwise", CELLANG_NOT_ALLOWED, CELLANG_SPELLING_IN_SOURCE, "Otherwise");
+    expect_spelling(S "cell := RanDom", CELLANG_NOT_TAKEN, CELLANG_SPELLING_IN_LIST, "random");
+    expect_spelling(S "forall CELL : 0..1 end", CELLANG_NAME_USED, CELLANG_SPELLING_IN_LIST, "cell");
+    expect_spelling("const Time := 1", CELLANG_NAME_USED, CELLANG_SPELLING_IN_LIST, "time");
+    expect_spelling("", CELLANG_NOT_ALLOWED, CELLANG_SPELLING_NONE, "");
+    expect_spelling(S "if 1 then", CELLANG_NOT_ALLOWED, CELLANG_SPELLING_NONE, "");
+}
+
+static void another_list(void) {
+    const char *lists[] = {"", "cell", "Cell time random", "time cell random", "cell time rando", "cell time random ",
+                           "cell time random\n"};
+    const char *source = S "x := y";
+    for (size_t i = 0; i < sizeof lists / sizeof *lists; i++) {
+        const uint8_t *list = (const uint8_t *)lists[i];
+        const uint32_t shape[] = {1};
+        const uint32_t told[CELLANG_REPLY_LENGTH] = {CELLANG_ROOM_LENGTH, 0, 0, 0, 0};
+        const uint64_t told_of_run[CELLANG_REPORT_LENGTH] = {CELLANG_ROOM_LENGTH, 0, 0, 0, 0, 0, 0, 0};
+        uint32_t reply[CELLANG_REPLY_LENGTH];
+        uint64_t report[CELLANG_REPORT_LENGTH];
+        run_call *runs[] = {cellang_run_full, cellang_run_quiet};
+        memset(words, UNTOUCHED, sizeof words);
+        memset(names, UNTOUCHED, sizeof names);
+        memset(grid, UNTOUCHED, sizeof grid);
+        memset(scratch, UNTOUCHED, sizeof scratch);
+        memset(marks, UNTOUCHED, sizeof marks);
+        expect(cellang_check((const uint8_t *)source, strlen(source), list, strlen(lists[i]), words, CELLANG_WORDS, names,
+                             CELLANG_NAME_WORDS, reply, CELLANG_REPLY_LENGTH) == CELLANG_ROOM_LENGTH, "another list");
+        expect(memcmp(reply, told, sizeof told) == 0, "another list is told");
+        for (size_t k = 0; k < 2; k++) {
+            expect(runs[k]((const uint8_t *)source, strlen(source), list, strlen(lists[i]), words, CELLANG_WORDS, names,
+                           CELLANG_NAME_WORDS, shape, 1, grid, 1, scratch, 1, marks, 1, 0, 1, report, CELLANG_REPORT_LENGTH)
+                       == CELLANG_ROOM_LENGTH, "another list in a run");
+            expect(memcmp(report, told_of_run, sizeof told_of_run) == 0, "another list in a run is told");
+        }
+        expect(all_bytes(words, sizeof words, UNTOUCHED) && all_bytes(names, sizeof names, UNTOUCHED)
+                   && all_bytes(grid, sizeof grid, UNTOUCHED) && all_bytes(scratch, sizeof scratch, UNTOUCHED)
+                   && all_bytes(marks, sizeof marks, UNTOUCHED), "another list: nothing is touched");
+    }
+}
+
 static void lengths(void) {
     static uint8_t longest[CELLANG_MOST_SOURCE + 1];
-    uint32_t reply[3] = {UNTOUCHED, UNTOUCHED, UNTOUCHED};
+    uint32_t reply[CELLANG_REPLY_LENGTH + 1];
+    for (size_t i = 0; i <= CELLANG_REPLY_LENGTH; i++) {
+        reply[i] = UNTOUCHED;
+    }
     memset(words, UNTOUCHED, sizeof words);
     memset(names, UNTOUCHED, sizeof names);
-    expect(cellang_check(longest, sizeof longest, words, CELLANG_WORDS - 1, names, CELLANG_NAME_WORDS, reply, 3)
-               == CELLANG_ROOM_LENGTH, "rooms before source");
-    expect(reply[0] == CELLANG_ROOM_LENGTH && reply[1] == 0 && reply[2] == UNTOUCHED, "entries that are not told stay");
-    expect(cellang_check(longest, sizeof longest, words, CELLANG_WORDS, names, CELLANG_NAME_WORDS, reply, 1)
+    expect(cellang_check(longest, sizeof longest, LIST, words, CELLANG_WORDS - 1, names, CELLANG_NAME_WORDS, reply,
+                         CELLANG_REPLY_LENGTH + 1) == CELLANG_ROOM_LENGTH, "rooms before source");
+    expect(reply[0] == CELLANG_ROOM_LENGTH && all_bytes(reply + 1, 4 * sizeof *reply, 0)
+               && reply[CELLANG_REPLY_LENGTH] == UNTOUCHED, "entries that are not told stay");
+    expect(cellang_check(longest, sizeof longest, LIST, words, CELLANG_WORDS, names, CELLANG_NAME_WORDS, reply, 1)
                == CELLANG_SOURCE_TOO_LONG, "source too long");
     expect(reply[0] == CELLANG_SOURCE_TOO_LONG && reply[1] == 0, "one entry is told");
     expect(all_bytes(words, sizeof words, UNTOUCHED) && all_bytes(names, sizeof names, UNTOUCHED), "1 and 2 touch nothing");
-    expect(cellang_check(NULL, 0, NULL, 0, NULL, 0, NULL, 0) == CELLANG_ROOM_LENGTH, "nothing lent");
-    expect(cellang_run_quiet(NULL, 0, NULL, 0, NULL, 0, NULL, 0, NULL, 0, NULL, 0, NULL, 0, 0, 0, NULL, 0)
+    expect(cellang_check(NULL, 0, NULL, 0, NULL, 0, NULL, 0, NULL, 0) == CELLANG_ROOM_LENGTH, "nothing lent");
+    expect(cellang_run_quiet(NULL, 0, NULL, 0, NULL, 0, NULL, 0, NULL, 0, NULL, 0, NULL, 0, NULL, 0, 0, 0, NULL, 0)
                == CELLANG_ROOM_LENGTH, "nothing lent to a run");
 }
 
@@ -142,6 +221,8 @@ static void name_list(void) {
 
 int main(void) {
     marked_examples();
+    spellings();
+    another_list();
     lengths();
     name_list();
     printf("%d passed, %d failed\n", passed, failed);

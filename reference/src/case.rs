@@ -4,6 +4,7 @@ use crate::interpret::{run_full, Lent, Report, WORDS};
 use crate::names::MAX_NAMES;
 use crate::open::run_quiet;
 use crate::parse::{check, Reply};
+use crate::spelling::{spelling, BUILT_IN};
 
 /// One run: the source, what is lent, and the times.
 #[derive(Clone, Debug)]
@@ -64,7 +65,7 @@ pub fn marks_on_entry(length: usize) -> Vec<u8> {
 }
 
 fn began(number: u32) -> bool {
-    number == 0 || number >= 30
+    number == 0 || (30..=33).contains(&number)
 }
 
 fn word<T: PartialEq + Default>(after: &[T], before: &[T], began: bool) -> &'static str {
@@ -89,6 +90,7 @@ pub fn run_case(case: &RunCase, quiet: bool) -> Outcome {
     let run = if quiet { run_quiet } else { run_full };
     let lent = Lent {
         source: &case.source,
+        list: BUILT_IN,
         words: case.words,
         names: case.names,
         shape: &case.shape,
@@ -139,8 +141,16 @@ fn run_line(outcome: &Outcome) -> String {
     line
 }
 
+/// The line that answers a stored check: behind the number and place of a
+/// refusal stand the numbers of its spelling.
 pub fn check_reply(source: &[u8]) -> String {
-    check_line(check(source).reply)
+    let reply = check(source).reply;
+    let line = check_line(reply);
+    if reply.number == 0 {
+        return line;
+    }
+    let [stands, start, length] = spelling(source, reply).numbers();
+    format!("{} {stands} {start} {length}\n", line.trim_end())
 }
 
 fn put_u32(out: &mut Vec<u8>, value: u32) {

@@ -3,6 +3,7 @@
 
 use crate::names::MAX_NAMES;
 use crate::parse::{check, MAX_FIELDS};
+use crate::spelling::BUILT_IN;
 use crate::tree::{Binary, Expression, Offset, Program, Statement, Target, Unary};
 
 pub const WORDS: usize = 16_384;
@@ -232,6 +233,7 @@ pub fn step(
 #[derive(Clone, Copy)]
 pub struct Lent<'a> {
     pub source: &'a [u8],
+    pub list: &'a [u8],
     pub words: usize,
     pub names: usize,
     pub shape: &'a [u32],
@@ -249,7 +251,7 @@ fn refused(number: u32, place: u32) -> Report {
 
 /// The program of a run that is admitted, or the refusal 1 to 24.
 pub fn admit(lent: &Lent, grid: &[i32], scratch: &[i32], marks: &[u8]) -> Result<Program, Report> {
-    if lent.words != WORDS || lent.names != MAX_NAMES {
+    if lent.list != BUILT_IN || lent.words != WORDS || lent.names != MAX_NAMES {
         return Err(refused(1, 0));
     }
     let checked = check(lent.source);

@@ -74,7 +74,7 @@ fn read_source() -> io::Result<Vec<u8>> {
 }
 
 fn check_input() -> io::Result<ExitCode> {
-    let line = check_reply(&read_source()?);
+    let line = check_line(check(&read_source()?).reply);
     io::stdout().write_all(line.as_bytes())?;
     Ok(ExitCode::SUCCESS)
 }
@@ -249,13 +249,14 @@ fn count_replies(seed: u64, count: usize) -> io::Result<ExitCode> {
     println!("runs whose quiet count is less than the full one: {quieter}");
     let wanted = [0]
         .into_iter()
-        .chain(2..=10)
+        .chain(2..=9)
+        .chain(40..=45)
         .chain(12..=15)
         .chain(20..=24)
         .chain(30..=33);
     let mut missing = false;
     for number in wanted {
-        let found = if number < 20 {
+        let found = if number < 20 || number >= 40 {
             checks[number]
         } else {
             runs[number]

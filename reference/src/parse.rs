@@ -18,17 +18,17 @@
 //! | 7  | "token not allowed by the grammar"; "`exit` outside a loop, and `end` before the first field, are 7"; "After a `.`, a token that is no name is 7"; "`[]`, and `]` right after a comma, are 7" | `expect` and the last arms |
 //! | 8  | "name unknown", "or of the wrong sort for a constant or index"; "In an expression, a name that is not visible (fields do not count) is 8" | `constant`, `offset`, `primary` |
 //! | 9  | "name already used, or not assignable (const fields too)"; "`cell`, `time`, or one that is already visible in its name space: 9" | `declare`, `field`, `assignment`, `field_reference` |
-//! | 10 | "dimensions not 1 to 3" | `cell_declaration` |
-//! | 10 | "range reversed or too long", at "the upper bound's constant" | `range` |
-//! | 10 | "ninth field" | `field` |
-//! | 10 | "array size bad"; "value count wrong" at "the extra comma or the token after the last value" | `array_constant` (the second one is noted) |
+//! | 40 | "dimensions", at the constant | `cell_declaration` |
+//! | 41, 42 | "range reversed"; "loop range too long", at "the upper bound's constant" | `range` |
+//! | 43 | "too many fields" | `field` |
+//! | 44, 45 | "array size"; "value count" at "the extra comma or the token after the last value" | `array_constant` (the second one is noted) |
 //! | 12 | "`.` on a plain number" | `plain_name_end`, `no_field_here` |
 //! | 12 | "unknown field" | `field_reference` |
 //! | 12 | "array constant without `[`" | `primary` (noted) |
 //! | 12 | "wrong index count (extra comma, or early `]`)" | `relative_index` |
 //! | 13 | "relation on a bare relation", second operator | `relation` |
 //! | 14 | "17th nesting", "tried last at its token" | `open` |
-//! | 15 | "257th name", tried after 9 and 10 | `declare`, `field`, `assignment` |
+//! | 15 | "257th name", tried after 9 and 43 | `declare`, `field`, `assignment` |
 //!
 //! The two noted complaints let reading go on ("the array name counts as a
 //! plain number, the list as complete"). The reply is then the least of the
@@ -53,6 +53,14 @@ pub const MAX_LOOP: i64 = 4_096;
 pub struct Reply {
     pub number: u32,
     pub place: u32,
+}
+
+impl Reply {
+    /// At one place 40 to 45 stand where 10 did, the lowest first.
+    fn rank(self) -> (u32, u32, u32) {
+        let class = if self.number >= 40 { 10 } else { self.number };
+        (self.place, class, self.number)
+    }
 }
 
 /// What a check gives: the reply, and the program exactly if it is 0.
@@ -114,7 +122,7 @@ pub fn check(source: &[u8]) -> Checked {
         (Ok(_), Some(noted)) => refused(noted),
         (Err(met), None) => refused(met),
         (Err(met), Some(noted)) => {
-            if (met.place, met.number) < (noted.place, noted.number) {
+            if met.rank() < noted.rank() {
                 refused(met)
             } else {
                 refused(noted)
@@ -295,7 +303,7 @@ impl Reader<'_> {
         let place = self.place();
         let size = self.constant()?;
         if !(1..=MAX_ARRAY).contains(&size) {
-            return Err(Reply { number: 10, place });
+            return Err(Reply { number: 44, place });
         }
         self.expect(Symbol::Assign)?;
         let mut values = Vec::new();
@@ -305,12 +313,12 @@ impl Reader<'_> {
                 break;
             }
             if values.len() == size as usize {
-                return self.complain(10);
+                return self.complain(45);
             }
             self.advance();
         }
         if values.len() < size as usize {
-            self.note(10);
+            self.note(45);
         }
         let slot = self.arrays.len();
         self.arrays.push(values);
@@ -364,8 +372,11 @@ impl Reader<'_> {
         let place = self.place();
         let value = self.constant()?;
         let high = if minus { -value } else { value };
-        if high < low || i64::from(high) - i64::from(low) + 1 > longest {
-            return Err(Reply { number: 10, place });
+        if high < low {
+            return Err(Reply { number: 41, place });
+        }
+        if i64::from(high) - i64::from(low) + 1 > longest {
+            return Err(Reply { number: 42, place });
         }
         Ok((low, high))
     }
@@ -374,7 +385,7 @@ impl Reader<'_> {
         let place = self.place();
         let dimensions = self.constant()?;
         if !(1..=3).contains(&dimensions) {
-            return Err(Reply { number: 10, place });
+            return Err(Reply { number: 40, place });
         }
         self.dimensions = dimensions as usize;
         self.expect_keyword(Keyword::Dimensions)?;
@@ -437,7 +448,7 @@ impl Reader<'_> {
             return self.complain(9);
         }
         if self.fields.len() == MAX_FIELDS {
-            return self.complain(10);
+            return self.complain(43);
         }
         if self.names.entries.len() == MAX_NAMES {
             return self.complain(15);

@@ -7,6 +7,7 @@ use crate::limits;
 use crate::random::Random;
 use crate::runs;
 use crate::soup::{soup, HALVES};
+use crate::spelled;
 use crate::text::{any_style, write, Style};
 use crate::written;
 
@@ -139,6 +140,7 @@ pub fn stored_checks() -> Vec<Vec<u8>> {
             row.push(write(&mut random, &tokens, style));
         }
     }
+    row.extend(spelled::sources());
     row.extend(limits::small());
     row.extend(limits::name_counts());
     row.extend(limits::token_counts());

@@ -31,7 +31,7 @@ fn m1_to_m4_and_m13() {
     assert_eq!(reply(S), (0, 0));
     assert_eq!(reply(&format!("{S}x := y")), (8, 26));
     assert_eq!(reply(&format!("{S}cell := 1 < 2 < 3")), (13, 35));
-    assert_eq!(reply("4 dimensions of 0..1"), (10, 0));
+    assert_eq!(reply("4 dimensions of 0..1"), (40, 0));
 }
 
 #[test]

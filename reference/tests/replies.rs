@@ -52,21 +52,21 @@ fn noted_complaints() {
     expect_n(12, "cell := 1 < a ^< 1");
     expect_n(12, "cell := a ^+ y");
     expect_n(12, "cell := a ^if 1 then");
-    expect_s(10, "const b[] for 2 := 1^");
-    expect_s(10, "const b[] for 2 := 1 ^y := 1");
+    expect_s(45, "const b[] for 2 := 1^");
+    expect_s(45, "const b[] for 2 := 1 ^y := 1");
     expect_s(7, "const b[] for 2 := 1 ^exit");
     expect_s(7, "if 1 then const b[] for 2 := 1^");
-    expect_s(10, "if 1 then const b[] for 2 := 1 ^end");
+    expect_s(45, "if 1 then const b[] for 2 := 1 ^end");
     expect_s(7, "const b[] for 2 := 1 ^- 3");
     expect_s(9, "const b[] for 2 := 1 ^b := 3");
     expect_s(9, "const b[] for 2 := 1 ^time := 3");
-    expect_s(10, "const b[] for 2 := 1 ^cell := zz");
+    expect_s(45, "const b[] for 2 := 1 ^cell := zz");
     expect_s(6, "const b[] for 2 := 1 ^\"");
     expect(7, "const b[] for 2 := 1^");
     expect(8, "const b[] for 2 := 1 ^zz dimensions of 0..1");
-    expect(10, "const b[] for 2 := 1 ^4 dimensions of 0..1");
-    expect(10, "const b[] for 2 := 1 ^const b := 1");
-    expect(10, "const b[] for 2 := 1, 2 ^, 3");
+    expect(40, "const b[] for 2 := 1 ^4 dimensions of 0..1");
+    expect(45, "const b[] for 2 := 1 ^const b := 1");
+    expect(45, "const b[] for 2 := 1, 2 ^, 3");
 }
 
 #[test]
@@ -190,8 +190,8 @@ fn declarations() {
     expect(8, "^n dimensions of 0..1");
     expect(8, "^cell dimensions of 0..1");
     expect(7, "^- 1 dimensions of 0..1");
-    expect(10, "^0 dimensions of 0..1");
-    expect(10, "const n := -1 ^n dimensions of 0..1");
+    expect(40, "^0 dimensions of 0..1");
+    expect(40, "const n := -1 ^n dimensions of 0..1");
     expect(7, "1 dimensions of ^end");
     expect(7, "1 dimensions of const ^const f of 0..1 end");
     expect(7, "1 dimensions of const ^0..1");
@@ -200,16 +200,16 @@ fn declarations() {
     expect(9, "1 dimensions of ^cell of 0..1 end");
     expect(9, "1 dimensions of f, ^F of 0..1 end");
     expect(6, "1 dimensions of f ^[ ] for 2 of 0..1 end");
-    expect(10, "1 dimensions of 1..^0");
-    expect(10, "1 dimensions of 1..-^1");
+    expect(41, "1 dimensions of 1..^0");
+    expect(41, "1 dimensions of 1..-^1");
     expect(7, "1 dimensions of f of 0..1^");
     expect(0, "1 dimensions of a,b,c,d,e,f,g,h of -1..+1 end");
-    expect(10, "1 dimensions of a,b,c,d,e,f,g,h, ^i of 0..1 end");
+    expect(43, "1 dimensions of a,b,c,d,e,f,g,h, ^i of 0..1 end");
     expect(9, "1 dimensions of a,b,c,d,e,f,g,h, ^a of 0..1 end");
     expect(0, "const n := 1 1 dimensions of n..n");
     expect(0, "const n := 1 1 dimensions of n of n..n end");
-    expect(10, "const a[] for ^0 := 1");
-    expect(10, "const a[] for ^1025 := 1");
+    expect(44, "const a[] for ^0 := 1");
+    expect(44, "const a[] for ^1025 := 1");
     expect(7, "const a[] for ^-1 := 1");
     expect(6, "const a[] for 1 := ^\"file\"");
     expect_s(7, "^1 dimensions of 0..1");
@@ -233,7 +233,7 @@ fn statements_and_expressions() {
     expect_s(7, "if 1 then else ^elsif 1 then end");
     expect_s(6, "forall i ^:= 0..1 end");
     expect_s(7, "forall ^: 0..1 end");
-    expect_s(10, "forall i : 0..^4096 end");
+    expect_s(42, "forall i : 0..^4096 end");
     expect_s(0, "forall i : -1..4094 end");
     expect_s(7, "cell := - ^- 1");
     expect_s(7, "cell := ! ^! 1");
@@ -281,7 +281,7 @@ fn many_names() {
     expect_s(0, &format!("{all}v0 := 1"));
     let most: String = (0..248).map(|i| format!("const c{i} := 1 ")).collect();
     expect(
-        10,
+        43,
         &format!("{most}1 dimensions of a,b,c,d,e,f,g,h,^i of 0..1 end"),
     );
     expect(

@@ -4,6 +4,9 @@ use crate::foreign::{self, RunCall};
 use crate::replies::{check_answer, run_answer, Outcome, Refusal};
 use crate::rooms::Rooms;
 
+/// The predefined names, as the crate lends them beside every source.
+pub const BUILT_IN: &[u8] = b"cell time random";
+
 /// The greatest number of cells of a grid.
 const MOST_CELLS: usize = 1_048_576;
 
@@ -41,6 +44,16 @@ pub fn check(source: &[u8], rooms: &mut Rooms) -> Result<(), Refusal> {
 
 /// Checks a source as [`check`] does, in memory of the caller's.
 pub fn check_in(source: &[u8], words: &mut [u32], names: &mut [u32]) -> Result<(), Refusal> {
+    check_lent(source, BUILT_IN, words, names)
+}
+
+/// Checks a source beside which a list is lent.
+fn check_lent(
+    source: &[u8],
+    list: &[u8],
+    words: &mut [u32],
+    names: &mut [u32],
+) -> Result<(), Refusal> {
     let mut reply = [0; foreign::REPLY];
     // SAFETY: each pointer and length is those of a slice, and the slices
     // that are written overlap nothing.
@@ -48,6 +61,8 @@ pub fn check_in(source: &[u8], words: &mut [u32], names: &mut [u32]) -> Result<(
         foreign::cellang_check(
             source.as_ptr(),
             source.len(),
+            list.as_ptr(),
+            list.len(),
             words.as_mut_ptr(),
             words.len(),
             names.as_mut_ptr(),
@@ -56,7 +71,7 @@ pub fn check_in(source: &[u8], words: &mut [u32], names: &mut [u32]) -> Result<(
             reply.len(),
         );
     }
-    check_answer(reply)
+    check_answer(source, list, reply)
 }
 
 /// Runs a source on a grid: `steps` steps, the first at time `start`.
@@ -97,6 +112,21 @@ pub fn run_in(
     steps: i64,
     mode: Mode,
 ) -> Outcome {
+    run_lent(source, BUILT_IN, shape, grid, lent, start, steps, mode)
+}
+
+/// Runs a source beside which a list is lent.
+#[allow(clippy::too_many_arguments)]
+fn run_lent(
+    source: &[u8],
+    list: &[u8],
+    shape: &[u32],
+    grid: &mut [i32],
+    lent: Lent<'_>,
+    start: i64,
+    steps: i64,
+    mode: Mode,
+) -> Outcome {
     let call: RunCall = match mode {
         Mode::Full => foreign::cellang_run_full,
         Mode::Quiet => foreign::cellang_run_quiet,
@@ -108,6 +138,8 @@ pub fn run_in(
         call(
             source.as_ptr(),
             source.len(),
+            list.as_ptr(),
+            list.len(),
             lent.words.as_mut_ptr(),
             lent.words.len(),
             lent.names.as_mut_ptr(),
@@ -126,7 +158,7 @@ pub fn run_in(
             report.len(),
         );
     }
-    run_answer(report)
+    run_answer(source, list, report)
 }
 
 /// The number of cells of a shape; 0 where there are too many, which is
@@ -137,4 +169,85 @@ fn cells_of(shape: &[u32]) -> usize {
         .try_fold(1usize, |cells, &size| cells.checked_mul(size as usize))
         .filter(|&cells| cells <= MOST_CELLS)
         .unwrap_or(0)
+}
+
+#[cfg(test)]
+mod tests {
+    use super::*;
+    use crate::replies::Stop;
+    use crate::rooms::{NAME_WORDS, WORDS};
+
+    const BEFORE: u32 = 0x5A5A_5A5A;
+
+    /// The built-in list, and others that are near it.
+    fn lists() -> Vec<Vec<u8>> {
+        let mut lists = vec![BUILT_IN.to_vec(), Vec::new(), b"time cell random".to_vec()];
+        for end in 0..BUILT_IN.len() {
+            lists.push(BUILT_IN[..end].to_vec());
+            let mut changed = BUILT_IN.to_vec();
+            changed[end] ^= 32;
+            lists.push(changed);
+        }
+        for more in [b' ', b'\n', 0] {
+            lists.push([BUILT_IN, &[more]].concat());
+            lists.push([&[more], BUILT_IN].concat());
+        }
+        lists
+    }
+
+    fn sources() -> Vec<Vec<u8>> {
+        let mut sources = vec![vec![b' '; 65_536], b"1 dimensions of 0..1".to_vec()];
+        sources.extend(reference::vectors::checks(20_003, 60, true));
+        sources
+    }
+
+    /// Number and place of a refusal, and its spelling.
+    fn told(refusal: &Refusal) -> (u32, u32, &[u8]) {
+        (refusal.number(), refusal.place.0, &refusal.spelling)
+    }
+
+    #[test]
+    fn another_list_is_refused_and_touches_nothing() {
+        for source in sources() {
+            for list in lists() {
+                let expected = reference::check_lent(&source, &list);
+                let spelling = reference::spelling(&source, expected).bytes(&source, &list);
+                let expected = (expected.number, expected.place, spelling);
+                let (mut words, mut names) = ([BEFORE; WORDS], [BEFORE; NAME_WORDS]);
+                let given = check_lent(&source, &list, &mut words, &mut names);
+                let given = given.as_ref().map_or_else(told, |()| (0, 0, b""));
+                assert_eq!(given, expected);
+                let untouched = words.iter().chain(&names).all(|&word| word == BEFORE);
+                assert_eq!(untouched, matches!(expected.0, 1 | 2));
+            }
+        }
+    }
+
+    #[test]
+    fn another_list_is_refused_by_runs() {
+        let source = b"1 dimensions of 0..1 cell := 1";
+        for list in lists() {
+            for mode in [Mode::Full, Mode::Quiet] {
+                let (mut words, mut names) = ([BEFORE; WORDS], [BEFORE; NAME_WORDS]);
+                let (mut grid, mut scratch, mut marks) = ([0], [7], [7]);
+                let lent = Lent {
+                    words: &mut words,
+                    names: &mut names,
+                    scratch: &mut scratch,
+                    marks: &mut marks,
+                };
+                let outcome = run_lent(source, &list, &[1], &mut grid, lent, 0, 1, mode);
+                if list == BUILT_IN {
+                    assert_eq!(outcome.map(|done| done.steps), Ok(1));
+                    continue;
+                }
+                let Err(Stop::Refused(refusal)) = outcome else {
+                    panic!("{outcome:?}");
+                };
+                assert_eq!(told(&refusal), (1, 0, &[][..]));
+                assert!(words.iter().chain(&names).all(|&word| word == BEFORE));
+                assert_eq!((grid, scratch, marks), ([0], [7], [7]));
+            }
+        }
+    }
 }

@@ -7,13 +7,14 @@
 //!
 //! let mut rooms = Rooms::new();
 //!
-//! // A check says what is wrong, and where.
+//! // A check says what is wrong, where, and at which token.
 //! let refusal = check(b"1 dimensions of 0..1 x := y", &mut rooms).unwrap_err();
 //! assert_eq!(refusal.number(), 8);
 //! assert_eq!(refusal.place, Place(26));
+//! assert_eq!(refusal.spelling, b"y");
 //! assert_eq!(
 //!     refusal.to_string(),
-//!     "refused 8 at 26: name unknown, or of the wrong sort for a constant or index",
+//!     "refused 8 at 26: name unknown, or of the wrong sort for a constant or index: `y`",
 //! );
 //!
 //! // Every cell takes the value of its left neighbour, twice.
@@ -50,7 +51,7 @@ mod names;
 mod replies;
 mod rooms;
 
-pub use calls::{check, check_in, run, run_in, Lent, Mode};
+pub use calls::{check, check_in, run, run_in, Lent, Mode, BUILT_IN};
 pub use names::{Kind, Name, Names};
 pub use replies::{
     Cell, Done, Entry, Fault, FaultKind, Objection, Outcome, Place, Reason, Refusal, Stop,

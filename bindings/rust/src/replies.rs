@@ -56,7 +56,8 @@ impl fmt::Display for Entry {
     }
 }
 
-/// Why a source is refused: replies 1 to 15.
+/// Why a source is refused: replies 1 to 15 and 40 to 45, of which 10 and 11 are
+/// not given.
 #[derive(Clone, Copy, PartialEq, Eq, Hash, Debug)]
 pub enum Reason {
     /// The word table or the name list is of the wrong length.
@@ -81,9 +82,6 @@ pub enum Reason {
     NameUnknown = 8,
     /// A name already used, or not assignable.
     NameUsed = 9,
-    /// Dimensions not 1 to 3, a range reversed or too long, a ninth field, a
-    /// bad array size, or a wrong count of values.
-    BadNumber = 10,
     /// `.` on a plain number, an unknown field, an array constant without
     /// `[`, or a wrong count of indices.
     WrongAccess = 12,
@@ -93,6 +91,18 @@ pub enum Reason {
     NestedTooDeep = 14,
     /// The 257th name.
     TooManyNames = 15,
+    /// Dimensions not 1 to 3.
+    BadDimensions = 40,
+    /// A range reversed, of a field or of a loop.
+    RangeReversed = 41,
+    /// A `forall` range of more than 4,096 values.
+    LoopTooLong = 42,
+    /// The ninth field.
+    TooManyFields = 43,
+    /// An array's size not 1 to 1,024.
+    BadArraySize = 44,
+    /// Too many values for an array constant, or too few.
+    ValueCount = 45,
 }
 
 impl Reason {
@@ -107,11 +117,16 @@ impl Reason {
             7 => Reason::NotAllowed,
             8 => Reason::NameUnknown,
             9 => Reason::NameUsed,
-            10 => Reason::BadNumber,
             12 => Reason::WrongAccess,
             13 => Reason::RelationOnRelation,
             14 => Reason::NestedTooDeep,
             15 => Reason::TooManyNames,
+            40 => Reason::BadDimensions,
+            41 => Reason::RangeReversed,
+            42 => Reason::LoopTooLong,
+            43 => Reason::TooManyFields,
+            44 => Reason::BadArraySize,
+            45 => Reason::ValueCount,
             _ => return None,
         })
     }
@@ -129,27 +144,36 @@ impl fmt::Display for Reason {
             Reason::NotAllowed => "token not allowed by the grammar",
             Reason::NameUnknown => "name unknown, or of the wrong sort for a constant or index",
             Reason::NameUsed => "name already used, or not assignable",
-            Reason::BadNumber => {
-                "wrong number of dimensions, fields or values, wrong array size, or wrong range"
-            }
             Reason::WrongAccess => {
                 "`.` on a plain number, unknown field, array constant without `[`, or wrong index count"
             }
             Reason::RelationOnRelation => "relation on a bare relation",
             Reason::NestedTooDeep => "nested more than 16 deep",
             Reason::TooManyNames => "more than 256 names",
+            Reason::BadDimensions => "dimensions not 1 to 3",
+            Reason::RangeReversed => "range reversed",
+            Reason::LoopTooLong => "loop range of more than 4096 values",
+            Reason::TooManyFields => "more than 8 fields",
+            Reason::BadArraySize => "array size not 1 to 1024",
+            Reason::ValueCount => "wrong number of values for an array constant",
         })
     }
 }
 
-/// A source is refused.
-#[derive(Clone, Copy, PartialEq, Eq, Hash, Debug)]
+/// A source is refused. The refusal has a copy of the token that it names, so
+/// that it may outlive the source.
+#[derive(Clone, PartialEq, Eq, Hash, Debug)]
 pub struct Refusal {
     /// Why.
     pub reason: Reason,
     /// Where: the first byte of the token that is named, or 0 where the
     /// reason is [`Reason::RoomLength`].
     pub place: Place,
+    /// The token at the place, as it is written, but `cell`, `time` and
+    /// `random` in lower case. Where no token can be read it is the one byte at
+    /// the place. It is empty at the end of the source, and for
+    /// [`Reason::RoomLength`] and [`Reason::SourceTooLong`].
+    pub spelling: Vec<u8>,
 }
 
 impl Refusal {
@@ -161,8 +185,12 @@ impl Refusal {
 
 impl fmt::Display for Refusal {
     fn fmt(&self, f: &mut fmt::Formatter<'_>) -> fmt::Result {
-        let Refusal { reason, place } = self;
-        write!(f, "refused {} at {place}: {reason}", self.number())
+        let (number, place, reason) = (self.number(), self.place, self.reason);
+        write!(f, "refused {number} at {place}: {reason}")?;
+        if !self.spelling.is_empty() {
+            write!(f, ": `{}`", self.spelling.escape_ascii())?;
+        }
+        Ok(())
     }
 }
 
@@ -294,7 +322,7 @@ impl fmt::Display for Fault {
 impl Error for Fault {}
 
 /// A run did not do all its steps.
-#[derive(Clone, Copy, PartialEq, Eq, Hash, Debug)]
+#[derive(Clone, PartialEq, Eq, Hash, Debug)]
 pub enum Stop {
     /// The source is refused.
     Refused(Refusal),
@@ -350,26 +378,43 @@ pub struct Done {
 pub type Outcome = Result<Done, Stop>;
 
 /// The answer that the entries of a check tell.
-pub(crate) fn check_answer([number, place]: [u32; foreign::REPLY]) -> Result<(), Refusal> {
+pub(crate) fn check_answer(
+    source: &[u8],
+    list: &[u8],
+    [number, place, stands, start, length]: [u32; foreign::REPLY],
+) -> Result<(), Refusal> {
     if number == 0 {
         return Ok(());
     }
-    match refusal_of(number, place) {
+    let spelling = part_of(source, list, stands, start, length);
+    match refusal_of(number, place, spelling) {
         Some(refusal) => Err(refusal),
         None => unreachable!("reply {number} to a check"),
     }
 }
 
-fn refusal_of(number: u32, place: u32) -> Option<Refusal> {
-    let place = Place(place);
-    Reason::of(number).map(|reason| Refusal { reason, place })
+/// The part of the source or of the built-in list that three entries tell.
+fn part_of<'a>(source: &'a [u8], list: &'a [u8], stands: u32, start: u32, length: u32) -> &'a [u8] {
+    let whole = match stands {
+        foreign::IN_SOURCE => source,
+        foreign::IN_LIST => list,
+        _ => return &[],
+    };
+    &whole[start as usize..][..length as usize]
+}
+
+fn refusal_of(number: u32, place: u32, spelling: &[u8]) -> Option<Refusal> {
+    Reason::of(number).map(|reason| Refusal {
+        reason,
+        place: Place(place),
+        spelling: spelling.to_vec(),
+    })
 }
 
 /// The answer that the entries of a run tell.
-pub(crate) fn run_answer(report: [u64; foreign::REPORT]) -> Outcome {
+pub(crate) fn run_answer(source: &[u8], list: &[u8], report: [u64; foreign::REPORT]) -> Outcome {
     // All but the count are numbers of 32 bits.
-    let [number, place, cell, steps] =
-        [report[0], report[1], report[2], report[3]].map(|n| n as u32);
+    let [number, place, cell, steps, _, stands, start, length] = report.map(|n| n as u32);
     let count = report[4];
     let objection = |objection| Err(Stop::NotAdmitted(objection));
     match number {
@@ -380,7 +425,8 @@ pub(crate) fn run_answer(report: [u64; foreign::REPORT]) -> Outcome {
         23 => objection(Objection::IndexTooFar(Place(place))),
         24 => objection(Objection::EntryOutOfRange(Entry(place))),
         _ => {
-            if let Some(refusal) = refusal_of(number, place) {
+            let spelling = part_of(source, list, stands, start, length);
+            if let Some(refusal) = refusal_of(number, place, spelling) {
                 return Err(Stop::Refused(refusal));
             }
             let Some(kind) = FaultKind::of(number) else {

@@ -1,11 +1,11 @@
 //! The library and the second program on the same checks and runs.
 
-use cellang::{check_in, run_in, Lent, Mode, Names, Outcome, Stop, NAME_WORDS, WORDS};
+use cellang::{check_in, run_in, Lent, Mode, Names, Outcome, Stop, BUILT_IN, NAME_WORDS, WORDS};
 use reference::case::{marks_on_entry, run_case, scratch_on_entry, RunCase};
 use reference::lex::{lex, Keyword, Kind};
 use reference::names::Record;
 use reference::tree::Program;
-use reference::{vectors, Report};
+use reference::{vectors, Reply, Report};
 
 const CHECKS: usize = 30_000;
 const RUNS: usize = 10_000;
@@ -14,7 +14,7 @@ const RUNS: usize = 10_000;
 const BEFORE: u32 = 0x5A5A_5A5A;
 
 /// The five numbers of an outcome.
-fn report_of(outcome: Outcome) -> Report {
+fn report_of(outcome: &Outcome) -> Report {
     let stop = match outcome {
         Ok(done) => {
             return Report {
@@ -40,6 +40,11 @@ fn report_of(outcome: Outcome) -> Report {
         _ => {}
     }
     report
+}
+
+/// The spelling that the second program gives a reply.
+fn spelling_of(source: &[u8], reply: Reply) -> &[u8] {
+    reference::spelling(source, reply).bytes(source, BUILT_IN)
 }
 
 fn all(words: &[u32], value: u32) -> bool {
@@ -110,12 +115,13 @@ fn compare_words(source: &[u8], words: &[u32], program: &Program) {
 fn compare_check(source: &[u8], seen: &mut [usize; 34]) {
     let expected = reference::check(source).reply;
     let (mut words, mut names) = (vec![BEFORE; WORDS], vec![BEFORE; NAME_WORDS]);
-    let given = match check_in(source, &mut words, &mut names) {
-        Ok(()) => (0, 0),
-        Err(refusal) => (refusal.number(), refusal.place.0),
+    let (given, spelling) = match check_in(source, &mut words, &mut names) {
+        Ok(()) => ((0, 0), Vec::new()),
+        Err(refusal) => ((refusal.number(), refusal.place.0), refusal.spelling),
     };
     let text = String::from_utf8_lossy(source);
     assert_eq!(given, (expected.number, expected.place), "{text}");
+    assert_eq!(spelling, spelling_of(source, expected), "{text}");
     compare_rooms(source, expected.number, &words, &names);
     seen[expected.number as usize] += 1;
 }
@@ -143,8 +149,13 @@ fn compare_run(case: &RunCase, mode: Mode, seen: &mut [usize; 34]) {
         mode,
     );
     let text = String::from_utf8_lossy(&case.source);
-    assert_eq!(report_of(outcome), expected.report, "{mode:?} {text}");
+    assert_eq!(report_of(&outcome), expected.report, "{mode:?} {text}");
     assert_eq!(grid, expected.grid, "{mode:?} {text}");
+    if let Err(Stop::Refused(refusal)) = &outcome {
+        let (number, place) = (refusal.number(), refusal.place.0);
+        let spelling = spelling_of(&case.source, Reply { number, place });
+        assert_eq!(refusal.spelling, spelling, "{mode:?} {text}");
+    }
     if matches!(outcome, Ok(_) | Err(Stop::Faulted(_))) {
         assert!(scratch.iter().all(|&entry| entry == 0));
         assert!(marks.iter().all(|&mark| mark == 0));
@@ -175,7 +186,7 @@ fn print_seen(what: &str, seen: &[usize; 34]) {
 
 #[test]
 fn checks() {
-    let mut seen = [0; 34];
+    let mut seen = [0; 46];
     for source in vectors::stored_checks() {
         compare_check(&source, &mut seen);
     }
@@ -183,7 +194,7 @@ fn checks() {
         compare_check(&source, &mut seen);
     }
     print_seen("checks", &seen);
-    for number in [0, 2, 3, 4, 5, 6, 7, 8, 9, 10, 12, 13, 14, 15] {
+    for number in [0, 2, 3, 4, 5, 6, 7, 8, 9, 12, 13, 14, 15, 40, 41, 42, 43, 44, 45] {
         assert!(seen[number] > 0, "no check gave {number}");
     }
 }
@@ -191,7 +202,7 @@ fn checks() {
 #[test]
 fn runs() {
     for mode in [Mode::Full, Mode::Quiet] {
-        let mut seen = [0; 34];
+        let mut seen = [0; 46];
         for case in vectors::stored_runs() {
             compare_run(&case, mode, &mut seen);
         }

@@ -1,6 +1,6 @@
 //! The C header names the same replies and kinds.
 
-use cellang::{Entry, FaultKind, Kind, Objection, Place, Reason, NAME_WORDS, WORDS};
+use cellang::{Entry, FaultKind, Kind, Objection, Place, Reason, BUILT_IN, NAME_WORDS, WORDS};
 use std::fmt::Debug;
 
 const HEADER: &str = include_str!("../../../include/cellang.h");
@@ -43,13 +43,19 @@ fn replies() {
         Reason::NotAllowed,
         Reason::NameUnknown,
         Reason::NameUsed,
-        Reason::BadNumber,
         Reason::WrongAccess,
         Reason::RelationOnRelation,
         Reason::NestedTooDeep,
         Reason::TooManyNames,
+        Reason::BadDimensions,
+        Reason::RangeReversed,
+        Reason::LoopTooLong,
+        Reason::TooManyFields,
+        Reason::BadArraySize,
+        Reason::ValueCount,
     ];
-    for (reason, number) in reasons.into_iter().zip((1..=10).chain(12..=15)) {
+    let numbers = (1..=9).chain(12..=15).chain(40..=45);
+    for (reason, number) in reasons.into_iter().zip(numbers) {
         assert_eq!(reason as u32, number);
         assert_eq!(named(&name_of(reason)), Some(number), "{reason:?}");
     }
@@ -93,4 +99,8 @@ fn kinds_and_lengths() {
     }
     assert_eq!(named("CELLANG_WORDS"), Some(WORDS as u32));
     assert_eq!(named("CELLANG_NAME_WORDS"), Some(NAME_WORDS as u32));
+    let list = format!("#define CELLANG_BUILT_IN \"{}\"", BUILT_IN.escape_ascii());
+    assert!(HEADER.lines().any(|line| line == list));
+    let length = named("CELLANG_BUILT_IN_LENGTH");
+    assert_eq!(length, Some(BUILT_IN.len() as u32));
 }

@@ -1,20 +1,19 @@
 //! The marked examples M1 to M13.
 
 use cellang::{
-    check, run, Cell, Done, Fault, FaultKind, Mode, Objection, Outcome, Place, Reason, Refusal,
-    Rooms, Stop,
+    check, run, Cell, Done, Fault, FaultKind, Mode, Objection, Outcome, Place, Reason, Rooms, Stop,
 };
 
 const S: &str = "1 dimensions of 0..1 ";
 const MODES: [Mode; 2] = [Mode::Full, Mode::Quiet];
 
-fn reply(source: &str) -> Result<(), Refusal> {
-    check(source.as_bytes(), &mut Rooms::new())
+/// Reason and place of a refusal.
+fn reply(source: &str) -> Result<(), (Reason, Place)> {
+    check(source.as_bytes(), &mut Rooms::new()).map_err(|refusal| (refusal.reason, refusal.place))
 }
 
-fn refused(reason: Reason, place: u32) -> Result<(), Refusal> {
-    let place = Place(place);
-    Err(Refusal { reason, place })
+fn refused(reason: Reason, place: u32) -> Result<(), (Reason, Place)> {
+    Err((reason, Place(place)))
 }
 
 /// The outcome of a run on a row of cells, and the grid that it leaves.
@@ -44,7 +43,7 @@ fn m1_to_m4_and_m13() {
     );
     let chained = format!("{S}cell := 1 < 2 < 3");
     assert_eq!(reply(&chained), refused(Reason::RelationOnRelation, 35));
-    assert_eq!(reply("4 dimensions of 0..1"), refused(Reason::BadNumber, 0));
+    assert_eq!(reply("4 dimensions of 0..1"), refused(Reason::BadDimensions, 0));
 }
 
 #[test]

@@ -50,7 +50,36 @@ fn refusals() {
             9,
             "refused 9 at 19: name already",
         ),
-        ("1 dimensions of 1..0".into(), 10, "refused 10 at 19: wrong"),
+        (
+            "4 dimensions of 0..1".into(),
+            40,
+            "refused 40 at 0: dimensions not 1 to 3",
+        ),
+        (
+            "1 dimensions of 1..0".into(),
+            41,
+            "refused 41 at 19: range reversed",
+        ),
+        (
+            format!("{S}forall i : 0..4096 end"),
+            42,
+            "refused 42 at 35: loop range",
+        ),
+        (
+            "1 dimensions of a,b,c,d,e,f,g,h,i of 0..1 end".into(),
+            43,
+            "refused 43 at 32: more than 8 fields",
+        ),
+        (
+            "const a[] for 1025 := 1".into(),
+            44,
+            "refused 44 at 14: array size",
+        ),
+        (
+            format!("const a[] for 2 := 1,2,3 {S}"),
+            45,
+            "refused 45 at 22: wrong number of values",
+        ),
         (
             "1 dimensions of 0..1 x := cell.a".into(),
             12,
@@ -73,6 +102,38 @@ fn refusals() {
         assert_eq!(given, number, "{text}");
         assert!(text.starts_with(message), "{text}");
     }
+}
+
+#[test]
+fn spellings() {
+    let s = "1 dimensions of 0..1 ";
+    let cases: [(&str, &[u8], &str); 14] = [
+        ("x := y", b"y", " constant or index: `y`"),
+        ("x := Y_1z", b"Y_1z", " constant or index: `Y_1z`"),
+        ("cell := RanDom", b"random", " not taken: `random`"),
+        ("forall CELL : 0..1 end", b"cell", " not assignable: `cell`"),
+        ("Time := 1", b"time", " not assignable: `time`"),
+        ("AGENT", b"AGENT", " not taken: `AGENT`"),
+        ("cell := Then", b"Then", " the grammar: `Then`"),
+        ("12ab", b"1", " can be read: `1`"),
+        ("\u{e9}", b"\xc3", " can be read: `\\xc3`"),
+        ("x := 9_999_999_999", b"9_999_999_999", ": `9_999_999_999`"),
+        ("x := 1 +% 2", b"+%", " not taken: `+%`"),
+        ("cell := 1 < 2 >= 3", b">=", " bare relation: `>=`"),
+        ("if 1 then", b"", " the grammar"),
+        ("forall x", b"", " not taken"),
+    ];
+    for (text, spelling, end) in cases {
+        let source = format!("{s}{text}");
+        let refusal = check(source.as_bytes(), &mut Rooms::new()).unwrap_err();
+        assert_eq!(refusal.spelling, spelling, "{text}");
+        assert!(refusal.to_string().ends_with(end), "{refusal}");
+        let (_, message) = stop(&source, &[1], 0, 0);
+        assert_eq!(message, refusal.to_string());
+    }
+    let long = " ".repeat(65_536);
+    let refusal = check(long.as_bytes(), &mut Rooms::new()).unwrap_err();
+    assert_eq!(refusal.spelling, b"");
 }
 
 #[test]

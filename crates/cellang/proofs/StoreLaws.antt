@@ -1,5 +1,5 @@
 -- What is stored of the records of the flat words that a reading leaves.
-use mathlib.Core.Path.{_≡_, refl, sym, _∙_, ap, subst}
+use mathlib.Core.Path.{_≡_, refl, sym, _∙_, ap, subst, subst₂}
 use mathlib.Core.Bool.{Bool, true, false, not, _&&_}
 use mathlib.Core.List.{List, _++_}
 use Prim.Native.Nat.{ℕ, _≤_, _<_, zero-le}
@@ -7,28 +7,29 @@ use native.Mathlib.Nat.{le-refl}
 use lib.Dec.{eqb, ltb}
 use lib.IntN.{ℤ, pos}
 use lib.ListN.{length, take, drop, replicate, length-replicate}
-use borrow.Author.Tests.{eq-eqb, ne-eqb, lt-ltb, le-ltb}
+use borrow.Author.Tests.{eq-eqb, ne-eqb, eqb-true, lt-ltb, le-ltb, not-true, not-false}
 use Rattle.value.specs.Choice.{if_then_else_}
+use Rattle.value.specs.Laws.{never}
+use Rattle.token.specs.Lexeme.{is-built-in}
 use Rattle.token.specs.Scanning.{table-words}
 use Rattle.names.specs.Names.{most-names, name-words}
 use Rattle.grammar.specs.Reader.{Result, ok, fail}
 use Rattle.grammar.specs.Complaint.{complaint}
 use Rattle.grammar.specs.Source.{Accepted, parse}
-use Rattle.grammar.specs.Checking.{most-bytes, Outcome, turned-away, outcome-of, rooms-fit, read-source, room-left, names-after, check, words-after}
-use Rattle.stepper.specs.Admission.{Request}
-use Rattle.stepper.specs.Report.{Counting, refused}
+use Rattle.grammar.specs.Checking.{most-bytes, Outcome, turned-away, outcome-of, rooms-fit, lent-fit, read-source, room-left, names-after, check, words-after}
+use Rattle.stepper.specs.Report.{Counting}
 use Rattle.services.specs.Services.{run-source, room-after}
 use Rattle.services.specs.Calls.{flat-names, memory, Lent, lent, asked, names-left, run-left}
 use Rattle.checker.specs.Promises.{Checks}
+use Rattle.checker.proofs.Checks.{list-right}
 use Rattle.iteration.specs.declared.Report.{Report}
-use Rattle.iteration.specs.Stepwise.{told}
 use Rattle.runner.specs.Sourcewise.{RunLeaves}
-use Rattle.runner.proofs.RunLaws.{left-by, left-report}
+use Rattle.runner.proofs.RunLaws.{left-by, left-report, unlisted-run}
 use Rattle.checker.specs.declared.checking.Reply.{Reply}
 use Rattle.records.specs.declared.Name.{Name}
 use Rattle.cellang.specs.declared.running.RunAnswer.{RunAnswer}
 use Rattle.records.specs.Rows.{no-name, rows-of}
-use Rattle.cellang.specs.Left.{rows-fit, row-names, stored-of}
+use Rattle.cellang.specs.Left.{rows-fit, lent-rows-fit, row-fits, row-names, stored-of}
 use Rattle.cellang.specs.Promises.{ChecksOver, RunsOver, TurnedAway}
 use Rattle.records.proofs.RowLaws.{filled-all, length-rows, rows-of-zeros}
 
@@ -64,9 +65,33 @@ and-false : (t : Bool) → (t && false) ≡ false
 and-false true = refl
 and-false false = refl
 
-pub no-room : (words names : ℕ) → (names ≡ 256 → ⊥) → rows-fit words names ≡ false
-unfolding rows-fit
-no-room words names n = ap (λ (t : Bool). eqb words table-words && t) (ne-eqb names 256 n) ∙ and-false (eqb words table-words)
+-- the test of list and row
+module _ (list : List ℕ) (names : ℕ) {t : Bool} (e : t ≡ is-built-in list) where
+  pub no-list : not t ≡ true → false ≡ row-fits list names
+  unfolding row-fits
+  no-list n = ap (λ (u : Bool). u && eqb names most-names) (sym (not-true t n) ∙ e)
+
+  pub by-row : not t ≡ false → eqb names most-names ≡ row-fits list names
+  unfolding row-fits
+  by-row n = ap (λ (u : Bool). u && eqb names most-names) (sym (not-false t n) ∙ e)
+
+-- another list than the built-in one, or no room for every record
+pub no-row : (list : List ℕ) (words names : ℕ) → not (row-fits list names) ≡ true → lent-rows-fit list words names ≡ false
+unfolding row-fits rows-fit
+no-row list words names n = by (is-built-in list) (eqb names most-names) (not-true _ n)
+  where
+    by : (a b : Bool) → (a && b) ≡ false → (a && (eqb words table-words && b)) ≡ false
+    by true b e = ap (λ (t : Bool). eqb words table-words && t) e ∙ and-false (eqb words table-words)
+    by false b e = refl
+
+pub row-there : (list : List ℕ) (names : ℕ) → not (row-fits list names) ≡ false → (is-built-in list ≡ true) × (names ≡ 256)
+unfolding row-fits
+row-there list names n = by (is-built-in list) (eqb names most-names) refl refl (not-false _ n)
+  where
+    by : (a b : Bool) → is-built-in list ≡ a → eqb names most-names ≡ b → (a && b) ≡ true → (is-built-in list ≡ true) × (names ≡ 256)
+    by true true e f q = (e, eqb-true names 256 f)
+    by true false e f q = never q
+    by false b e f q = never q
 
 -- then nothing is touched
 pub turned-reply : (source : List ℕ) → complaint 1 0 ≡ check false source
@@ -80,14 +105,6 @@ turned-words source ws = refl
 pub turned-row : (source : List ℕ) (ns : List Name) → ns ≡ names-left row-names false source ns
 unfolding read-source
 turned-row source ns = refl
-
-pub turned-report : (counting : Counting) (source : List ℕ) (q : Request) → refused 1 0 (q .grid) ≡ run-source counting false source q
-unfolding run-source read-source
-turned-report counting source q = refl
-
-pub turned-room : {X : Type 0} (none : X) (source : List ℕ) (q : Request) (old : List X) → old ≡ room-after none false source q old
-unfolding room-after read-source
-turned-room none source q old = refl
 
 -- ---- the row of records that is left
 
@@ -131,17 +148,17 @@ stores-row source ws flat old e h =
     ∙ ap (λ (t : Bool). room-left no-name old (λ a. rows-of (a .names)) (ended t (long source) (outcome-of (parse source)))) (sym (and-true (fits ws)))
 
 -- the flat words are a form of the name list
-flat-left : (source ws : List ℕ) {flat : List ℕ} → flat ≡ names-left flat-names (rooms-fit (length ws) (length zeros)) source zeros
-    → flat ≡ names-after (rooms-fit (length ws) (length zeros)) source zeros
-unfolding names-after
-flat-left source ws e = e
+flat-left : (list source ws : List ℕ) {flat : List ℕ} → flat ≡ names-left flat-names (is-built-in list && rooms-fit (length ws) (length zeros)) source zeros
+    → flat ≡ names-after (lent-fit list (length ws) (length zeros)) source zeros
+unfolding names-after lent-fit
+flat-left list source ws e = e
 
 -- ---- a check
 
-pub no-row-check : (source ws : List ℕ) (names : ℕ) (rows : List Name) → (names ≡ 256 → ⊥)
-    → ChecksOver source ws names (record { reply = record { number = 1; place = 0 }; rows = rows; count = 0 }) ws
-no-row-check source ws names rows n =
-    let e = sym (no-room (length ws) names n) in
+pub no-row-check : (list source ws : List ℕ) (names : ℕ) (rows : List Name) → not (row-fits list names) ≡ true
+    → ChecksOver (lent-rows-fit list (length ws) names) source ws names (record { reply = record { number = 1; place = 0 }; rows = rows; count = 0 }) ws
+no-row-check list source ws names rows n =
+    let e = sym (no-row list (length ws) names n) in
     record {
       reply = turned-reply source ∙ ap (λ (t : Bool). check t source) e;
       words = turned-words source ws ∙ ap (λ (t : Bool). words-after t source ws) e;
@@ -152,70 +169,74 @@ no-row-check source ws names rows n =
 zeros-long : length zeros ≡ 1024
 zeros-long = length-replicate {A = ℕ} 1024 0
 
-pub row-check : (source ws ws′ flat : List ℕ) (names : ℕ) (reply : Reply) (rows : List Name) (count : ℕ) → names ≡ 256 → count ≡ stored-of (length source) (length ws)
-    → Checks source ws zeros (reply .number) (reply .place) ws′ flat → rows ≡ rows-of flat → ChecksOver source ws names (record { reply = reply; rows = rows; count = count }) ws′
-row-check source ws ws′ flat names reply rows count n m c r =
-    subst (λ (k : ℕ). ChecksOver source ws k (record { reply = reply; rows = rows; count = count }) ws′) (sym n)
-    (record {
-      reply = c .reply ∙ ap (λ (t : Bool). check t source) fit;
-      words = c .words ∙ ap (λ (t : Bool). words-after t source ws) fit;
-      few = (few, few);
-      stores = λ ns l. (λ i. take (m i) (r i) ++ drop (m i) ns) ∙ stores-row source ws flat ns l (c .names ∙ ap (λ (k : ℕ). names-after (rooms-fit (length ws) k) source zeros)
-          zeros-long);
-    })
+-- with the built-in list, what is lent fits if the row of records does
+fits-flat : (list ws : List ℕ) (names : ℕ) → (is-built-in list ≡ true) × (names ≡ 256) → lent-fit list (length ws) (length zeros) ≡ lent-rows-fit list (length ws) names
+fits-flat list ws names e =
+    list-right list (length ws) (length zeros) (e .0) ∙ ap (rooms-fit (length ws)) zeros-long ∙ sym (rows-fit-flat (length ws)) ∙ ap (rows-fit (length ws)) (sym (e .1))
+    ∙ sym (ap (λ (t : Bool). t && rows-fit (length ws) names) (e .0))
+
+-- the records that are stored, with the built-in list
+stores-lent : (list source ws flat : List ℕ) (names : ℕ) (e : (is-built-in list ≡ true) × (names ≡ 256)) (old : List Name) → length old ≡ names
+    → flat ≡ names-after (lent-fit list (length ws) (length zeros)) source zeros
+    → take (stored-of (length source) (length ws)) (rows-of flat) ++ drop (stored-of (length source) (length ws)) old ≡ names-left row-names (lent-rows-fit list (length ws) names) source old
+stores-lent list source ws flat names e old l h =
+    stores-row source ws flat old (l ∙ e .1) (h ∙ ap (λ (t : Bool). names-after t source zeros) (list-right list (length ws) (length zeros) (e .0) ∙ ap (rooms-fit (length ws)) zeros-long))
+    ∙ ap (λ (t : Bool). names-left row-names t source old) (ap (rows-fit (length ws)) (sym (e .1)) ∙ sym (ap (λ (t : Bool). t && rows-fit (length ws) names) (e .0)))
+
+pub row-check : (list source ws ws′ flat : List ℕ) (names : ℕ) (reply : Reply) (rows : List Name) (count : ℕ) → not (row-fits list names) ≡ false → count ≡ stored-of (length source) (length ws)
+    → Checks (lent-fit list (length ws) (length zeros)) source ws zeros (reply .number) (reply .place) ws′ flat → rows ≡ rows-of flat
+    → ChecksOver (lent-rows-fit list (length ws) names) source ws names (record { reply = reply; rows = rows; count = count }) ws′
+row-check list source ws ws′ flat names reply rows count n m c r =
+    record {
+      reply = c .reply ∙ ap (λ (t : Bool). check t source) (fits-flat list ws names there);
+      words = c .words ∙ ap (λ (t : Bool). words-after t source ws) (fits-flat list ws names there);
+      few = (few, subst (λ (k : ℕ). count ≤ k) (sym (there .1)) few);
+      stores = λ ns l. (λ i. take (m i) (r i) ++ drop (m i) ns) ∙ stores-lent list source ws flat names there ns l (c .names);
+    }
   where
-    fit : rooms-fit (length ws) (length zeros) ≡ rows-fit (length ws) 256
-    fit = ap (rooms-fit (length ws)) zeros-long ∙ sym (rows-fit-flat (length ws))
+    there : (is-built-in list ≡ true) × (names ≡ 256)
+    there = row-there list names n
 
     few : count ≤ 256
     few = subst (λ (k : ℕ). k ≤ 256) (sym m) (stored-few (length source) (length ws))
 
 -- ---- a run
 
-module _ (counting : Counting) (source ws : List ℕ) (names : ℕ) (sizes : List ℕ) (grid scratch : List ℤ) (marks : List ℕ) (start steps : ℤ) where
+module _ (counting : Counting) (source list ws : List ℕ) (names : ℕ) (sizes : List ℕ) (grid scratch : List ℤ) (marks : List ℕ) (start steps : ℤ) where
   abbrev lends : List Name → Lent Name
-  lends ns = lent source sizes (memory ws ns grid scratch marks) start steps
+  lends ns = lent source list sizes (memory ws ns grid scratch marks) start steps
 
-  pub no-row-run : (r : RunAnswer) → (names ≡ 256 → ⊥) → TurnedAway r → RunsOver counting names lends r (λ ns. memory ws ns grid scratch marks)
+  pub no-row-run : (r : RunAnswer) → not (row-fits list names) ≡ true → TurnedAway r → RunsOver counting names lends r (λ ns. memory ws ns grid scratch marks)
   no-row-run r n t =
       record {
         few = (subst (λ (k : ℕ). k ≤ 256) (sym (t .count)) zero-le, subst (λ (k : ℕ). k ≤ names) (sym (t .count)) zero-le);
         stores = λ ns l.
-            let e = sym (ap (rows-fit (length ws)) l ∙ no-room (length ws) names n) in
-            let q = asked (lends ns) in
-            left-by {form = row-names} {l = lends ns}
-            (ap (λ (said : Report). told said grid) (t .report) ∙ turned-report counting source q ∙ ap (λ (u : Bool). run-source counting u source q) e)
-            (turned-words source ws ∙ ap (λ (u : Bool). words-after u source ws) e)
-            (ap (λ (k : ℕ). take k (r .rows) ++ drop k ns) (t .count) ∙ turned-row source ns ∙ ap (λ (u : Bool). names-left row-names u source ns) e)
-            (turned-room (pos 0) source q scratch ∙ ap (λ (u : Bool). room-after (pos 0) u source q scratch) e)
-            (turned-room 0 source q marks ∙ ap (λ (u : Bool). room-after 0 u source q marks) e);
+            subst₂ (λ (said : Report) (k : ℕ). RunLeaves row-names counting (lends ns) said (memory ws (take k (r .rows) ++ drop k ns) grid scratch marks)) (sym (t .report)) (sym (t .count))
+            (unlisted-run row-names counting (lends ns) (ap (lent-rows-fit list (length ws)) l ∙ no-row list (length ws) names n));
       }
 
-  pub row-run : (ws′ flat : List ℕ) (grid′ scratch′ : List ℤ) (marks′ : List ℕ) (report : Report) (rows : List Name) (count : ℕ) → names ≡ 256
+  pub row-run : (ws′ flat : List ℕ) (grid′ scratch′ : List ℤ) (marks′ : List ℕ) (report : Report) (rows : List Name) (count : ℕ) → not (row-fits list names) ≡ false
       → count ≡ stored-of (length source) (length ws)
-      → RunLeaves flat-names counting (lent source sizes (memory ws zeros grid scratch marks) start steps) report (memory ws′ flat grid′ scratch′ marks′) → rows ≡ rows-of flat
+      → RunLeaves flat-names counting (lent source list sizes (memory ws zeros grid scratch marks) start steps) report (memory ws′ flat grid′ scratch′ marks′) → rows ≡ rows-of flat
       → RunsOver counting names lends (record { report = report; rows = rows; count = count }) (λ ns. memory ws′ ns grid′ scratch′ marks′)
-  unfolding run-left
+  unfolding run-left lent-fit
   row-run ws′ flat grid′ scratch′ marks′ report rows count n m c r =
       record {
-        few = (few, subst (λ (k : ℕ). count ≤ k) (sym n) few);
+        few = (few, subst (λ (k : ℕ). count ≤ k) (sym (there .1)) few);
         stores = λ ns l.
-            let fit = fit-rows ∙ ap (rows-fit (length ws)) (sym (l ∙ n)) in
+            let fit = fits-flat list ws names there ∙ ap (lent-rows-fit list (length ws)) (sym l) in
             let q = asked (lends ns) in
             left-by {form = row-names} {l = lends ns}
             (left-report c ∙ ap (λ (t : Bool). run-source counting t source q) fit)
             (ap (λ x. x .memory .words) (c .is) ∙ ap (λ (t : Bool). words-after t source ws) fit)
-            ((λ i. take (m i) (r i) ++ drop (m i) ns) ∙ stores-row source ws flat ns (l ∙ n) (names-are ∙ ap (λ (k : ℕ). names-after (rooms-fit (length ws) k) source zeros) zeros-long)
-            ∙ ap (λ (k : ℕ). names-left row-names (rows-fit (length ws) k) source ns) (sym (l ∙ n)))
+            ((λ i. take (m i) (r i) ++ drop (m i) ns) ∙ stores-lent list source ws flat names there ns l (flat-left list source ws (ap (λ x. x .memory .names) (c .is)))
+            ∙ ap (λ (k : ℕ). names-left row-names (lent-rows-fit list (length ws) k) source ns) (sym l))
             (ap (λ x. x .memory .scratch) (c .is) ∙ ap (λ (t : Bool). room-after (pos 0) t source q scratch) fit)
             (ap (λ x. x .memory .marks) (c .is) ∙ ap (λ (t : Bool). room-after 0 t source q marks) fit);
       }
     where
-      fit-rows : rooms-fit (length ws) (length zeros) ≡ rows-fit (length ws) 256
-      fit-rows = ap (rooms-fit (length ws)) zeros-long ∙ sym (rows-fit-flat (length ws))
-
-      names-are : flat ≡ names-after (rooms-fit (length ws) (length zeros)) source zeros
-      names-are = flat-left source ws (ap (λ x. x .memory .names) (c .is))
+      there : (is-built-in list ≡ true) × (names ≡ 256)
+      there = row-there list names n
 
       few : count ≤ 256
       few = subst (λ (k : ℕ). k ≤ 256) (sym m) (stored-few (length source) (length ws))

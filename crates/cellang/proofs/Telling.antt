@@ -1,17 +1,19 @@
 -- What the calls tell.
 use mathlib.Core.Path.{_≡_, ap, _∙_, subst}
-use mathlib.Core.List.{List, [], _∷_}
+use mathlib.Core.Bool.{Bool}
+use mathlib.Core.List.{List, _∷_}
 use Prim.Native.Nat.{ℕ}
 use lib.IntN.{ℤ}
 use mir.Syntax.{w64}
 use mir.Val.{SFits, toZ, ofZ}
+use Rattle.spelling.specs.declared.Told.{Told}
+use Rattle.spelling.specs.Spelling.{part-at, part-entries, told-entries}
 use Rattle.grammar.specs.Complaint.{Complaint}
 use Rattle.checker.specs.Promises.{Checks}
 use Rattle.stepper.specs.Report as report
 use Rattle.stepper.specs.Report.{Counting}
 use Rattle.services.specs.Calls.{flat-names, Memory, lent}
 use Rattle.iteration.specs.declared.Report.{Report}
-use Rattle.iteration.specs.Stepwise.{told}
 use Rattle.runner.specs.Sourcewise.{RunLeaves}
 use Rattle.runner.proofs.RunLaws.{left-report, read-times}
 use Rattle.entries.specs.Over.{over}
@@ -19,25 +21,26 @@ use Rattle.cellang.specs.Told.{reply-entries, TellsCheck, report-entries
 
 -- ---- a check
 
-pub tells-check : {source ws ns reply : List ℕ} {number place : ℕ} {ws′ ns′ reply′ : List ℕ} → Checks source ws ns number place ws′ ns′ → reply′ ≡ over (number ∷ place ∷ []) reply
-    → TellsCheck source ws ns reply number ws′ ns′ reply′
-tells-check {source} {ws} {ns} {reply} {number} {place} {ws′} {ns′} h e =
+pub tells-check : {fit : Bool} {source ws ns reply : List ℕ} {number place : ℕ} {ws′ ns′ reply′ : List ℕ} {t : Told} → Checks fit source ws ns number place ws′ ns′
+    → told-entries t ≡ part-entries (part-at source number place) → reply′ ≡ over (number ∷ place ∷ told-entries t) reply → TellsCheck fit source ws ns reply number ws′ ns′ reply′
+tells-check {fit} {source} {ws} {ns} {reply} {number} {place} {ws′} {ns′} h p e =
     record {
       number = ap (λ (c : Complaint). c .number) (h .reply);
-      entries = e ∙ ap (λ (c : Complaint). over (reply-entries c) reply) (h .reply);
-      checks = subst (λ (p : ℕ). Checks source ws ns number p ws′ ns′) (ap (λ (c : Complaint). c .place) (h .reply)) h;
+      entries = e ∙ ap (λ (l : List ℕ). over (number ∷ place ∷ l) reply) p ∙ ap (λ (c : Complaint). over (reply-entries source c) reply) (h .reply);
+      checks = subst (λ (p : ℕ). Checks fit source ws ns number p ws′ ns′) (ap (λ (c : Complaint). c .place) (h .reply)) h;
     }
 
 -- ---- a run
 
 -- the times as the machine reads them
-pub tells-run : {counting : Counting} {source sizes : List ℕ} {m m′ : Memory ℕ} {start steps : ℤ} {entries entries′ : List ℕ} {said : Report} → SFits w64 start → SFits w64 steps
-    → RunLeaves flat-names counting (lent source sizes m (toZ w64 (ofZ w64 start)) (toZ w64 (ofZ w64 steps))) said m′ → entries′ ≡ over (report-entries (told said (m′ .grid))) entries
-    → TellsRun counting (lent source sizes m start steps) entries (said .number) m′ entries′
-tells-run {counting} {source} {sizes} {m} {m′} {start} {steps} {entries} a b h e =
+pub tells-run : {counting : Counting} {source list sizes : List ℕ} {m m′ : Memory ℕ} {start steps : ℤ} {entries entries′ : List ℕ} {said : Report} {t : Told} → SFits w64 start → SFits w64 steps
+    → RunLeaves flat-names counting (lent source list sizes m (toZ w64 (ofZ w64 start)) (toZ w64 (ofZ w64 steps))) said m′ → told-entries t ≡ part-entries (part-at source (said .number) (said .place))
+    → entries′ ≡ over (said .number ∷ said .place ∷ said .cell ∷ said .steps ∷ said .count ∷ told-entries t) entries → TellsRun counting (lent source list sizes m start steps) entries (said .number) m′ entries′
+tells-run {counting} {source} {list} {sizes} {m} {m′} {start} {steps} {entries} {entries′} {said} a b h p e =
     let k = read-times a b h in
     record {
       number = ap (λ (x : report.Report). x .number) (left-report k);
-      told = e ∙ ap (λ (x : report.Report). over (report-entries x) entries) (left-report k);
+      told = e ∙ ap (λ (l : List ℕ). over (said .number ∷ said .place ∷ said .cell ∷ said .steps ∷ said .count ∷ l) entries) p
+          ∙ ap (λ (x : report.Report). over (report-entries source x) entries) (left-report k);
       memory = ap (λ x. x .memory) (k .is);
     }

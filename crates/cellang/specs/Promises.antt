@@ -1,5 +1,6 @@
 -- What the calls over a row of records promise.
 use mathlib.Core.Path.{_≡_}
+use mathlib.Core.Bool.{Bool}
 use mathlib.Core.List.{List, _++_}
 use Prim.Native.Nat.{ℕ, _≤_}
 use lib.ListN.{length, take, drop}
@@ -13,22 +14,22 @@ use Rattle.runner.specs.Sourcewise.{RunLeaves}
 use Rattle.records.specs.declared.Name.{Name}
 use Rattle.cellang.specs.declared.checking.Answer.{Answer}
 use Rattle.cellang.specs.declared.running.RunAnswer.{RunAnswer}
-use Rattle.cellang.specs.Left.{rows-fit, row-names}
+use Rattle.cellang.specs.Left.{row-names}
 
 -- ---- a check
 
--- the reply, and the words of the table and the row of records that a check leaves
-pub record ChecksRows (source ws : List ℕ) (ns : List Name) (r : Reply) (ws′ : List ℕ) (ns′ : List Name) : Type 0 where
-  pub reply : complaint (r .number) (r .place) ≡ check (rows-fit (length ws) (length ns)) source
-  pub words : ws′ ≡ words-after (rows-fit (length ws) (length ns)) source ws
-  pub names : ns′ ≡ names-left row-names (rows-fit (length ws) (length ns)) source ns
+-- the reply, and the words of the table and the row of records that a check leaves; `fit` says whether what is lent beside the source fits
+pub record ChecksRows (fit : Bool) (source ws : List ℕ) (ns : List Name) (r : Reply) (ws′ : List ℕ) (ns′ : List Name) : Type 0 where
+  pub reply : complaint (r .number) (r .place) ≡ check fit source
+  pub words : ws′ ≡ words-after fit source ws
+  pub names : ns′ ≡ names-left row-names fit source ns
 
 -- the same, where the records are given and not yet stored
-pub record ChecksOver (source ws : List ℕ) (names : ℕ) (r : Answer) (ws′ : List ℕ) : Type 0 where
-  pub reply : complaint (r .reply .number) (r .reply .place) ≡ check (rows-fit (length ws) names) source
-  pub words : ws′ ≡ words-after (rows-fit (length ws) names) source ws
+pub record ChecksOver (fit : Bool) (source ws : List ℕ) (names : ℕ) (r : Answer) (ws′ : List ℕ) : Type 0 where
+  pub reply : complaint (r .reply .number) (r .reply .place) ≡ check fit source
+  pub words : ws′ ≡ words-after fit source ws
   pub few : (r .count ≤ most-names) × (r .count ≤ names)
-  pub stores : (ns : List Name) → length ns ≡ names → take (r .count) (r .rows) ++ drop (r .count) ns ≡ names-left row-names (rows-fit (length ws) names) source ns
+  pub stores : (ns : List Name) → length ns ≡ names → take (r .count) (r .rows) ++ drop (r .count) ns ≡ names-left row-names fit source ns
 
 -- ---- a run
 

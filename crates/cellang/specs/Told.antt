@@ -1,10 +1,11 @@
 -- What the calls tell: the number that is given back, every entry of the slice for a call's numbers, and the rest of the memory that is lent.
 use mathlib.Core.Path.{_≡_}
-use mathlib.Core.List.{List, [], _∷_}
+use mathlib.Core.Bool.{Bool}
+use mathlib.Core.List.{List, _∷_}
 use Prim.Native.Nat.{ℕ}
-use lib.ListN.{length}
+use Rattle.spelling.specs.Spelling.{part-at, part-entries}
 use Rattle.grammar.specs.Complaint.{Complaint}
-use Rattle.grammar.specs.Checking.{rooms-fit, check}
+use Rattle.grammar.specs.Checking.{check}
 use Rattle.stepper.specs.Report.{Counting, Report}
 use Rattle.services.specs.Calls.{flat-names, Memory, Lent, run-report, run-left}
 use Rattle.checker.specs.Promises.{Checks}
@@ -12,23 +13,23 @@ use Rattle.entries.specs.Over.{over}
 
 -- ---- a check
 
--- the entries that tell a reply
-abbrev pub reply-entries : Complaint → List ℕ
-reply-entries c = c .number ∷ c .place ∷ []
+-- the entries that tell a reply: its number and place, and where its spelling stands
+abbrev pub reply-entries : List ℕ → Complaint → List ℕ
+reply-entries source c = c .number ∷ c .place ∷ part-entries (part-at source (c .number) (c .place))
 
-pub record TellsCheck (source ws ns reply : List ℕ) (r : ℕ) (ws′ ns′ reply′ : List ℕ) : Type 0 where
-  pub number : r ≡ check (rooms-fit (length ws) (length ns)) source .number
-  pub entries : reply′ ≡ over (reply-entries (check (rooms-fit (length ws) (length ns)) source)) reply
-  pub checks : Checks source ws ns r (check (rooms-fit (length ws) (length ns)) source .place) ws′ ns′
+pub record TellsCheck (fit : Bool) (source ws ns reply : List ℕ) (r : ℕ) (ws′ ns′ reply′ : List ℕ) : Type 0 where
+  pub number : r ≡ check fit source .number
+  pub entries : reply′ ≡ over (reply-entries source (check fit source)) reply
+  pub checks : Checks fit source ws ns r (check fit source .place) ws′ ns′
 
 -- ---- a run
 
--- the entries that tell a run's numbers
-abbrev pub report-entries : Report → List ℕ
-report-entries said = said .number ∷ said .place ∷ said .cell ∷ said .steps ∷ said .count ∷ []
+-- the entries that tell a run's numbers, and where its reply's spelling stands
+abbrev pub report-entries : List ℕ → Report → List ℕ
+report-entries source said = said .number ∷ said .place ∷ said .cell ∷ said .steps ∷ said .count ∷ part-entries (part-at source (said .number) (said .place))
 
 -- the number that is given back, the entries that are told, and the rest of the memory
 pub record TellsRun (counting : Counting) (l : Lent ℕ) (entries : List ℕ) (r : ℕ) (m : Memory ℕ) (entries′ : List ℕ) : Type 0 where
   pub number : r ≡ run-report flat-names counting l .number
-  pub told : entries′ ≡ over (report-entries (run-report flat-names counting l)) entries
+  pub told : entries′ ≡ over (report-entries (l .source) (run-report flat-names counting l)) entries
   pub memory : m ≡ run-left flat-names counting l .memory

@@ -1,6 +1,17 @@
 // The row of records after reading.
 ghost use mathlib.Core.Path.{_≡_};
-ghost use Rattle.cellang.specs.Left.{stored-of};
+ghost use Rattle.cellang.specs.Left.{row-fits, stored-of};
+use spelling::is_built_in;
+
+// Whether the built-in list is lent, and a row of 256 records. `names` is the length of the row.
+pub fn row_fits(list: &[u8], names: usize) -> bool
+    ensures { λ r. ⌜ r ≡ row-fits (now (list .entry)) names ⌝ }
+{
+    if !is_built_in(list) {
+        return false;
+    }
+    names == 256
+}
 
 // How many records reading a source stores, where there is room for 256: none if it is turned away. `source` and `words` are the lengths of these.
 pub fn stored(source: usize, words: usize) -> usize

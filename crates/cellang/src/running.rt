@@ -9,6 +9,7 @@ ghost use Rattle.runner.specs.Property3.{Agree};
 ghost use Rattle.records.specs.declared.Name.{Name};
 ghost use Rattle.cellang.specs.Left.{row-names};
 ghost use Rattle.cellang.specs.Promises.{TurnedAway, RunsOver};
+use crate::rows::row_fits;
 use crate::rows::stored;
 use iteration::Report;
 use records::Name;
@@ -22,7 +23,7 @@ pub struct RunAnswer {
     pub count: usize,
 }
 
-// A run that is turned away: there is no room for 256 records.
+// A run that is turned away.
 fn turned_away() -> RunAnswer
     ensures { λ r. ⌜ TurnedAway r ⌝ }
 {
@@ -45,6 +46,7 @@ fn turned_away() -> RunAnswer
 // Runs a source, where `names` is the length of the row of records.
 fn ran(
     source: &[u8],
+    list: &[u8],
     words: &mut [u32],
     names: usize,
     sizes: &[u32],
@@ -55,15 +57,16 @@ fn ran(
     steps: i64,
     quiet: bool,
 ) -> RunAnswer
-    ensures { λ r. ⌜ RunsOver (counting-of quiet) names (λ (ns : List Name). (lent (now (source .entry)) (now (sizes .entry)) (memory (now (words .entry)) ns (now (grid .entry)) (now (scratch .entry)) (now (marks .entry))) start steps)) r (λ (ns : List Name). (memory (now (words .exit)) ns (now (grid .exit)) (now (scratch .exit)) (now (marks .exit)))) ⌝ }
+    ensures { λ r. ⌜ RunsOver (counting-of quiet) names (λ (ns : List Name). (lent (now (source .entry)) (now (list .entry)) (now (sizes .entry)) (memory (now (words .entry)) ns (now (grid .entry)) (now (scratch .entry)) (now (marks .entry))) start steps)) r (λ (ns : List Name). (memory (now (words .exit)) ns (now (grid .exit)) (now (scratch .exit)) (now (marks .exit)))) ⌝ }
 {
-    if names != 256 {
+    if !row_fits(list, names) {
         return turned_away();
     }
     let mut flat = [0u32; 1024];
     let count = stored(source.len(), words.len());
     let report = runner::run(
         source,
+        list,
         words,
         &mut flat,
         sizes,
@@ -86,6 +89,7 @@ fn ran(
 // it: the answer and the grid are the same, and the count is of the open cells.
 pub fn run(
     source: &[u8],
+    list: &[u8],
     words: &mut [u32],
     names: &mut [Name],
     sizes: &[u32],
@@ -96,10 +100,11 @@ pub fn run(
     steps: i64,
     quiet: bool,
 ) -> Report
-    ensures { λ r. ⌜ (RunLeaves row-names (counting-of quiet) (lent (now (source .entry)) (now (sizes .entry)) (memory (now (words .entry)) (now (names .entry)) (now (grid .entry)) (now (scratch .entry)) (now (marks .entry))) start steps) r (memory (now (words .exit)) (now (names .exit)) (now (grid .exit)) (now (scratch .exit)) (now (marks .exit)))) × (Agree (told r (now (grid .exit))) (run-report row-names full (lent (now (source .entry)) (now (sizes .entry)) (memory (now (words .entry)) (now (names .entry)) (now (grid .entry)) (now (scratch .entry)) (now (marks .entry))) start steps))) × (RangesKept (read-lent row-names (lent (now (source .entry)) (now (sizes .entry)) (memory (now (words .entry)) (now (names .entry)) (now (grid .entry)) (now (scratch .entry)) (now (marks .entry))) start steps)) (asked (lent (now (source .entry)) (now (sizes .entry)) (memory (now (words .entry)) (now (names .entry)) (now (grid .entry)) (now (scratch .entry)) (now (marks .entry))) start steps)) (now (grid .exit))) ⌝ }
+    ensures { λ r. ⌜ (RunLeaves row-names (counting-of quiet) (lent (now (source .entry)) (now (list .entry)) (now (sizes .entry)) (memory (now (words .entry)) (now (names .entry)) (now (grid .entry)) (now (scratch .entry)) (now (marks .entry))) start steps) r (memory (now (words .exit)) (now (names .exit)) (now (grid .exit)) (now (scratch .exit)) (now (marks .exit)))) × (Agree (told r (now (grid .exit))) (run-report row-names full (lent (now (source .entry)) (now (list .entry)) (now (sizes .entry)) (memory (now (words .entry)) (now (names .entry)) (now (grid .entry)) (now (scratch .entry)) (now (marks .entry))) start steps))) × (RangesKept (read-lent row-names (lent (now (source .entry)) (now (list .entry)) (now (sizes .entry)) (memory (now (words .entry)) (now (names .entry)) (now (grid .entry)) (now (scratch .entry)) (now (marks .entry))) start steps)) (asked (lent (now (source .entry)) (now (list .entry)) (now (sizes .entry)) (memory (now (words .entry)) (now (names .entry)) (now (grid .entry)) (now (scratch .entry)) (now (marks .entry))) start steps)) (now (grid .exit))) ⌝ }
 {
     let c = ran(
         source,
+        list,
         words,
         names.len(),
         sizes,

@@ -8,7 +8,8 @@ fn main() {
     let n = io::read_full(STDIN_FILENO, &mut source);
     let mut words = [0u32; 16384];
     let mut names = [0u32; 1024];
-    let reply = checker::check(&source[..n], &mut words, &mut names);
+    let list = spelling::BUILT_IN;
+    let reply = checker::check(&source[..n], &list, &mut words, &mut names);
     let mut line = [0u8; 33];
     let end = reply_line::write_line(reply.number, reply.place, &mut line);
     let written = io::count(end as isize, &line);

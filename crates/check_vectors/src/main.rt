@@ -1,5 +1,6 @@
-// Checks one source after another, and writes a line for each. On standard input each source stands behind its length, in four bytes, the
-// lowest first.
+// Checks one source after another, and writes a line for each: `accepted`, or for example `refused 8 at 26 1 26 1`, where behind number and place
+// stand the numbers of the spelling: where it stands, its first byte and its length. On standard input each source stands behind its length, in four
+// bytes, the lowest first.
 ghost use Prim.Native.Nat.{_≤_};
 ghost use Rattle.io.specs.Counts.{Counts};
 use libc::STDIN_FILENO;
@@ -41,9 +42,18 @@ fn answer(length: u32) -> bool {
     }
     let mut words = [0u32; 16384];
     let mut names = [0u32; 1024];
-    let reply = checker::check(&source[..n], &mut words, &mut names);
-    let mut line = [0u8; 33];
-    let end = reply_line::write_line(reply.number, reply.place, &mut line);
+    let list = spelling::BUILT_IN;
+    let reply = checker::check(&source[..n], &list, &mut words, &mut names);
+    let part = spelling::told_part(&source[..n], reply.number, reply.place);
+    let mut line = [0u8; 66];
+    let end = reply_line::write_spelled(
+        reply.number,
+        reply.place,
+        part.stands,
+        part.start,
+        part.len,
+        &mut line,
+    );
     let written = io::count(end as isize, &line);
     io::write_all(STDOUT_FILENO, &line[..written])
 }

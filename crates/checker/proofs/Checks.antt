@@ -2,16 +2,17 @@
 use Prim.Native.Nat.{ℕ, _≤_, _<_}
 use mathlib.Core.Path.{_≡_, refl, sym, ap, subst, _∙_}
 use mathlib.Core.List.{List}
-use mathlib.Core.Bool.{true, false}
+use mathlib.Core.Bool.{Bool, true, false, not, _&&_}
 use lib.ListN.{length, replicate}
-use borrow.Author.Tests.{eq-eqb, ne-eqb, lt-ltb, le-ltb}
+use borrow.Author.Tests.{eq-eqb, ne-eqb, lt-ltb, le-ltb, not-true, not-false}
 use Rattle.value.specs.Laws.{never}
 use Rattle.token.specs.declared.Scan.{Scan}
 use Rattle.token.specs.Kind.{kind}
+use Rattle.token.specs.Lexeme.{is-built-in}
 use Rattle.token.specs.Promises.{Scans}
 use Rattle.grammar.specs.Reader.{ok, fail}
 use Rattle.grammar.specs.Source.{Accepted, has-kind, sized, read-program, what-is-read, parse}
-use Rattle.grammar.specs.Checking.{outcome-of, rooms-fit, read-source, check, words-after, names-after}
+use Rattle.grammar.specs.Checking.{outcome-of, rooms-fit, lent-fit, read-source, check, words-after, names-after}
 use Rattle.reader.specs.Reading.{input, state, Told}
 use Rattle.reader.specs.declared.Reading.{Reading}
 use Rattle.reader.specs.declared.Read.{Read}
@@ -40,10 +41,10 @@ module _ (ws ns : List ℕ) where
 
 -- what loading a source gives
 abbrev Answers : (source ws ns : List ℕ) → Loaded → (ws′ ns′ : List ℕ) → Type 0
-Answers source ws ns u ws′ ns′ = Checks source ws ns (u .number) (u .place) ws′ ns′ × Loads source ws ns (u .accepted) (u .outline)
+Answers source ws ns u ws′ ns′ = Checks (rooms-fit (length ws) (length ns)) source ws ns (u .number) (u .place) ws′ ns′ × Loads source ws ns (u .accepted) (u .outline)
 
 -- a source that is not accepted
-unaccepted : {source ws ns ws′ ns′ : List ℕ} {k p : ℕ} {u : Loaded} → Checks source ws ns k p ws′ ns′
+unaccepted : {source ws ns ws′ ns′ : List ℕ} {k p : ℕ} {u : Loaded} → Checks (rooms-fit (length ws) (length ns)) source ws ns k p ws′ ns′
     → false ≡ is-accepted (read-source (rooms-fit (length ws) (length ns)) source) → Unloaded k p u → Answers source ws ns u ws′ ns′
 unaccepted x e y = (
   rw (y .number, y .place) x,
@@ -87,11 +88,11 @@ module _ (source ws ns : List ℕ) (e : length ws ≡ 16384) (f : length ns ≡ 
   unfolding read-source
   reads = simp (both-right ws ns e f, le-ltb _ _ l)
 
-  refuses : (k p : ℕ) → parse source ≡ fail k p → Checks source ws ns k p (replicate (length ws) 0) (replicate (length ns) 0)
+  refuses : (k p : ℕ) → parse source ≡ fail k p → Checks (rooms-fit (length ws) (length ns)) source ws ns k p (replicate (length ws) 0) (replicate (length ns) 0)
   unfolding check words-after names-after
   refuses k p q = record { reply = simp (reads, q); words = simp (reads, q); names = simp (reads, q) }
 
-  accepts : (a : Accepted) → parse source ≡ ok a → Checks source ws ns 0 0 (a .words) (a .names)
+  accepts : (a : Accepted) → parse source ≡ ok a → Checks (rooms-fit (length ws) (length ns)) source ws ns 0 0 (a .words) (a .names)
   unfolding check words-after names-after
   accepts a q = record { reply = simp (reads, q); words = simp (reads, q); names = simp (reads, q) }
 
@@ -112,13 +113,13 @@ module _ (source ws ns : List ℕ) (e : length ws ≡ 16384) (f : length ns ≡ 
     pub accepted-with : {t : Reading} {ns′ : List ℕ} → p .read ≡ Next t → ns′ ≡ sized ws₂ ns₂ (t .count)
         → (o : Outline) → o .tokens ≡ sc .count → o .base ≡ p .base → o .body ≡ p .body → o .dims ≡ p .dims → o .fields ≡ p .fields → o .slots ≡ t .count
         → o .timed ≡ has-kind (kind .time) ws₂ (sc .count)
-        → Checks source ws ns 0 0 ws₂ ns′ × Loads source ws ns true o
+        → Checks (rooms-fit (length ws) (length ns)) source ws ns 0 0 ws₂ ns′ × Loads source ws ns true o
     accepted-with {t} {ns′} q d o tokens base body dims fields slots timed =
         let y = went-on (g .gives) q .is in
         let a = y .0 in
         let w = y .1 in
         let h : parse source ≡ ok a = parsed ∙ ap what-is-read (y .2) in (
-          subst (λ (l : List ℕ). Checks source ws ns 0 0 l ns′) (w .words) (subst (λ (l : List ℕ). Checks source ws ns 0 0 (a .words) l) (w .names ∙ sym d) (accepts a h)),
+          subst (λ (l : List ℕ). Checks (rooms-fit (length ws) (length ns)) source ws ns 0 0 l ns′) (w .words) (subst (λ (l : List ℕ). Checks (rooms-fit (length ws) (length ns)) source ws ns 0 0 (a .words) l) (w .names ∙ sym d) (accepts a h)),
           record {
             is = simp (reads, h);
             given = λ _. outlined x z (g .follows t q) o tokens base body dims fields slots timed;
@@ -129,3 +130,27 @@ module _ (source ws ns : List ℕ) (e : length ws ≡ 16384) (f : length ns ≡ 
             none = λ k. never (sym k);
           },
         )
+
+-- ---- the built-in list
+
+module _ (list : List ℕ) (words names : ℕ) where
+  pub list-right : is-built-in list ≡ true → lent-fit list words names ≡ rooms-fit words names
+  unfolding lent-fit
+  list-right e = ap (λ (t : Bool). t && rooms-fit words names) e
+
+  list-wrong : is-built-in list ≡ false → lent-fit list words names ≡ false
+  unfolding lent-fit
+  list-wrong e = ap (λ (t : Bool). t && rooms-fit words names) e
+
+-- where what is lent does not fit, nothing is read
+pub turned-check : (source ws ns : List ℕ) → Checks false source ws ns 1 0 ws ns
+unfolding check words-after names-after read-source
+turned-check source ws ns = record { reply = refl; words = refl; names = refl }
+
+module _ (list : List ℕ) {source ws ns : List ℕ} {t : Bool} (is : t ≡ is-built-in list) where
+  pub unlisted : not t ≡ true → Checks (lent-fit list (length ws) (length ns)) source ws ns 1 0 ws ns
+  unlisted e = subst (λ (fit : Bool). Checks fit source ws ns 1 0 ws ns) (sym (list-wrong list (length ws) (length ns) (sym is ∙ not-true t e))) (turned-check source ws ns)
+
+  pub listed : {number place : ℕ} {ws′ ns′ : List ℕ} → not t ≡ false → Checks (rooms-fit (length ws) (length ns)) source ws ns number place ws′ ns′
+      → Checks (lent-fit list (length ws) (length ns)) source ws ns number place ws′ ns′
+  listed {number} {place} {ws′} {ns′} e = subst (λ (fit : Bool). Checks fit source ws ns number place ws′ ns′) (sym (list-right list (length ws) (length ns) (sym is ∙ not-false t e)))

@@ -89,11 +89,11 @@ pub record Programs (source : List ℕ) (scan : Scan) (ns ws : List ℕ) (p : Pr
 
 -- ---- the core call
 
--- what a check gives: the reply, and the words of the table and the name list that it leaves
-pub record Checks (source ws ns : List ℕ) (number place : ℕ) (ws′ ns′ : List ℕ) : Type 0 where
-  pub reply : complaint number place ≡ check (rooms-fit (length ws) (length ns)) source
-  pub words : ws′ ≡ words-after (rooms-fit (length ws) (length ns)) source ws
-  pub names : ns′ ≡ names-after (rooms-fit (length ws) (length ns)) source ns
+-- what a check gives: the reply, and the words of the table and the name list that it leaves; `fit` says whether what is lent beside the source fits
+pub record Checks (fit : Bool) (source ws ns : List ℕ) (number place : ℕ) (ws′ ns′ : List ℕ) : Type 0 where
+  pub reply : complaint number place ≡ check fit source
+  pub words : ws′ ≡ words-after fit source ws
+  pub names : ns′ ≡ names-after fit source ns
 
 -- the states that reading an accepted source passes
 abbrev pub Trace : List ℕ → Type 0

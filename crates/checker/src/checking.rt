@@ -4,7 +4,7 @@ ghost use Prim.Native.Nat.{_≤_};
 ghost use lib.ListN.{length};
 ghost use Rattle.token.specs.Scanning.{most-tokens, table-words};
 ghost use Rattle.names.specs.Names.{name-words};
-ghost use Rattle.grammar.specs.Checking.{most-bytes};
+ghost use Rattle.grammar.specs.Checking.{most-bytes, rooms-fit, lent-fit};
 ghost use Rattle.checker.specs.Promises.{Ends, Programs, Checks, Unloaded, Loads};
 use crate::has_kind;
 use crate::size_arrays;
@@ -15,6 +15,7 @@ use program::token_at;
 use reader::Read;
 use reader::Reading;
 use reader::refuse;
+use spelling::is_built_in;
 use statements::read_block;
 use token::Scan;
 use token::kind;
@@ -152,7 +153,7 @@ fn unloaded(number: u32, place: u32) -> Loaded
 // Reads a source of allowed length into rooms that fit.
 fn load_into(source: &[u8], words: &mut [u32], names: &mut [u32]) -> Loaded
     requires { ⌜ (length (now words) ≡ table-words) × (length (now names) ≡ name-words) × (length (now source) ≤ most-bytes) ⌝ }
-    ensures { λ r. ⌜ Checks (now (source .entry)) (now (words .entry)) (now (names .entry)) (r .number) (r .place) (now (words .exit)) (now (names .exit)) ⌝ }
+    ensures { λ r. ⌜ Checks (rooms-fit (length (now (words .entry))) (length (now (names .entry)))) (now (source .entry)) (now (words .entry)) (now (names .entry)) (r .number) (r .place) (now (words .exit)) (now (names .exit)) ⌝ }
     ensures { λ r. ⌜ Loads (now (source .entry)) (now (words .entry)) (now (names .entry)) (r .accepted) (r .outline) ⌝ }
 {
     let scan = scan_source(source, words);
@@ -189,7 +190,7 @@ fn load_into(source: &[u8], words: &mut [u32], names: &mut [u32]) -> Loaded
 // Reads a source for a run: whether it is accepted, else the number and place of the reply that refuses it. An accepted source leaves its
 // program in the table and its names in the list.
 pub fn load(source: &[u8], words: &mut [u32], names: &mut [u32]) -> Loaded
-    ensures { λ r. ⌜ Checks (now (source .entry)) (now (words .entry)) (now (names .entry)) (r .number) (r .place) (now (words .exit)) (now (names .exit)) ⌝ }
+    ensures { λ r. ⌜ Checks (rooms-fit (length (now (words .entry))) (length (now (names .entry)))) (now (source .entry)) (now (words .entry)) (now (names .entry)) (r .number) (r .place) (now (words .exit)) (now (names .exit)) ⌝ }
     ensures { λ r. ⌜ Loads (now (source .entry)) (now (words .entry)) (now (names .entry)) (r .accepted) (r .outline) ⌝ }
 {
     if words.len() != 16384 {
@@ -204,10 +205,16 @@ pub fn load(source: &[u8], words: &mut [u32], names: &mut [u32]) -> Loaded
     load_into(source, words, names)
 }
 
-// Checks a source: the number and place of the reply. The table and the list are left as reading leaves them.
-pub fn check(source: &[u8], words: &mut [u32], names: &mut [u32]) -> Reply
-    ensures { λ r. ⌜ Checks (now (source .entry)) (now (words .entry)) (now (names .entry)) (r .number) (r .place) (now (words .exit)) (now (names .exit)) ⌝ }
+// Checks a source: the number and place of the reply. The table and the list of names are left as reading leaves them.
+pub fn check(source: &[u8], list: &[u8], words: &mut [u32], names: &mut [u32]) -> Reply
+    ensures { λ r. ⌜ Checks (lent-fit (now (list .entry)) (length (now (words .entry))) (length (now (names .entry)))) (now (source .entry)) (now (words .entry)) (now (names .entry)) (r .number) (r .place) (now (words .exit)) (now (names .exit)) ⌝ }
 {
+    if !is_built_in(list) {
+        return Reply {
+            number: 1,
+            place: 0,
+        };
+    }
     let l = load(source, words, names);
     Reply {
         number: l.number,

@@ -2,6 +2,7 @@
 
 pub mod arguments;
 pub mod grids;
+pub mod lines;
 pub mod numbers;
 pub mod places;
 pub mod replies;

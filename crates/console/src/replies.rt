@@ -4,7 +4,7 @@ use crate::texts::say;
 // What a refusal of a source means.
 fn say_source(number: u32) {
     match number {
-        1 => say(b"the word table or the name list has the wrong length"),
+        1 => say(b"the word table, the name list or the built-in list is wrong"),
         2 => say(b"the rule is longer than 65535 bytes"),
         3 => say(b"no token can be read"),
         4 => say(b"a literal over 2147483647"),
@@ -13,11 +13,16 @@ fn say_source(number: u32) {
         7 => say(b"a token that the grammar does not allow here"),
         8 => say(b"a name that is unknown, or of the wrong sort for a constant or an index"),
         9 => say(b"a name that is already used, or that cannot be assigned to"),
-        10 => say(b"wrong dimensions, range, number of fields, array size or number of values"),
         12 => say(b"wrong use of a field, an array constant or a relative index"),
         13 => say(b"a relation on a bare relation"),
         14 => say(b"more than 16 open if, forall, ( and [ together"),
         15 => say(b"more than 256 names"),
+        40 => say(b"the number of dimensions is not 1 to 3"),
+        41 => say(b"a range whose upper bound is below its lower one"),
+        42 => say(b"a loop over more than 4096 values"),
+        43 => say(b"more than 8 fields"),
+        44 => say(b"an array's size that is not 1 to 1024"),
+        45 => say(b"an array constant with too many or too few values"),
         _ => say(b"a reply without a meaning"),
     }
 }
@@ -53,7 +58,9 @@ pub fn say_meaning(number: u32) {
         say_source(number);
     } else if number < 30 {
         say_run(number);
-    } else {
+    } else if number < 40 {
         say_fault(number);
+    } else {
+        say_source(number);
     }
 }

@@ -2,15 +2,14 @@
 use Prim.Native.Nat.{ℕ, _-_, _≤_, _<_}
 use native.Mathlib.Omega.{arith}
 use mathlib.Core.Path.{_≡_, refl, sym, ap, _∙_}
-use mathlib.Core.Bool.{Bool, true, false, cond}
-use lib.Dec.{leb}
+use mathlib.Core.Bool.{Bool}
 use lib.IntN.{ℤ, pos}
-use borrow.Author.Tests.{lt-ltb, le-ltb}
+use borrow.Author.Tests.{ne-eqb, le-leb, lt-leb}
 use Rattle.value.specs.Number.{within}
 use Rattle.value.specs.Worked.{value, encode-of, decode-of, span-of}
 use Rattle.value.specs.Laws.{encode-decode}
 use Rattle.value.specs.declared.Value.{Value}
-use Rattle.constants.specs.Fitting.{fits-of}
+use Rattle.grammar.specs.Constants.{range-rule}
 
 -- ---- words and sizes
 
@@ -30,8 +29,14 @@ module _ (low high most : ℕ) {v u : Value} {span : ℕ} (p : v ≡ value (deco
   same-span : span ≡ span-of (decode-of low) (decode-of high)
   same-span = e ∙ ap (λ (x : Value). span-of (x .n) (u .n)) p ∙ ap (λ (x : Value). span-of (decode-of low) (x .n)) q
 
-  pub fits-some : 0 < span → leb span most ≡ fits-of low high most
-  fits-some h = rw (← same-span, lt-ltb 0 span h)
+  pub rule-reversed : span ≡ 0 → 41 ≡ range-rule most (decode-of low) (decode-of high)
+  unfolding range-rule
+  rule-reversed h = rw (← same-span, h)
 
-  pub fits-none : span ≤ 0 → false ≡ fits-of low high most
-  fits-none h = rw (← same-span, le-ltb 0 span h)
+  pub rule-none : (span ≡ 0 → ⊥) → span ≤ most → 0 ≡ range-rule most (decode-of low) (decode-of high)
+  unfolding range-rule
+  rule-none h l = rw (← same-span, ne-eqb span 0 h, le-leb span most l)
+
+  pub rule-long : (span ≡ 0 → ⊥) → most < span → 42 ≡ range-rule most (decode-of low) (decode-of high)
+  unfolding range-rule
+  rule-long h l = rw (← same-span, ne-eqb span 0 h, lt-leb span most l)

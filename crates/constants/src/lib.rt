@@ -4,9 +4,9 @@ ghost use Prim.Native.Nat.{_<_, _≤_};
 ghost use lib.ListN.{length};
 ghost use Rattle.token.specs.Scanning.{most-tokens, table-words};
 ghost use Rattle.names.specs.Names.{most-names};
-ghost use Rattle.grammar.specs.Constants.{read-constant, read-signed, read-range, read-values, read-size, array-head, array-constant, simple-constant, constant-value, read-declaration, read-constants};
+ghost use Rattle.grammar.specs.Constants.{read-constant, read-signed, range-rule, read-range, read-values, read-size, array-head, array-constant, simple-constant, constant-value, read-declaration, read-constants};
 ghost use Rattle.reader.specs.Reading.{anything, number, bounds, Ready, Reads, Stays};
-ghost use Rattle.constants.specs.Fitting.{fits-of};
+ghost use Rattle.value.specs.Worked.{decode-of};
 use names::Found;
 use names::entry_in;
 use names::find_name;
@@ -80,16 +80,19 @@ pub fn read_signed(source: &[u8], names: &[u32], words: &mut [u32], scan: Scan, 
     read_constant(source, names, words, scan, s)
 }
 
-// Whether a range has one value at least and at most so many.
-fn fits(low: u32, high: u32, most: u64) -> bool
-    ensures { λ r. ⌜ r ≡ fits-of low high most ⌝ }
+// The rule that a range of at most so many values breaks, by the words of its bounds; 0: none.
+fn range_rule(low: u32, high: u32, most: u64) -> u32
+    ensures { λ r. ⌜ r ≡ range-rule most (decode-of low) (decode-of high) ⌝ }
 {
     let v = Value::decode(low);
     let span = v.span(Value::decode(high));
-    if 0 < span {
-        return span <= most;
+    if span == 0 {
+        return 41;
     }
-    false
+    if span <= most {
+        return 0;
+    }
+    42
 }
 
 // low..high, of at most so many values.
@@ -116,10 +119,11 @@ pub fn read_range(
     let Read::Next(high) = p else {
         return p;
     };
-    if fits(low.word, high.word, most) {
+    let n = range_rule(low.word, high.word, most);
+    if n == 0 {
         return Read::Next(carrying(high, high.word, low.word));
     }
-    refuse(words, scan, high, high.at - 1, 10)
+    refuse(words, scan, high, high.at - 1, n)
 }
 
 // ---- constant declarations
@@ -152,17 +156,17 @@ fn read_values(
             if most <= next {
                 return Read::Next(a);
             }
-            return Read::Next(noting(words, scan, a, 10));
+            return Read::Next(noting(words, scan, a, 45));
         }
         if most <= next {
-            return refuse(words, scan, a, a.at, 10);
+            return refuse(words, scan, a, a.at, 45);
         }
         here = moved(a);
         k = next;
     }
 }
 
-// The size of an array constant, else refused 10.
+// The size of an array constant, else refused 44.
 fn read_size(source: &[u8], names: &[u32], words: &mut [u32], scan: Scan, s: Reading) -> Read
     requires { ⌜ Ready scan (length (now names)) (length (now words)) s ⌝ }
     ensures { λ r. ⌜ Reads number read-size (now (source .entry)) scan (s .count) s (now (names .entry)) (now (words .entry)) r (now (names .entry)) (now (words .exit)) ⌝ }
@@ -175,7 +179,7 @@ fn read_size(source: &[u8], names: &[u32], words: &mut [u32], scan: Scan, s: Rea
     if v.within(Value { n: 1 }, Value { n: 1024 }) {
         return Read::Next(a);
     }
-    refuse(words, scan, a, a.at - 1, 10)
+    refuse(words, scan, a, a.at - 1, 44)
 }
 
 // From the `[` behind the name up to the size.

@@ -2,15 +2,15 @@
 use Prim.Native.Nat.{ℕ, _+_, _*_, _≤_, _<_}
 use native.Mathlib.Omega.{arith}
 use mathlib.Core.Path.{_≡_, refl, ap, subst, _∙_}
-use mathlib.Core.Bool.{Bool, true, false, _&&_}
+use mathlib.Core.Bool.{Bool, true, false}
 use mathlib.Core.List.{List}
 use mathlib.Core.Option.{Option, none, some}
 use lib.IntN.{ℤ}
-use lib.Dec.{leb, ltb}
+use lib.Dec.{eqb}
 use lib.ListN.{getD}
 use lib.Seq.{getD-set-other}
 use Rattle.value.specs.Choice.{if_then_else_}
-use Rattle.value.specs.Worked.{decode-of, opposite-of, span-of}
+use Rattle.value.specs.Worked.{decode-of, opposite-of}
 use Rattle.token.specs.declared.Token.{Token}
 use Rattle.token.specs.declared.Scan.{Scan}
 use Rattle.token.specs.Kind.{kind}
@@ -18,7 +18,7 @@ use Rattle.names.specs.Names.{name-kind, is, find-name}
 use Rattle.program.specs.Syntax.{Range, range}
 use Rattle.program.specs.Table.{with-word}
 use Rattle.grammar.specs.Reader.{Input, State, Result, ok, fail, Reader, and-then, _>>=_, return, refuse, refuse-last, is-kind, next-token, position, advance, put, expect-or, is-name, on-slot, by-name, entry-in, use-name}
-use Rattle.grammar.specs.Constants.{named-constant, read-constant, read-signed, read-range}
+use Rattle.grammar.specs.Constants.{named-constant, read-constant, read-signed, range-rule, read-range}
 use Rattle.reader.specs.Reading.{input, state, Gives}
 use Rattle.reader.specs.declared.Reading.{Reading}
 use Rattle.reader.specs.declared.Read.{Read}
@@ -141,7 +141,7 @@ keeps-range most =
     keeps-on _ _ (keeps-expect (kind .dots) 7)
     (λ _.
     keeps-on _ _ keeps-signed
-    (λ high. keeps-if (ltb 0 (span-of low high) && leb (span-of low high) most) (keeps-return (range low high)) (keeps-refuse-last 10))))
+    (λ high. keeps-if (eqb (range-rule most low high) 0) (keeps-return (range low high)) (keeps-refuse-last (range-rule most low high)))))
 
 -- the words before the place of reading stay where the code's reading of a range goes on
 pub range-keeps : (most : ℕ) {source : List ℕ} {sc : Scan} {R : Range → Reading → Type 0} {s t : Reading} {ns ws ns₁ ws₁ : List ℕ} {r : Read} → Gives R (read-range most) source sc s ns ws r ns₁ ws₁ → r ≡ Next t → (p : ℕ) → p < 4 * s .at → getD ws₁ p 0 ≡ getD ws p 0

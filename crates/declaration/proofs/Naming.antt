@@ -56,7 +56,7 @@ module _ {A : Type 0} where
       by i s (some slot) = f slot .fails i s
       by i s none = g .fails i s
 
-full-refuses : (fields : Bool) → Refuses (fresh fields 10)
+full-refuses : (fields : Bool) → Refuses (fresh fields 43)
 unfolding fresh
 full-refuses fields =
     behind-token _
@@ -64,7 +64,7 @@ full-refuses fields =
     behind-state _
     (λ s.
     either (not (is-name t)) _ _ (at-rule ℕ 7)
-    (either (not (is-kind t (kind .name))) _ _ (at-rule ℕ 9) (by-either t fields _ _ (λ slot. at-rule ℕ 9) (at-rule ℕ 10)))))
+    (either (not (is-kind t (kind .name))) _ _ (at-rule ℕ 9) (by-either t fields _ _ (λ slot. at-rule ℕ 9) (at-rule ℕ 43)))))
 
 module _ {source : List ℕ} {sc : Scan} {s : Reading} {ns ws ns₁ ws₁ : List ℕ} {r : Read} (n : ℕ) {full : ℕ} (e : full ≡ full-of n) (x : Gives passed (fresh true full) source sc s ns ws r ns₁ ws₁) where
   -- a field name, as the definition says it
@@ -81,7 +81,7 @@ module _ {source : List ℕ} {sc : Scan} {s : Reading} {ns ws ns₁ ws₁ : List
       by : (b : Bool) → leb 8 n ≡ b → n < 8
       by false d = leb-false 8 n d
       by true d =
-          let z : full ≡ 10 = e ∙ ap (λ (u : Bool). if u then 10 else 0) d in
+          let z : full ≡ 43 = e ∙ ap (λ (u : Bool). if u then 43 else 0) d in
           let y = went-on (rw z at x) q .is in
           absurd (stop (full-refuses true .fails (input source sc) (state s ns ws)) (y .2))
 

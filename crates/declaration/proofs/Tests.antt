@@ -23,7 +23,7 @@ use Rattle.declaration.specs.Fields.{full-of, Ends, Starts}
 
 -- ---- room for one more field
 
-pub full-up : (n : ℕ) → 8 ≤ n → 10 ≡ full-of n
+pub full-up : (n : ℕ) → 8 ≤ n → 43 ≡ full-of n
 full-up n h = simp (le-leb 8 n h)
 
 pub full-not : (n : ℕ) → n < 8 → 0 ≡ full-of n

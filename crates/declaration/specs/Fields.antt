@@ -21,7 +21,7 @@ use Rattle.declaration.specs.declared.CellRead.{CellRead}
 
 -- the rule that refuses one more field name behind n fields; 0: none
 abbrev pub full-of : ℕ → ℕ
-full-of n = if leb 8 n then 10 else 0
+full-of n = if leb 8 n then 43 else 0
 
 -- there are n fields, a number in `word`, after the names of a group behind `got` fields, which were read from position `at` on: one name
 -- at least, with a token for each

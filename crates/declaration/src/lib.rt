@@ -37,7 +37,7 @@ fn full(n: u32) -> u32
     ensures { λ r. ⌜ r ≡ full-of n ⌝ }
 {
     if 8 <= n {
-        return 10;
+        return 43;
     }
     0
 }
@@ -219,7 +219,7 @@ fn read_fields(
 
 // ---- the cell declaration
 
-// The number of dimensions, else refused 10.
+// The number of dimensions, else refused 40.
 fn read_dims(source: &[u8], names: &[u32], words: &mut [u32], scan: Scan, s: Reading) -> Read
     requires { ⌜ Ready scan (length (now names)) (length (now words)) s ⌝ }
     ensures { λ r. ⌜ Reads Dims read-dims (now (source .entry)) scan (s .count) s (now (names .entry)) (now (words .entry)) r (now (names .entry)) (now (words .exit)) ⌝ }
@@ -229,10 +229,10 @@ fn read_dims(source: &[u8], names: &[u32], words: &mut [u32], scan: Scan, s: Rea
         return r;
     };
     if a.word < 1 {
-        return refuse(words, scan, a, a.at - 1, 10);
+        return refuse(words, scan, a, a.at - 1, 40);
     }
     if 3 < a.word {
-        return refuse(words, scan, a, a.at - 1, 10);
+        return refuse(words, scan, a, a.at - 1, 40);
     }
     Read::Next(a)
 }

@@ -1,31 +1,38 @@
 -- Entries set one by one.
 use mathlib.Core.Path.{_≡_, refl, ap, _∙_}
 use mathlib.Core.List.{List, [], _∷_}
-use Prim.Native.Nat.{ℕ}
+use Prim.Native.Nat.{ℕ, suc}
 use lib.ListN.{set}
 use Rattle.entries.specs.Over.{over}
 
-two : (entries : List ℕ) (a b : ℕ) → set (set entries 0 a) 1 b ≡ over (a ∷ b ∷ []) entries
-two [] a b = refl
-two (x ∷ []) a b = refl
-two (x ∷ y ∷ entries) a b = refl
+-- the entries from number k on are set, one after the other
+abbrev setting : ℕ → List ℕ → List ℕ → List ℕ
+setting k [] s = s
+setting k (n ∷ ns) s = setting (suc k) ns (set s k n)
 
-five : (entries : List ℕ) (a b c d e : ℕ) → set (set (set (set (set entries 0 a) 1 b) 2 c) 3 d) 4 e ≡ over (a ∷ b ∷ c ∷ d ∷ e ∷ []) entries
-five [] a b c d e = refl
-five (x₀ ∷ []) a b c d e = refl
-five (x₀ ∷ x₁ ∷ []) a b c d e = refl
-five (x₀ ∷ x₁ ∷ x₂ ∷ []) a b c d e = refl
-five (x₀ ∷ x₁ ∷ x₂ ∷ x₃ ∷ []) a b c d e = refl
-five (x₀ ∷ x₁ ∷ x₂ ∷ x₃ ∷ x₄ ∷ entries) a b c d e = refl
+setting-none : (k : ℕ) (ns : List ℕ) → setting k ns [] ≡ []
+setting-none k [] = refl
+setting-none k (n ∷ ns) = setting-none (suc k) ns
+
+setting-behind : (k : ℕ) (ns : List ℕ) (x : ℕ) (s : List ℕ) → setting (suc k) ns (x ∷ s) ≡ x ∷ setting k ns s
+setting-behind k [] x s = refl
+setting-behind k (n ∷ ns) x s = setting-behind (suc k) ns x (set s k n)
+
+set-over : (ns s : List ℕ) → setting 0 ns s ≡ over ns s
+set-over [] s = refl
+set-over (n ∷ ns) [] = setting-none 1 ns
+set-over (n ∷ ns) (x ∷ s) = setting-behind 0 ns n s ∙ ap (λ (l : List ℕ). n ∷ l) (set-over ns s)
 
 -- one entry more
 then : {old new s : List ℕ} (i n : ℕ) → old ≡ s → new ≡ set old i n → new ≡ set s i n
 then i n e f = f ∙ ap (λ (x : List ℕ). set x i n) e
 
-module _ (s₀ : List ℕ) {s₁ s₂ : List ℕ} (a b : ℕ) where
-  pub put-two : s₁ ≡ set s₀ 0 a → s₂ ≡ set s₁ 1 b → s₂ ≡ over (a ∷ b ∷ []) s₀
-  put-two p₁ p₂ = then 1 b p₁ p₂ ∙ two s₀ a b
+module _ (s₀ : List ℕ) {s₁ s₂ s₃ s₄ s₅ : List ℕ} (a b c d e : ℕ) (p₁ : s₁ ≡ set s₀ 0 a) (p₂ : s₂ ≡ set s₁ 1 b) (p₃ : s₃ ≡ set s₂ 2 c) (p₄ : s₄ ≡ set s₃ 3 d) (p₅ : s₅ ≡ set s₄ 4 e) where
+  five : s₅ ≡ setting 0 (a ∷ b ∷ c ∷ d ∷ e ∷ []) s₀
+  five = then 4 e (then 3 d (then 2 c (then 1 b p₁ p₂) p₃) p₄) p₅
 
-  module _ {s₃ s₄ s₅ : List ℕ} (c d e : ℕ) where
-    pub put-five : s₁ ≡ set s₀ 0 a → s₂ ≡ set s₁ 1 b → s₃ ≡ set s₂ 2 c → s₄ ≡ set s₃ 3 d → s₅ ≡ set s₄ 4 e → s₅ ≡ over (a ∷ b ∷ c ∷ d ∷ e ∷ []) s₀
-    put-five p₁ p₂ p₃ p₄ p₅ = then 4 e (then 3 d (then 2 c (then 1 b p₁ p₂) p₃) p₄) p₅ ∙ five s₀ a b c d e
+  pub put-five : s₅ ≡ over (a ∷ b ∷ c ∷ d ∷ e ∷ []) s₀
+  put-five = five ∙ set-over (a ∷ b ∷ c ∷ d ∷ e ∷ []) s₀
+
+  pub put-eight : {s₆ s₇ s₈ : List ℕ} (f g h : ℕ) → s₆ ≡ set s₅ 5 f → s₇ ≡ set s₆ 6 g → s₈ ≡ set s₇ 7 h → s₈ ≡ over (a ∷ b ∷ c ∷ d ∷ e ∷ f ∷ g ∷ h ∷ []) s₀
+  put-eight f g h p₆ p₇ p₈ = then 7 h (then 6 g (then 5 f five p₆) p₇) p₈ ∙ set-over (a ∷ b ∷ c ∷ d ∷ e ∷ f ∷ g ∷ h ∷ []) s₀

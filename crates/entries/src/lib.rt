@@ -22,21 +22,37 @@ fn put_number(entries: &mut [u64], at: usize, n: u64)
     }
 }
 
-// Tells a reply in the first entries.
-pub fn put_reply(entries: &mut [u32], number: u32, place: u32)
-    ensures { λ _. ⌜ now (entries .exit) ≡ over (number ∷ place ∷ []) (now (entries .entry)) ⌝ }
+// Tells a reply in the first entries: its number and place, and where its spelling stands.
+pub fn put_reply(entries: &mut [u32], number: u32, place: u32, stands: u32, start: u32, len: u32)
+    ensures { λ _. ⌜ now (entries .exit) ≡ over (number ∷ place ∷ stands ∷ start ∷ len ∷ []) (now (entries .entry)) ⌝ }
 {
     put_word(entries, 0, number);
     put_word(entries, 1, place);
+    put_word(entries, 2, stands);
+    put_word(entries, 3, start);
+    put_word(entries, 4, len);
 }
 
-// Tells a run's numbers in the first entries.
-pub fn put_report(entries: &mut [u64], number: u32, place: u32, cell: u32, steps: u32, count: u64)
-    ensures { λ _. ⌜ now (entries .exit) ≡ over (number ∷ place ∷ cell ∷ steps ∷ count ∷ []) (now (entries .entry)) ⌝ }
+// Tells a run's numbers in the first entries, and where its reply's spelling stands.
+pub fn put_report(
+    entries: &mut [u64],
+    number: u32,
+    place: u32,
+    cell: u32,
+    steps: u32,
+    count: u64,
+    stands: u32,
+    start: u32,
+    len: u32,
+)
+    ensures { λ _. ⌜ now (entries .exit) ≡ over (number ∷ place ∷ cell ∷ steps ∷ count ∷ stands ∷ start ∷ len ∷ []) (now (entries .entry)) ⌝ }
 {
     put_number(entries, 0, number as u64);
     put_number(entries, 1, place as u64);
     put_number(entries, 2, cell as u64);
     put_number(entries, 3, steps as u64);
     put_number(entries, 4, count);
+    put_number(entries, 5, stands as u64);
+    put_number(entries, 6, start as u64);
+    put_number(entries, 7, len as u64);
 }

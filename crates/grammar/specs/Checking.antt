@@ -5,6 +5,7 @@ use Prim.Native.Nat.{ℕ}
 use lib.ListN.{length, replicate}
 use lib.Dec.{eqb, ltb}
 use Rattle.value.specs.Choice.{if_then_else_}
+use Rattle.token.specs.Lexeme.{is-built-in}
 use Rattle.token.specs.Scanning.{table-words}
 use Rattle.names.specs.Names.{name-words}
 use Rattle.grammar.specs.Complaint.{Complaint, complaint, no-complaint}
@@ -18,6 +19,10 @@ most-bytes = 65535
 -- the word table and the name list, as flat words, are of the right length
 unfoldable pub rooms-fit : ℕ → ℕ → Bool
 rooms-fit words names = eqb words table-words && eqb names name-words
+
+-- they are, and the list that is lent beside the source is the built-in list
+unfoldable pub lent-fit : List ℕ → ℕ → ℕ → Bool
+lent-fit list words names = is-built-in list && rooms-fit words names
 
 -- how reading a source ends: turned away before any token, with 1 or 2; refused, with 3 to 15; or accepted
 pub data Outcome : Type 0 where

@@ -1,7 +1,7 @@
 -- Constants, ranges and constant declarations.
-use mathlib.Core.Bool.{Bool, true, false, _&&_, _||_}
+use mathlib.Core.Bool.{Bool, true, false, _||_}
 use Prim.Native.Nat.{ℕ, _+_}
-use lib.Dec.{leb, ltb}
+use lib.Dec.{eqb, leb}
 use lib.IntN.{ℤ, pos}
 use Rattle.value.specs.Choice.{if_then_else_}
 use Rattle.value.specs.Number.{within}
@@ -40,13 +40,20 @@ read-signed =
     else if is-kind t (kind .plus) then advance >> read-constant
     else read-constant
 
--- low..high, of at least one value and at most so many, else refused 10 at the upper bound's constant
+-- the rule that a range breaks which may have at most so many values: 41 if it is reversed, 42 if it is too long; 0: none
+unfoldable pub range-rule : ℕ → ℤ → ℤ → ℕ
+range-rule most low high =
+    if eqb (span-of low high) 0 then 41
+    else if leb (span-of low high) most then 0
+    else 42
+
+-- low..high, of at least one value and at most so many, else refused at the upper bound's constant
 unfoldable pub read-range : ℕ → Reader Range
 read-range most = do
   low ← read-signed
   expect (kind .dots)
   high ← read-signed
-  if ltb 0 (span-of low high) && leb (span-of low high) most then return (range low high) else refuse-last 10
+  if eqb (range-rule most low high) 0 then return (range low high) else refuse-last (range-rule most low high)
 
 -- a range of any length
 abbrev pub any-range : Reader Range
@@ -55,23 +62,23 @@ any-range = read-range 4294967296
 -- ---- constant declarations
 
 -- the k-th value of an array constant of a size, and what stands behind it. The value is noted in word 3 of the k-th token of the list,
--- which begins at position `first`. Too many values are refused 10 at the comma, too few are noted at the token after the last
+-- which begins at position `first`. Too many values are refused 45 at the comma, too few are noted at the token after the last
 unfoldable pub value-turn : ℕ → ℕ → ℕ → Reader (Turn ℕ Unit)
 value-turn size first k = do
   z ← read-signed
   put (first + k) 3 (encode-of z)
   t ← next-token
-  if is-kind t (kind .comma) then (if leb size (k + 1) then refuse 10 else advance >> return (again (k + 1)))
+  if is-kind t (kind .comma) then (if leb size (k + 1) then refuse 45 else advance >> return (again (k + 1)))
       else if leb size (k + 1) then return (done unit)
-      else note 10 >> return (done unit)
+      else note 45 >> return (done unit)
 
 -- the list of values
 unfoldable pub read-values : ℕ → ℕ → Reader Unit
 read-values size first = repeat turns (value-turn size first) 0
 
--- the size of an array constant, else refused 10
+-- the size of an array constant, else refused 44
 unfoldable pub read-size : Reader ℤ
-read-size = read-constant >>= λ z. if within (pos 1) (pos 1024) z then return z else refuse-last 10
+read-size = read-constant >>= λ z. if within (pos 1) (pos 1024) z then return z else refuse-last 44
 
 -- from the `[` behind the name up to the size
 unfoldable pub array-head : Bool → Reader ℤ

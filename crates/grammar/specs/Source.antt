@@ -22,10 +22,10 @@ use Rattle.grammar.specs.Statements.{read-block}
 
 -- ---- the cell declaration
 
--- one more field name of kind k, behind n fields, and the comma or `of` behind it: how many fields there are then. A ninth is refused 10
+-- one more field name of kind k, behind n fields, and the comma or `of` behind it: how many fields there are then. A ninth is refused 43
 unfoldable pub field-turn : ℕ → ℕ → Reader (Turn ℕ ℕ)
 field-turn k n = do
-  i ← fresh true (if leb 8 n then 10 else 0)
+  i ← fresh true (if leb 8 n then 43 else 0)
   declare i k n
   forbid (kind .bracket) 6
   t ← next-token
@@ -60,9 +60,9 @@ group-turn base got =
     else if is-kind t (kind .const-word) then (advance >> read-group base got (name-kind .const-field) ▷ again)
     else (read-group base got (name-kind .field) ▷ again)
 
--- the number of dimensions, else refused 10
+-- the number of dimensions, else refused 40
 unfoldable pub read-dims : Reader ℤ
-read-dims = read-constant >>= λ z. if within (pos 1) (pos 3) z then return z else refuse-last 10
+read-dims = read-constant >>= λ z. if within (pos 1) (pos 3) z then return z else refuse-last 40
 
 -- whether a single unnamed range follows: a sign or a literal begins it, and a name exactly if `..` follows that (k is the kind of what follows)
 unfoldable pub is-unnamed : Token → ℕ → Bool

@@ -20,7 +20,7 @@ use Rattle.names.specs.Names.{name-kind, is, entry-at, most-names}
 use Rattle.program.specs.Syntax.{Range, range}
 use Rattle.program.specs.Table.{word-at}
 use Rattle.grammar.specs.Reader.{Input, State, Result, ok, fail, Reader, and-then, _>>=_, _>>_, _▷_, return, next-token, unit, is-kind, again, done, turns, token-of, position, advance, put, is-name, entry-in, fresh, reference, use-name}
-use Rattle.grammar.specs.Constants.{is-sign, named-constant, read-constant, read-signed, read-range, value-turn, read-values, read-size, array-head, array-constant, simple-constant, constant-value, read-declaration, constants-turn, read-constants}
+use Rattle.grammar.specs.Constants.{is-sign, named-constant, read-constant, read-signed, range-rule, read-range, value-turn, read-values, read-size, array-head, array-constant, simple-constant, constant-value, read-declaration, constants-turn, read-constants}
 use Rattle.linking.specs.Steps.{advanced, written, Gives, gave, refused, refused-last, bind, regroup, given-as, choose, at-position, at-token, at-state, at-entry, over, wrote, wrote-both, wrote-last, noted-it, named-it, by-found, expected, opened, Turned, repeated}
 use Rattle.linking.specs.Runs.{word-put, both-2, both-3, tokens, head-at, Text, Signable, Sound, Run, stay, join, go-on, write-first, write-plain}
 use Rattle.linking.specs.Naming.{token-value, of-kind, head-is, name-it, still-noted, note-it, found-name}
@@ -181,6 +181,16 @@ module _ {input : Input} {text : List ℕ} (T : Text input text) where
       by true q = behind q (read-constant input (advanced s)) refl
       by false q = refl
 
+  -- a range that breaks no rule has at most so many values
+  rule-few : (most : ℕ) (low high : ℤ) → range-rule most low high ≡ 0 → span-of low high ≤ most
+  unfolding range-rule
+  rule-few most low high e = by (eqb (span-of low high) 0) refl (leb (span-of low high) most) refl e
+    where
+      by : (a : Bool) → eqb (span-of low high) 0 ≡ a → (b : Bool) → leb (span-of low high) most ≡ b → _≡_ {A = ℕ} (if a then 41 else if b then 0 else 42) 0 → span-of low high ≤ most
+      by true p b q e = absurd (omega arith)
+      by false p true q e = leb-true (span-of low high) most q
+      by false p false q e = absurd (omega arith)
+
   -- a range is read, whose bounds are literals with at most one sign
   pub record Ranged (most : ℕ) (s : State) (r : Range) (t : State) : Type 0 where
     pub piece : Piece input text s t
@@ -198,9 +208,9 @@ module _ {input : Input} {text : List ℕ} (T : Text input text) where
       let p = join-pieces (h .0) (one-token (h .0 .run .sound) (of-kind (h .0 .run .sound) (t .at) (kind .dots) (omega arith) q)) in
       bind (signed-gives (p .run .sound))
       (λ high u k.
-      choose (ltb 0 (span-of low high) && leb (span-of low high) most)
-      (λ c. gave (range low high) (record { piece = join-pieces p (k .0); low-in = h .1; high-in = k .1; few = leb-true (span-of low high) most (and-both (ltb 0 (span-of low high)) (leb (span-of low high) most) c .1) }))
-      (λ _. refused-last 10))))
+      choose (eqb (range-rule most low high) 0)
+      (λ c. gave (range low high) (record { piece = join-pieces p (k .0); low-in = h .1; high-in = k .1; few = rule-few most low high (eqb-true _ _ c) }))
+      (λ _. refused-last (range-rule most low high)))))
 
   -- ---- constant declarations
 
@@ -229,16 +239,16 @@ module _ {input : Input} {text : List ℕ} (T : Text input text) where
           (at-token _
           (choose _
           (λ q.
-          choose (leb size (k + 1)) (λ _. refused 10)
+          choose (leb size (k + 1)) (λ _. refused 45)
           (λ c. over (gave (again (k + 1)) (record { run = join r (go-on (r .sound) (of-kind (r .sound) (t .at) (kind .comma) (omega arith) q)); same = p .0 .same ∙ h .same; long = omega (arith, h .long, p .0 .far) }, λ _ u y. y))))
           (λ _.
           choose (leb size (k + 1))
           (λ c. gave (done unit) (record { run = r; same = p .0 .same ∙ h .same; far = omega (arith, h .long, p .0 .far); long = λ _. omega (arith, h .long, p .0 .far, leb-true size (k + 1) c) }))
-          (λ _. noted-it 10 (λ place. gave (done unit) (record { run = note-it r 10 place (omega arith); same = p .0 .same ∙ h .same; far = omega (arith, h .long, p .0 .far); long = λ z. absurd (still-noted (t .noted) 10 place (omega arith) z) })))))))
+          (λ _. noted-it 45 (λ place. gave (done unit) (record { run = note-it r 45 place (omega arith); same = p .0 .same ∙ h .same; far = omega (arith, h .long, p .0 .far); long = λ z. absurd (still-noted (t .noted) 45 place (omega arith) z) })))))))
 
   size-gives : {s : State} → Sound input text s → Gives input read-size s (λ z t. Piece input text s t)
   unfolding read-size
-  size-gives x = bind (constant-gives x) (λ z t h. choose (within (pos 1) (pos 1024) z) (λ _. gave z (h .0)) (λ _. refused-last 10))
+  size-gives x = bind (constant-gives x) (λ z t h. choose (within (pos 1) (pos 1024) z) (λ _. gave z (h .0)) (λ _. refused-last 44))
 
   -- over a token of a kind, behind a piece
   pub past-token : {s t : State} → Piece input text s t → (k : ℕ) → 0 < k → eqb (token-of input t (t .at) .kind) k ≡ true → Piece input text s (advanced t)

@@ -36,10 +36,10 @@ some-dimensions (pos n) e =
 some-dimensions (negsuc n) e = never e
 
 -- a ninth field is refused
-not-eight : (n : ℕ) → _≡_ {A = ℕ} (if leb 8 n then 10 else 0) 0 → n < 8
+not-eight : (n : ℕ) → _≡_ {A = ℕ} (if leb 8 n then 43 else 0) 0 → n < 8
 not-eight n e = by (leb 8 n) refl e
   where
-    by : (b : Bool) → leb 8 n ≡ b → _≡_ {A = ℕ} (if b then 10 else 0) 0 → n < 8
+    by : (b : Bool) → leb 8 n ≡ b → _≡_ {A = ℕ} (if b then 43 else 0) 0 → n < 8
     by true q e = absurd (omega arith)
     by false q e = leb-false 8 n q
 
@@ -152,7 +152,7 @@ module _ {input : Input} {text : List ℕ} (T : Text input text) where
     where
       turn : (n : ℕ) (s : State) → Names s₀ n s → Gives input (field-turn k n) s (Turned (Names s₀) (λ n s m t. Names s₀ m t × Run input text s t × (n ≤ m)) n s)
       turn n s h =
-          fresh-it T true (if leb 8 n then 10 else 0) _ (h .bare .run .sound)
+          fresh-it T true (if leb 8 n then 43 else 0) _ (h .bare .run .sound)
           (λ free l name few.
           let more : n < 8 = not-eight n free in
           let b₁ : Bare s₀ (advanced s) = bare-piece (h .bare) (one-token (h .bare .run .sound) l) in
@@ -275,7 +275,7 @@ module _ {input : Input} {text : List ℕ} (T : Text input text) where
       (λ _. made (declared z true) (fields-gives (r₁ .sound) f) (λ all u k. read-from z true (h .2) (h .1) r₁ (k .0) (k .1)))))))))
     where
       dims-gives : Gives input read-dims s (λ z t. Piece input text s t × ((0 < encode-of z) × (encode-of z ≤ 3)) × (t .at ≡ s .at + 1))
-      dims-gives = bind (constant-gives T x) (λ z t h. choose (within (pos 1) (pos 3) z) (λ q. gave z (h .0, some-dimensions z q, h .2)) (λ _. refused-last 10))
+      dims-gives = bind (constant-gives T x) (λ z t h. choose (within (pos 1) (pos 3) z) (λ q. gave z (h .0, some-dimensions z q, h .2)) (λ _. refused-last 40))
 
       read-from : (z : ℤ) (named : Bool) {t : State} → t .at ≡ s .at + 1 → (0 < encode-of z) × (encode-of z ≤ 3) → Run input text s (advanced t) → {all : List Range} {u : State} → Fields (advanced t) all u → 0 < length all → CellRead s (declared z named all) u
       read-from z named {t} e l r {all} {u} f some =

@@ -1,5 +1,5 @@
 -- One law for each way through the leaves. Assumes nothing.
-use Prim.Native.Nat.{ℕ, _-_, _≤_, _<_}
+use Prim.Native.Nat.{ℕ, _+_, _-_, _*_, _≤_, _<_}
 use native.Mathlib.Omega.{arith}
 use mathlib.Core.Path.{_≡_, refl, sym, ap, _∙_}
 use mathlib.Core.List.{List}
@@ -10,7 +10,7 @@ use Rattle.token.specs.declared.Scan.{Scan}
 use Rattle.token.specs.declared.Token.{Token}
 use Rattle.names.specs.declared.Entry.{Entry}
 use Rattle.program.specs.Standing.{Stands}
-use Rattle.grammar.specs.Complaint.{Complaint, complaint, before, first-of, broken}
+use Rattle.grammar.specs.Complaint.{Complaint, complaint, rank, first-number, before, first-of, broken}
 use Rattle.grammar.specs.Reader.{expect-or, forbid, opening, is-name, reference}
 use Rattle.reader.specs.Reading.{anything, noted-in, Passes, first-refused, refusal, Moved, note-of, noted-of, Noted, Named}
 use Rattle.reader.specs.declared.Reading.{Reading}
@@ -35,24 +35,38 @@ module _ (noted place n p : ℕ) where
     unfolding first-of before
     first-before h q = simp (ne-eqb noted 0 e, le-ltb place p h, ne-eqb place p q)
 
-    module _ (h : p ≤ place) (q : place ≡ p) where
-      pub first-number : noted ≤ n → Refused noted place ≡ first-refused (complaint noted place) (complaint n p)
+    module _ (h : p ≤ place) (q : place ≡ p) {a b : ℕ} (u : a ≡ rank noted) (v : b ≡ rank n) where
+      pub first-rank : a ≤ b → Refused noted place ≡ first-refused (complaint noted place) (complaint n p)
       unfolding first-of before
-      first-number l = simp (ne-eqb noted 0 e, le-ltb place p h, eq-eqb place p q, le-leb noted n l)
+      first-rank l = simp (ne-eqb noted 0 e, le-ltb place p h, eq-eqb place p q, ← u, ← v, le-leb a b l)
 
-      pub first-lower : n < noted → Refused n p ≡ first-refused (complaint noted place) (complaint n p)
+      pub first-lower : b < a → Refused n p ≡ first-refused (complaint noted place) (complaint n p)
       unfolding first-of before
-      first-lower l = simp (ne-eqb noted 0 e, le-ltb place p h, eq-eqb place p q, lt-leb noted n l)
+      first-lower l = simp (ne-eqb noted 0 e, le-ltb place p h, eq-eqb place p q, ← u, ← v, lt-leb a b l)
+
+module _ (n : ℕ) where
+  pub rank-within : 40 ≤ n → n ≤ 45 → 1000 + n ≡ rank n
+  unfolding rank
+  rank-within h l = simp (le-leb 40 n h, le-leb n 45 l)
+
+  pub rank-above : 40 ≤ n → 45 < n → 100 * n ≡ rank n
+  unfolding rank
+  rank-above h l = simp (le-leb 40 n h, lt-leb n 45 l)
+
+  pub rank-below : n < 40 → 100 * n ≡ rank n
+  unfolding rank
+  rank-below h = simp (lt-leb 40 n h)
+
+module _ (t : Token) (n : ℕ) {a b : ℕ} (u : a ≡ rank (t .value)) (v : b ≡ rank n) where
+  pub lower-stop : t .kind ≡ 0 → a ≤ b → t .value ≡ broken n t .number
+  unfolding broken first-number
+  lower-stop e h = simp (eq-eqb (t .kind) 0 e, ← u, ← v, le-leb a b h)
+
+  pub lower-rule : t .kind ≡ 0 → b < a → n ≡ broken n t .number
+  unfolding broken first-number
+  lower-rule e h = simp (eq-eqb (t .kind) 0 e, ← u, ← v, lt-leb a b h)
 
 module _ (t : Token) (n : ℕ) where
-  pub lower-stop : t .kind ≡ 0 → t .value ≤ n → t .value ≡ broken n t .number
-  unfolding broken
-  lower-stop e h = simp (eq-eqb (t .kind) 0 e) (omega arith)
-
-  pub lower-rule : t .kind ≡ 0 → n < t .value → n ≡ broken n t .number
-  unfolding broken
-  lower-rule e h = simp (eq-eqb (t .kind) 0 e) (omega arith)
-
   pub lower-token : (t .kind ≡ 0 → ⊥) → n ≡ broken n t .number
   unfolding broken
   lower-token e = simp (ne-eqb (t .kind) 0 e)
@@ -137,4 +151,4 @@ module _ (slot : ℕ) (e : Entry) where
   refers-other u v = simp (ne-eqb _ _ u, ne-eqb _ _ v)
 
 pub ruleset Leaves =
-    (first-new, first-place, first-before, first-number, first-lower, lower-stop, lower-rule, lower-token, refused-as, noted-as, expected, unexpected, forbidden, allowed, opened, unopened, named-1, named-3, named-4, refers-variable, refers-closed, refers-index, refers-other)
+    (first-new, first-place, first-before, first-rank, first-lower, rank-within, rank-above, rank-below, lower-stop, lower-rule, lower-token, refused-as, noted-as, expected, unexpected, forbidden, allowed, opened, unopened, named-1, named-3, named-4, refers-variable, refers-closed, refers-index, refers-other)

@@ -4,7 +4,7 @@ ghost use Prim.Native.Nat.{_≤_, _<_};
 ghost use lib.ListN.{length};
 ghost use Rattle.token.specs.Scanning.{most-tokens, table-words};
 ghost use Rattle.names.specs.Names.{most-names, name-words};
-ghost use Rattle.grammar.specs.Complaint.{complaint, broken};
+ghost use Rattle.grammar.specs.Complaint.{complaint, rank, broken};
 ghost use Rattle.grammar.specs.Reader.{expect-or, forbid, opening, fresh, reference};
 ghost use Rattle.reader.specs.Reading.{anything, passed, Ready, Reads, Passes, first-refused, refusal, Moved, Carries, Noted, Named, Declares, Uses};
 use names::Entry;
@@ -36,12 +36,26 @@ pub enum Read {
 
 // ---- refusals
 
-// The rule's number at a token; at a stop, the lower of the two.
+// The rank of a rule's number where several are broken at one place: 40 to 45 stand where 10 stood.
+fn rank(n: u32) -> u64
+    ensures { λ r. ⌜ r ≡ rank n ⌝ }
+{
+    let k = n as u64;
+    if n < 40 {
+        return 100 * k;
+    }
+    if n <= 45 {
+        return 1000 + k;
+    }
+    100 * k
+}
+
+// The rule's number at a token; at a stop, the first of the two.
 fn lower(t: Token, n: u32) -> u32
     ensures { λ r. ⌜ r ≡ broken n t .number ⌝ }
 {
     if t.kind == kind::STOP {
-        if t.value <= n {
+        if rank(t.value) <= rank(n) {
             return t.value;
         }
     }
@@ -59,7 +73,7 @@ fn first(noted: u32, place: u32, n: u32, p: u32) -> Read
         return Read::Refused(noted, place);
     }
     if place == p {
-        if noted <= n {
+        if rank(noted) <= rank(n) {
             return Read::Refused(noted, place);
         }
     }

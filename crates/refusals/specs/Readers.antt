@@ -8,10 +8,11 @@ use lib.IntN.{ℤ}
 use lib.ListN.{length}
 use Rattle.value.specs.Choice.{if_then_else_}
 use Rattle.value.specs.Laws.{never}
+use Rattle.value.specs.Worked.{span-of}
 use Rattle.names.specs.declared.Entry.{Entry}
-use Rattle.program.specs.Syntax.{Expr, Range, Block, Clause}
-use Rattle.grammar.specs.Reader.{Reader, turns, refuse, expect-or, forbid, opening, fresh, use-name}
-use Rattle.grammar.specs.Constants.{named-constant, read-constant, negated, read-signed, read-range, value-turn, read-values, read-size, array-head, array-constant, simple-constant, constant-value, read-declaration, constants-turn, read-constants}
+use Rattle.program.specs.Syntax.{Expr, Range, range, Block, Clause}
+use Rattle.grammar.specs.Reader.{Reader, return, turns, refuse, refuse-last, expect-or, forbid, opening, fresh, use-name}
+use Rattle.grammar.specs.Constants.{named-constant, read-constant, read-signed, range-rule, read-range, value-turn, read-values, read-size, array-head, array-constant, simple-constant, constant-value, read-declaration, constants-turn, read-constants}
 use Rattle.grammar.specs.Expressions.{Cell, plain, field-name, dot-field, field-number, read-field, put-field, named-index, fixed-index, read-index, index-turn, read-indices, read-neighbour, read-own, read-bracket, read-element, array-use, name-use, read-primary, read-operand, Left, left, read-right, operator-turn, climb, levels, operand-in, read-expression}
 use Rattle.grammar.specs.Statements.{old-variable, new-variable, named-target, field-target, read-target, when-clause, clause-end, clause-turn, read-assignment, Arm, arm-end, arm-turn, read-if, read-forall, read-exit, Parts, statement-turn, read-block}
 use Rattle.grammar.specs.Source.{field-turn, read-group, group-turn, read-dims, read-fields, read-cell}
@@ -70,17 +71,23 @@ module _ (source : List ℕ) (short : length source ≤ 65535) where
   unfolding read-constant named-constant
   constant = search Tokens depth 10
 
-  negative : (z : ℤ) → Fine source (negated z)
-  unfolding negated
-  negative z = search Tokens
-
   signed : Fine source read-signed
   unfolding read-signed
-  signed = search (constant, negative, Tokens) depth 10
+  signed = search (constant, Tokens) depth 10
+
+  -- a range that breaks a rule is refused by its number
+  range-tried : (most : ℕ) (low high : ℤ) → Fine source (if eqb (range-rule most low high) 0 then return (range low high) else refuse-last (range-rule most low high))
+  unfolding range-rule
+  range-tried most low high = by (eqb (span-of low high) 0) (leb (span-of low high) most)
+    where
+      by : (a b : Bool) → Fine source (if eqb (if a then 41 else if b then 0 else 42) 0 then return (range low high) else refuse-last (if a then 41 else if b then 0 else 42))
+      by true b = refused-last source short 41 refl
+      by false true = returned (range low high)
+      by false false = refused-last source short 42 refl
 
   range-read : (most : ℕ) → Fine source (read-range most)
   unfolding read-range
-  range-read most = search (signed, Tokens) depth 10
+  range-read most = search (signed, range-tried, Tokens) depth 10
 
 ruleset Ranges = (constant, signed, range-read, Tokens)
 

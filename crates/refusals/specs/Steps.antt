@@ -1,5 +1,5 @@
 -- Readers that refuse only by a number that refuses and at a place within the source, and the laws for putting them together.
-use Prim.Native.Nat.{ℕ, zero, suc, _+_, _-_, _*_, _%_, _≤_, min}
+use Prim.Native.Nat.{ℕ, zero, suc, _+_, _-_, _*_, _%_, _≤_}
 use native.Mathlib.Omega.{arith}
 use mathlib.Core.Path.{_≡_, refl, sym, ap, _∙_}
 use mathlib.Core.Bool.{Bool, true, false, _&&_}
@@ -8,7 +8,7 @@ use mathlib.Core.Option.{Option, none, some}
 use lib.Dec.{eqb, leb, ltb}
 use lib.ListN.{length}
 use lib.Seq.{getD-set-other}
-use borrow.Author.Tests.{eqb-true, ltb-true, leb-true, leb-false}
+use borrow.Author.Tests.{eqb-true, ltb-true, leb-true}
 use Rattle.value.specs.Choice.{if_then_else_}
 use Rattle.value.specs.Worked.{encode-of}
 use Rattle.value.specs.Laws.{and-both}
@@ -18,7 +18,7 @@ use Rattle.token.specs.Scanning.{scan, scanned-words, token-at, stop-of, token-
 use Rattle.names.specs.Names.{find-name}
 use Rattle.program.specs.Syntax.{Range}
 use Rattle.program.specs.Table.{with-word}
-use Rattle.grammar.specs.Complaint.{Complaint, complaint, before, first-of, broken}
+use Rattle.grammar.specs.Complaint.{Complaint, complaint, rank, first-number, before, first-of, broken}
 use Rattle.grammar.specs.Reader.{State, Result, ok, fail, Reader, and-then, _>>=_, return, Turn, again, done, turned, get-state, token-of, refuse, refuse-last, note, repeat, next-token, kind-after, position, advance, put, on-slot, by-name, entry-in, declare, revalue}
 use Rattle.grammar.specs.Source.{input-of, with-ranges, put-ranges}
 use Rattle.linking.specs.Runs.{tokens, head-at, span-at}
@@ -144,13 +144,14 @@ module _ {source : List ℕ} where
 
 -- ---- refusals
 
--- the lesser of two numbers that refuse refuses
-least : (a b : ℕ) → is-refusal a ≡ true → is-refusal b ≡ true → is-refusal (min a b) ≡ true
-least a b x y = by (leb a b) refl
+-- the first of two numbers that refuse refuses
+first-refusal : (a b : ℕ) → is-refusal a ≡ true → is-refusal b ≡ true → is-refusal (first-number a b) ≡ true
+unfolding first-number
+first-refusal a b x y = by (leb (rank a) (rank b))
   where
-    by : (c : Bool) → leb a b ≡ c → is-refusal (min a b) ≡ true
-    by true q = let l = leb-true a b q in let e : min a b ≡ a = omega arith in ap is-refusal e ∙ x
-    by false q = let l = leb-false a b q in let e : min a b ≡ b = omega arith in ap is-refusal e ∙ y
+    by : (c : Bool) → is-refusal (if c then a else b) ≡ true
+    by true = x
+    by false = y
 
 -- the first of a noted complaint and one that refuses refuses
 first-refuses : {source : List ℕ} (a : Complaint) {n p : ℕ} → (eqb (a .number) 0 ≡ false → Refuses source (a .number) (a .place)) → Refuses source n p
@@ -189,8 +190,8 @@ module _ (source : List ℕ) (short : length source ≤ 65535) where
   unfolding broken
   breaks {t} n e x = record { number = by (eqb (t .kind) (kind .stop)) (x .told); place = x .place }
     where
-      by : (b : Bool) → (b ≡ true → is-refusal (t .value) ≡ true) → is-refusal (if b then min n (t .value) else n) ≡ true
-      by true y = least n (t .value) e (y refl)
+      by : (b : Bool) → (b ≡ true → is-refusal (t .value) ≡ true) → is-refusal (if b then first-number (t .value) n else n) ≡ true
+      by true y = first-refusal (t .value) n (y refl) e
       by false y = e
 
   pub refused : {A : Type 0} (n : ℕ) → is-refusal n ≡ true → Fine {A = A} source (refuse n)

@@ -13,7 +13,7 @@ use borrow.Author.Tests.{eq-eqb, ne-eqb, lt-ltb, le-ltb, ltb-true, ltb-false}
 use Rattle.token.specs.Bytes.{as-bytes}
 use Rattle.grammar.specs.Complaint.{complaint}
 use Rattle.grammar.specs.Answer.{digits-of, answer-line}
-use Rattle.reply_line.specs.Line.{Wrote, Digits, Says}
+use Rattle.reply_line.specs.Line.{item, refused-text, spelled-line, Wrote, Digits, Says}
 
 -- one text behind another
 pub and-then : {old new last a b : List ℕ} {at m r : ℕ} → Wrote old at a new m → Wrote new m b last r → Wrote old at (a ++ b) last r
@@ -73,14 +73,41 @@ wrote-last {n = n} h x y (suc most) l =
 pub digits-end : {old new : List ℕ} {at n r : ℕ} → n < 2 ^ 32 → Digits old at n new r → r ≤ at + 10
 digits-end {n = n} h x = omega (arith, x 9 (omega arith) .end, digits-length 9 n)
 
+-- ---- a space and a number
+
+pub wrote-item : {old mid new : List ℕ} {at n m r : ℕ} → n < 2 ^ 32 → Wrote old at (as-bytes " ") mid m → Digits mid m n new r → Wrote old at (item n) new r
+wrote-item h x y = and-then x (y 9 (omega arith))
+
+pub item-end : (n : ℕ) {old new : List ℕ} {at r : ℕ} → Wrote old at (item n) new r → r ≤ at + 11
+item-end n x = omega (arith, x .end, digits-length 9 n)
+
 -- ---- the line
 
-pub says-accepted : {old new : List ℕ} {number place r : ℕ} → number ≡ 0 → Wrote old 0 (as-bytes "accepted\n") new r → Says (complaint number place) new r
-unfolding answer-line
-says-accepted {number = number} e x = let p = x .end in record { is = rw (eq-eqb number 0 e) (x .is); within = omega arith }
+pub wrote-refused : {old a b c new : List ℕ} {number place i j k r : ℕ} → number < 2 ^ 32 → place < 2 ^ 32 → Wrote old 0 (as-bytes "refused ") a i → Digits a i number b j → Wrote b j (as-bytes " at ") c k → Digits c k place new r → Wrote old 0 (refused-text (complaint number place)) new r
+wrote-refused f g x y z u = and-then (and-then (and-then x (y 9 (omega arith))) z) (u 9 (omega arith))
 
-pub says-refused : {old a b c d new : List ℕ} {number place i j k l r : ℕ} → (number ≡ 0 → ⊥) → number < 2 ^ 32 → place < 2 ^ 32 → Wrote old 0 (as-bytes "refused ") a i → Digits a i number b j → Wrote b j (as-bytes " at ") c k → Digits c k place d l → Wrote d l (as-bytes "\n") new r → Says (complaint number place) new r
-unfolding answer-line
-says-refused {number = number} {place} e f g x y z u v =
-    let w = and-then (and-then (and-then (and-then x (y 9 (omega arith))) z) (u 9 (omega arith))) v in
-    record { is = rw (ne-eqb number 0 e) (w .is); within = omega (arith, simp length-append at (w .end), digits-length 9 number, digits-length 9 place) }
+pub refused-end : (number place : ℕ) {old new : List ℕ} {r : ℕ} → Wrote old 0 (refused-text (complaint number place)) new r → r ≤ 32
+refused-end number place x = omega (arith, simp length-append at (x .end), digits-length 9 number, digits-length 9 place)
+
+module _ (number place : ℕ) where
+  pub says-accepted : {old new : List ℕ} {r : ℕ} → number ≡ 0 → Wrote old 0 (as-bytes "accepted\n") new r → Says 33 (answer-line (complaint number place)) new r
+  unfolding answer-line
+  says-accepted e x = let p = x .end in record { is = rw (eq-eqb number 0 e) (x .is); within = omega arith }
+
+  pub says-refused : {old mid new : List ℕ} {m r : ℕ} → (number ≡ 0 → ⊥) → Wrote old 0 (refused-text (complaint number place)) mid m → Wrote mid m (as-bytes "\n") new r → Says 33 (answer-line (complaint number place)) new r
+  unfolding answer-line
+  says-refused e x y =
+      record { is = rw (ne-eqb number 0 e) (and-then x y .is); within = omega (arith, refused-end number place x, y .end) }
+
+  module _ (stands start len : ℕ) where
+    pub spells-accepted : {old new : List ℕ} {r : ℕ} → number ≡ 0 → Wrote old 0 (as-bytes "accepted\n") new r → Says 66 (spelled-line (complaint number place) stands start len) new r
+    unfolding spelled-line
+    spells-accepted e x = let p = x .end in record { is = rw (eq-eqb number 0 e) (x .is); within = omega arith }
+
+    pub spells-refused : {old a b c d new : List ℕ} {i j k l r : ℕ} → (number ≡ 0 → ⊥) → Wrote old 0 (refused-text (complaint number place)) a i → Wrote a i (item stands) b j → Wrote b j (item start) c k → Wrote c k (item len) d l → Wrote d l (as-bytes "\n") new r → Says 66 (spelled-line (complaint number place) stands start len) new r
+    unfolding spelled-line
+    spells-refused e x y z u v =
+        record {
+          is = rw (ne-eqb number 0 e) (and-then (and-then (and-then (and-then x y) z) u) v .is);
+          within = omega (arith, refused-end number place x, item-end stands y, item-end start z, item-end len u, v .end);
+        }

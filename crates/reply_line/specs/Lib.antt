@@ -1,2 +1,2 @@
--- What writing the line of a reply promises.
+-- The lines that tell a reply, and what writing them promises.
 pub mod Line

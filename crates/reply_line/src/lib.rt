@@ -1,9 +1,11 @@
-// The line that tells the reply to a source: `accepted`, or for example `refused 8 at 26`.
+// The line that tells the reply to a source: `accepted`, or for example `refused 8 at 26`; and the line with the spelling's numbers behind these,
+// `refused 8 at 26 1 26 1`.
 ghost use mathlib.Core.List.{[], _∷_};
 ghost use Prim.Native.Nat.{_+_, _<_, _≤_};
 ghost use lib.ListN.{length};
 ghost use Rattle.grammar.specs.Complaint.{complaint};
-ghost use Rattle.reply_line.specs.Line.{Wrote, Digits, Says};
+ghost use Rattle.grammar.specs.Answer.{answer-line};
+ghost use Rattle.reply_line.specs.Line.{item, refused-text, spelled-line, Wrote, Digits, Says};
 
 // Writes a byte at a position, and gives the position behind it.
 fn put_byte(line: &mut [u8], at: usize, b: u8) -> usize
@@ -39,17 +41,56 @@ fn put_digits(line: &mut [u8], at: usize, n: u32) -> usize
     put_byte(line, behind, (48 + n % 10) as u8)
 }
 
-// Writes the line for a reply, at the front of the room, and gives its length.
+// Writes a space and a number in decimal from a position on, and gives the position behind them.
+fn put_item(line: &mut [u8], at: usize, n: u32) -> usize
+    requires { ⌜ at + 11 ≤ length (now line) ⌝ }
+    ensures { λ r. ⌜ Wrote (now (line .entry)) at (item n) (now (line .exit)) r ⌝ }
+{
+    let behind = put_byte(line, at, b' ');
+    put_digits(line, behind, n)
+}
+
+// Writes the number and the place of a refusal at the front of the buffer, and gives the position behind them.
+fn put_refused(line: &mut [u8], number: u32, place: u32) -> usize
+    requires { ⌜ 32 ≤ length (now line) ⌝ }
+    ensures { λ r. ⌜ Wrote (now (line .entry)) 0 (refused-text (complaint number place)) (now (line .exit)) r ⌝ }
+{
+    let a = put_text(line, 0, b"refused ");
+    let b = put_digits(line, a, number);
+    let c = put_text(line, b, b" at ");
+    put_digits(line, c, place)
+}
+
+// Writes the line for a reply, at the front of the buffer, and gives its length.
 pub fn write_line(number: u32, place: u32, line: &mut [u8]) -> usize
     requires { ⌜ 33 ≤ length (now line) ⌝ }
-    ensures { λ r. ⌜ Says (complaint number place) (now (line .exit)) r ⌝ }
+    ensures { λ r. ⌜ Says 33 (answer-line (complaint number place)) (now (line .exit)) r ⌝ }
 {
     if number == 0 {
         return put_text(line, 0, b"accepted\n");
     }
-    let a = put_text(line, 0, b"refused ");
-    let b = put_digits(line, a, number);
-    let c = put_text(line, b, b" at ");
-    let d = put_digits(line, c, place);
-    put_text(line, d, b"\n")
+    let end = put_refused(line, number, place);
+    put_byte(line, end, b'\n')
+}
+
+// Writes the line for a reply and, behind the place of a refusal, where its spelling stands, its first byte and its length; gives the line's length.
+pub fn write_spelled(
+    number: u32,
+    place: u32,
+    stands: u32,
+    start: u32,
+    len: u32,
+    line: &mut [u8],
+) -> usize
+    requires { ⌜ 66 ≤ length (now line) ⌝ }
+    ensures { λ r. ⌜ Says 66 (spelled-line (complaint number place) stands start len) (now (line .exit)) r ⌝ }
+{
+    if number == 0 {
+        return put_text(line, 0, b"accepted\n");
+    }
+    let a = put_refused(line, number, place);
+    let b = put_item(line, a, stands);
+    let c = put_item(line, b, start);
+    let d = put_item(line, c, len);
+    put_byte(line, d, b'\n')
 }

@@ -13,7 +13,7 @@ use crate::rooms::left_of_scratch;
 
 // Whether the run that a reply is of began.
 fn began(number: u32) -> bool {
-    number == 0 || number >= 30
+    number == 0 || (number >= 30 && number <= 33)
 }
 
 // Runs a source in the rooms that are lent, and writes the line.
@@ -31,8 +31,10 @@ fn answer_run(
 ) -> bool {
     fill_scratch(scratch);
     fill_marks(marks);
+    let list = spelling::BUILT_IN;
     let report = runner::run(
         source,
+        &list,
         words,
         names,
         sizes,

@@ -129,8 +129,8 @@ run-refused counting p q z = rw (ne-eqb (admission p q .number) 0 z, run)
 -- ---- the ways through
 
 module _ {source ws ns sizes : List ℕ} {grid : List ℤ} {scratch marks : ℕ} {start steps : ℤ} {known : Bool} {o : Outline} {n place : ℕ} {ws′ ns′ : List ℕ}
-    (checked : Checks source ws ns n place ws′ ns′) (loaded : Loads source ws ns known o) where
-  pub unread : not known ≡ true → {r : Opening} → (r .begun ≡ false) × (r .number ≡ n) × (r .place ≡ place) → Opens source ws ns (request-of sizes grid scratch marks start steps) r ws′ ns′
+    (checked : Checks (rooms-fit (length ws) (length ns)) source ws ns n place ws′ ns′) (loaded : Loads source ws ns known o) where
+  pub unread : not known ≡ true → {r : Opening} → (r .begun ≡ false) × (r .number ≡ n) × (r .place ≡ place) → Opens (rooms-fit (length ws) (length ns)) source ws ns (request-of sizes grid scratch marks start steps) r ws′ ns′
   unread unknown {r} e =
       let both = not-read (rooms-fit (length ws) (length ns)) source (request-of sizes grid scratch marks start steps) (checked .reply) (sym (loaded .is) ∙ not-true known unknown) in
       record {
@@ -148,7 +148,7 @@ module _ {source ws ns sizes : List ℕ} {grid : List ℤ} {scratch marks : ℕ}
     says : refusal (a .number) (a .place) ≡ admission (is .read .program) (request-of sizes grid scratch marks start steps)
     says = admits .says (is .read .program) (is .holds) (is .lists)
 
-    pub not-admitted : (a .number ≡ 0 → ⊥) → {r : Opening} → (r .begun ≡ false) × (r .number ≡ a .number) × (r .place ≡ a .place) → Opens source ws ns (request-of sizes grid scratch marks start steps) r ws′ ns′
+    pub not-admitted : (a .number ≡ 0 → ⊥) → {r : Opening} → (r .begun ≡ false) × (r .number ≡ a .number) × (r .place ≡ a .place) → Opens (rooms-fit (length ws) (length ns)) source ws ns (request-of sizes grid scratch marks start steps) r ws′ ns′
     unfolding run-source
     not-admitted z {r} e =
         record {
@@ -166,7 +166,7 @@ module _ {source ws ns sizes : List ℕ} {grid : List ℤ} {scratch marks : ℕ}
         refused-by : admission (is .read .program) (request-of sizes grid scratch marks start steps) .number ≡ 0 → ⊥
         refused-by k = z (ap (λ (x : Refusal). x .number) says ∙ k)
 
-    pub begun : a .number ≡ 0 → {t : Bool} → t ≡ o .timed → Opens source ws ns (request-of sizes grid scratch marks start steps) (record { begun = true; number = 0; place = 0; rule = rule-in o; reach = a .reach; timed = t }) ws′ ns′
+    pub begun : a .number ≡ 0 → {t : Bool} → t ≡ o .timed → Opens (rooms-fit (length ws) (length ns)) source ws ns (request-of sizes grid scratch marks start steps) (record { begun = true; number = 0; place = 0; rule = rule-in o; reach = a .reach; timed = t }) ws′ ns′
     begun z {t} e =
         record {
           words = checked .words;
@@ -193,6 +193,6 @@ module _ {source ws ns sizes : List ℕ} {grid : List ℤ} {scratch marks : ℕ}
 
 -- the times as the machine reads them
 pub read-opens : {source ws ns sizes : List ℕ} {grid : List ℤ} {scratch marks : ℕ} {start steps : ℤ} {r : Opening} {ws′ ns′ : List ℕ} → SFits w64 start → SFits w64 steps
-    → Opens source ws ns (request-of sizes grid scratch marks (toZ w64 (ofZ w64 start)) (toZ w64 (ofZ w64 steps))) r ws′ ns′ → Opens source ws ns (request-of sizes grid scratch marks start steps) r ws′ ns′
+    → Opens (rooms-fit (length ws) (length ns)) source ws ns (request-of sizes grid scratch marks (toZ w64 (ofZ w64 start)) (toZ w64 (ofZ w64 steps))) r ws′ ns′ → Opens (rooms-fit (length ws) (length ns)) source ws ns (request-of sizes grid scratch marks start steps) r ws′ ns′
 read-opens {source} {ws} {ns} {sizes} {grid} {scratch} {marks} {start} {steps} {r} {ws′} {ns′} h k =
-    subst₂ (λ (a b : ℤ). Opens source ws ns (request-of sizes grid scratch marks a b) r ws′ ns′) (toZ-ofZ h) (toZ-ofZ k)
+    subst₂ (λ (a b : ℤ). Opens (rooms-fit (length ws) (length ns)) source ws ns (request-of sizes grid scratch marks a b) r ws′ ns′) (toZ-ofZ h) (toZ-ofZ k)

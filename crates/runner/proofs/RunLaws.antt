@@ -2,7 +2,7 @@
 use Prim.Native.Nat.{ℕ, _≤_}
 use native.Mathlib.Omega.{arith}
 use mathlib.Core.Path.{_≡_, refl, sym, ap, ap₂, _∙_, subst, subst₂}
-use mathlib.Core.Bool.{Bool, true, false, not}
+use mathlib.Core.Bool.{Bool, true, false, not, _&&_}
 use mathlib.Core.List.{List}
 use lib.ListN.{length, replicate, length-replicate}
 use lib.Dec.{T}
@@ -17,7 +17,9 @@ use Rattle.automaton.specs.Quiet.{Lawful, quiet-agrees}
 use Rattle.automaton.specs.Grid.{automaton}
 use Rattle.automaton.specs.Going.{always-open, full-run}
 use Rattle.program.specs.Syntax.{Program}
-use Rattle.grammar.specs.Checking.{read-source, words-after, names-after}
+use Rattle.token.specs.Bytes.{same as same-bytes}
+use Rattle.token.specs.Lexeme.{built-in-names, is-built-in}
+use Rattle.grammar.specs.Checking.{rooms-fit, read-source, words-after, names-after}
 use Rattle.semantics.specs.declared.Rule.{Rule}
 use Rattle.semantics.specs.Evaluation.{evaluate}
 use Rattle.semantics.specs.Written.{written-in}
@@ -33,7 +35,7 @@ use Rattle.services.specs.RangesKept.{RangesKept, grid-in-ranges}
 use Rattle.iteration.specs.declared.Report.{Report}
 use Rattle.runner.specs.declared.opening.Opening.{Opening}
 use Rattle.iteration.specs.Stepwise.{Begins, Runs, told, steps-report, Ran}
-use Rattle.runner.specs.Sourcewise.{counting-of, every-step, Begun, Opens, RunLeaves}
+use Rattle.runner.specs.Sourcewise.{counting-of, every-step, Begun, Opens, RunLeaves, RunsListed}
 use Rattle.runner.specs.Property3.{Agree, same, property-3}
 
 -- ---- a full run: every cell is open in each step, as if `time` stood in the source
@@ -142,7 +144,15 @@ pub left-report : {N : Type 0} {form : NameForm N} {counting : Counting} {l : Le
 unfolding run-left
 left-report h = ap (λ x. x .report) (h .is)
 
-module _ (l : Lent ℕ) {r : Opening} {ws′ ns′ : List ℕ} (opens : Opens (l .source) (l .memory .words) (l .memory .names) (asked l) r ws′ ns′) (way : Bool) where
+-- the built-in list is one
+pub the-list : is-built-in built-in-names ≡ true
+unfolding same-bytes
+the-list = refl
+
+module _ (l : Lent ℕ) (list : is-built-in (l .list) ≡ true) {r : Opening} {ws′ ns′ : List ℕ} (opened : Opens (rooms-fit (length (l .memory .words)) (length (l .memory .names))) (l .source) (l .memory .words) (l .memory .names) (asked l) r ws′ ns′) (way : Bool) where
+  opens : Opens (fits flat-names l) (l .source) (l .memory .words) (l .memory .names) (asked l) r ws′ ns′
+  opens = subst (λ (fit : Bool). Opens fit (l .source) (l .memory .words) (l .memory .names) (asked l) r ws′ ns′) (sym (ap (λ (t : Bool). t && rooms-fit (length (l .memory .words)) (length (l .memory .names))) list)) opened
+
   names-are : ns′ ≡ names-left flat-names (fits flat-names l) (l .source) (l .memory .names)
   unfolding names-after
   names-are = opens .names
@@ -177,11 +187,25 @@ module _ (l : Lent ℕ) {r : Opening} {ws′ ns′ : List ℕ} (opens : Opens (l
     pub cast-steps : T (nonNeg (l .steps)) × Fits w32 (natAbs (l .steps))
     cast-steps = cast-in (l .steps) (is .steps-is) (omega (arith, is .times))
 
+-- another list than the built-in one: nothing is read, and nothing changes
+pub unlisted-run : {N : Type 0} (form : NameForm N) (counting : Counting) (l : Lent N) → fits form l ≡ false
+    → RunLeaves form counting l (record { number = 1; place = 0; cell = 0; steps = 0; count = 0 }) (l .memory)
+unfolding run-source words-after room-after read-source
+unlisted-run form counting l e =
+    left-by (rw e) (rw e) (rw e) (rw e) (rw e)
+
+module _ (list : List ℕ) {t : Bool} (is : t ≡ is-built-in list) where
+  pub unlisted : (way : Bool) (l : Lent ℕ) → l .list ≡ list → not t ≡ true → RunLeaves flat-names (counting-of way) l (record { number = 1; place = 0; cell = 0; steps = 0; count = 0 }) (l .memory)
+  unlisted way l e n = unlisted-run flat-names (counting-of way) l (ap (λ (x : List ℕ). is-built-in x && rooms-fit (length (l .memory .words)) (length (l .memory .names))) e ∙ ap (λ (u : Bool). u && rooms-fit (length (l .memory .words)) (length (l .memory .names))) (sym is ∙ not-true t n))
+
+  pub listed : {counting : Counting} {lends : List ℕ → Lent ℕ} {said : Report} {m : Memory ℕ} → not t ≡ false → RunsListed counting lends said m → RunLeaves flat-names counting (lends list) said m
+  listed n h = h .each list (sym is ∙ not-false t n)
+
 -- the times as the machine reads them
-pub read-times : {N : Type 0} {form : NameForm N} {counting : Counting} {source sizes : List ℕ} {m m′ : Memory N} {start steps : ℤ} {said : Report} → SFits w64 start → SFits w64 steps
-    → RunLeaves form counting (lent source sizes m (toZ w64 (ofZ w64 start)) (toZ w64 (ofZ w64 steps))) said m′ → RunLeaves form counting (lent source sizes m start steps) said m′
-read-times {N} {form} {counting} {source} {sizes} {m} {m′} {start} {steps} {said} h k =
-    subst₂ (λ (a b : ℤ). RunLeaves form counting (lent source sizes m a b) said m′) (toZ-ofZ h) (toZ-ofZ k)
+pub read-times : {N : Type 0} {form : NameForm N} {counting : Counting} {source list sizes : List ℕ} {m m′ : Memory N} {start steps : ℤ} {said : Report} → SFits w64 start → SFits w64 steps
+    → RunLeaves form counting (lent source list sizes m (toZ w64 (ofZ w64 start)) (toZ w64 (ofZ w64 steps))) said m′ → RunLeaves form counting (lent source list sizes m start steps) said m′
+read-times {N} {form} {counting} {source} {list} {sizes} {m} {m′} {start} {steps} {said} h k =
+    subst₂ (λ (a b : ℤ). RunLeaves form counting (lent source list sizes m a b) said m′) (toZ-ofZ h) (toZ-ofZ k)
 
 -- the grid that a run leaves has each field in its range
 pub run-ranges : {N : Type 0} (form : NameForm N) (counting : Counting) (l : Lent N) {said : Report} {m : Memory N} → RunLeaves form counting l said m

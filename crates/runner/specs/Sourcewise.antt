@@ -6,15 +6,16 @@ use Prim.Native.Nat.{ℕ, _+_, _<_, _≤_}
 use lib.ListN.{length}
 use lib.IntN.{pos, natAbs}
 use Rattle.automaton.specs.Shape.{product}
+use Rattle.token.specs.Lexeme.{is-built-in}
 use Rattle.grammar.specs.Source.{Accepted}
-use Rattle.grammar.specs.Checking.{rooms-fit, read-source, accepted, words-after, names-after}
+use Rattle.grammar.specs.Checking.{read-source, accepted, words-after, names-after}
 use Rattle.semantics.specs.declared.Rule.{Rule}
 use Rattle.stepper.specs.declared.Reach.{Reach}
 use Rattle.stepper.specs.Admission.{Request, admission}
 use Rattle.stepper.specs.Report.{Counting, full, quiet, refused}
 use Rattle.stepper.specs.Fitting.{Sized, Shaped, Near}
 use Rattle.services.specs.Services.{run-begins, run-source}
-use Rattle.services.specs.Calls.{NameForm, Memory, Lent, run-left}
+use Rattle.services.specs.Calls.{NameForm, flat-names, Memory, Lent, run-left}
 use Rattle.iteration.specs.declared.Report.{Report}
 use Rattle.runner.specs.declared.opening.Opening.{Opening}
 use Rattle.iteration.specs.Stepwise.{Runs, told}
@@ -48,15 +49,19 @@ pub record Begun (fit : Bool) (source : List ℕ) (q : Request) (words : List �
   pub times : natAbs (q .start) + natAbs (q .steps) ≤ 2147483647
 
 -- whether a run of a source begins, and what it leaves of word table and name list
-pub record Opens (source ws ns : List ℕ) (q : Request) (r : Opening) (ws′ ns′ : List ℕ) : Type 0 where
-  pub words : ws′ ≡ words-after (rooms-fit (length ws) (length ns)) source ws
-  pub names : ns′ ≡ names-after (rooms-fit (length ws) (length ns)) source ns
-  pub closed : r .begun ≡ false → run-begins q (read-source (rooms-fit (length ws) (length ns)) source) ≡ false
-  pub refuses : r .begun ≡ false → (counting : Counting) → run-source counting (rooms-fit (length ws) (length ns)) source q ≡ refused (r .number) (r .place) (q .grid)
-  pub opened : r .begun ≡ true → Begun (rooms-fit (length ws) (length ns)) source q ws′ (r .rule) (r .reach) (r .timed)
+pub record Opens (fit : Bool) (source ws ns : List ℕ) (q : Request) (r : Opening) (ws′ ns′ : List ℕ) : Type 0 where
+  pub words : ws′ ≡ words-after fit source ws
+  pub names : ns′ ≡ names-after fit source ns
+  pub closed : r .begun ≡ false → run-begins q (read-source fit source) ≡ false
+  pub refuses : r .begun ≡ false → (counting : Counting) → run-source counting fit source q ≡ refused (r .number) (r .place) (q .grid)
+  pub opened : r .begun ≡ true → Begun fit source q ws′ (r .rule) (r .reach) (r .timed)
 
 -- ---- the whole run
 
 -- the numbers that a run returns, and the memory that it leaves, are those of the definition
 pub record RunLeaves {N : Type 0} (form : NameForm N) (counting : Counting) (l : Lent N) (r : Report) (m : Memory N) : Type 0 where
   pub is : record { report = told r (m .grid); memory = m } ≡ run-left form counting l
+
+-- the same of every built-in list; `lends` is what is lent, by the list
+pub record RunsListed (counting : Counting) (lends : List ℕ → Lent ℕ) (r : Report) (m : Memory ℕ) : Type 0 where
+  pub each : (list : List ℕ) → is-built-in list ≡ true → RunLeaves flat-names counting (lends list) r m

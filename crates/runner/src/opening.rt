@@ -1,6 +1,8 @@
 // The beginning of a run: the source is read, and the run admitted.
 ghost use mathlib.Core.Path.{_≡_};
 ghost use mathlib.Core.Bool.{false};
+ghost use lib.ListN.{length};
+ghost use Rattle.grammar.specs.Checking.{rooms-fit};
 ghost use Rattle.admission.specs.Admitting.{request-of};
 ghost use Rattle.runner.specs.Sourcewise.{Opens};
 use admission::admit;
@@ -58,7 +60,7 @@ pub fn open_run(
     start: i64,
     steps: i64,
 ) -> Opening
-    ensures { λ r. ⌜ Opens (now (source .entry)) (now (words .entry)) (now (names .entry)) (request-of (now (sizes .entry)) (now (grid .entry)) scratch marks start steps) r (now (words .exit)) (now (names .exit)) ⌝ }
+    ensures { λ r. ⌜ Opens (rooms-fit (length (now (words .entry))) (length (now (names .entry)))) (now (source .entry)) (now (words .entry)) (now (names .entry)) (request-of (now (sizes .entry)) (now (grid .entry)) scratch marks start steps) r (now (words .exit)) (now (names .exit)) ⌝ }
 {
     let loaded = load(source, words, names);
     if !loaded.accepted {

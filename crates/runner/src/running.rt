@@ -1,16 +1,19 @@
 // A run of a source, full or quiet.
 ghost use mathlib.Core.Path.{_≡_};
+ghost use mathlib.Core.List.{List};
+ghost use Prim.Native.Nat.{ℕ};
 ghost use Rattle.stepper.specs.Report.{full};
 ghost use Rattle.services.specs.Calls.{flat-names, memory, lent, asked, read-lent, run-report};
 ghost use Rattle.services.specs.RangesKept.{RangesKept};
 ghost use Rattle.iteration.specs.Stepwise.{told};
-ghost use Rattle.runner.specs.Sourcewise.{counting-of, every-step, RunLeaves};
+ghost use Rattle.runner.specs.Sourcewise.{counting-of, every-step, RunLeaves, RunsListed};
 ghost use Rattle.runner.specs.Property3.{Agree};
 use crate::opening::open_run;
 use iteration::Report;
 use iteration::run_steps;
 use marked_cells::rooms::clear_marks;
 use marked_cells::rooms::clear_numbers;
+use spelling::is_built_in;
 
 // Whether every cell is open in every step: in a full run, and where `time` stands in the source.
 fn all_open(quiet: bool, timed: bool) -> bool
@@ -22,9 +25,8 @@ fn all_open(quiet: bool, timed: bool) -> bool
     true
 }
 
-// Runs a source on a grid: so many steps from a start time. A full run evaluates every cell in each step, a quiet one only the cells that are open in
-// it: the answer and the grid are the same, and the count is of the open cells.
-pub fn run(
+// Runs a source, where the built-in list is the one there is.
+fn run_listed(
     source: &[u8],
     words: &mut [u32],
     names: &mut [u32],
@@ -36,9 +38,7 @@ pub fn run(
     steps: i64,
     quiet: bool,
 ) -> Report
-    ensures { λ r. ⌜ RunLeaves flat-names (counting-of quiet) (lent (now (source .entry)) (now (sizes .entry)) (memory (now (words .entry)) (now (names .entry)) (now (grid .entry)) (now (scratch .entry)) (now (marks .entry))) start steps) r (memory (now (words .exit)) (now (names .exit)) (now (grid .exit)) (now (scratch .exit)) (now (marks .exit))) ⌝ }
-    ensures agrees { λ r. ⌜ Agree (told r (now (grid .exit))) (run-report flat-names full (lent (now (source .entry)) (now (sizes .entry)) (memory (now (words .entry)) (now (names .entry)) (now (grid .entry)) (now (scratch .entry)) (now (marks .entry))) start steps)) ⌝ }
-    ensures ranges { λ _. ⌜ RangesKept (read-lent flat-names (lent (now (source .entry)) (now (sizes .entry)) (memory (now (words .entry)) (now (names .entry)) (now (grid .entry)) (now (scratch .entry)) (now (marks .entry))) start steps)) (asked (lent (now (source .entry)) (now (sizes .entry)) (memory (now (words .entry)) (now (names .entry)) (now (grid .entry)) (now (scratch .entry)) (now (marks .entry))) start steps)) (now (grid .exit)) ⌝ }
+    ensures { λ r. ⌜ RunsListed (counting-of quiet) (λ (list : List ℕ). (lent (now (source .entry)) list (now (sizes .entry)) (memory (now (words .entry)) (now (names .entry)) (now (grid .entry)) (now (scratch .entry)) (now (marks .entry))) start steps)) r (memory (now (words .exit)) (now (names .exit)) (now (grid .exit)) (now (scratch .exit)) (now (marks .exit))) ⌝ }
 {
     let opening = open_run(
         source,
@@ -78,4 +78,46 @@ pub fn run(
     clear_numbers(scratch);
     clear_marks(marks);
     report
+}
+
+// Runs a source on a grid: so many steps from a start time. A full run evaluates every cell in each step, a quiet one only the cells that are open in
+// it: the answer and the grid are the same, and the count is of the open cells.
+pub fn run(
+    source: &[u8],
+    list: &[u8],
+    words: &mut [u32],
+    names: &mut [u32],
+    sizes: &[u32],
+    grid: &mut [i32],
+    scratch: &mut [i32],
+    marks: &mut [u8],
+    start: i64,
+    steps: i64,
+    quiet: bool,
+) -> Report
+    ensures { λ r. ⌜ RunLeaves flat-names (counting-of quiet) (lent (now (source .entry)) (now (list .entry)) (now (sizes .entry)) (memory (now (words .entry)) (now (names .entry)) (now (grid .entry)) (now (scratch .entry)) (now (marks .entry))) start steps) r (memory (now (words .exit)) (now (names .exit)) (now (grid .exit)) (now (scratch .exit)) (now (marks .exit))) ⌝ }
+    ensures agrees { λ r. ⌜ Agree (told r (now (grid .exit))) (run-report flat-names full (lent (now (source .entry)) (now (list .entry)) (now (sizes .entry)) (memory (now (words .entry)) (now (names .entry)) (now (grid .entry)) (now (scratch .entry)) (now (marks .entry))) start steps)) ⌝ }
+    ensures ranges { λ _. ⌜ RangesKept (read-lent flat-names (lent (now (source .entry)) (now (list .entry)) (now (sizes .entry)) (memory (now (words .entry)) (now (names .entry)) (now (grid .entry)) (now (scratch .entry)) (now (marks .entry))) start steps)) (asked (lent (now (source .entry)) (now (list .entry)) (now (sizes .entry)) (memory (now (words .entry)) (now (names .entry)) (now (grid .entry)) (now (scratch .entry)) (now (marks .entry))) start steps)) (now (grid .exit)) ⌝ }
+{
+    if !is_built_in(list) {
+        return Report {
+            number: 1,
+            place: 0,
+            cell: 0,
+            steps: 0,
+            count: 0,
+        };
+    }
+    run_listed(
+        source,
+        words,
+        names,
+        sizes,
+        grid,
+        scratch,
+        marks,
+        start,
+        steps,
+        quiet,
+    )
 }

@@ -1,9 +1,10 @@
 -- A run as a call: what is lent to it, what it leaves, and the one definition from the first to the second.
-use mathlib.Core.Bool.{Bool}
+use mathlib.Core.Bool.{Bool, _&&_}
 use mathlib.Core.List.{List}
 use Prim.Native.Nat.{ℕ}
 use lib.ListN.{length}
 use lib.IntN.{ℤ, pos}
+use Rattle.token.specs.Lexeme.{is-built-in}
 use Rattle.grammar.specs.Checking.{Outcome, rooms-fit, read-source, room-left, words-after}
 use Rattle.stepper.specs.Admission.{Request}
 use Rattle.stepper.specs.Report.{Counting, Report}
@@ -31,25 +32,26 @@ pub record Memory (N : Type 0) : Type 0 where
 abbrev pub memory : {N : Type 0} → List ℕ → List N → List ℤ → List ℤ → List ℕ → Memory N
 memory words names grid scratch marks = record { words = words; names = names; grid = grid; scratch = scratch; marks = marks }
 
--- what a run is lent: the source, the sizes, the memory, the start time and the number of steps
+-- what a run is lent: the source, the built-in list, the sizes, the memory, the start time and the number of steps
 pub record Lent (N : Type 0) : Type 0 where
   pub source : List ℕ
+  pub list : List ℕ
   pub sizes : List ℕ
   pub memory : Memory N
   pub start : ℤ
   pub steps : ℤ
 
-abbrev pub lent : {N : Type 0} → List ℕ → List ℕ → Memory N → ℤ → ℤ → Lent N
-lent source sizes m start steps = record { source = source; sizes = sizes; memory = m; start = start; steps = steps }
+abbrev pub lent : {N : Type 0} → List ℕ → List ℕ → List ℕ → Memory N → ℤ → ℤ → Lent N
+lent source list sizes m start steps = record { source = source; list = list; sizes = sizes; memory = m; start = start; steps = steps }
 
 -- what a run leaves: its report, and the memory
 pub record Left (N : Type 0) : Type 0 where
   pub report : Report
   pub memory : Memory N
 
--- word table and name list are of the right lengths
+-- word table and name list are of the right lengths, and the built-in list is the one there is
 abbrev pub fits : {N : Type 0} → NameForm N → Lent N → Bool
-fits form l = form .fit (length (l .memory .words)) (length (l .memory .names))
+fits form l = is-built-in (l .list) && form .fit (length (l .memory .words)) (length (l .memory .names))
 
 -- what is asked of the run
 abbrev pub asked : {N : Type 0} → Lent N → Request

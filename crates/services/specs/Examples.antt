@@ -42,7 +42,7 @@ marked-examples =
     ∷ runs (line "0..1" "cell := [6]") (ask (5 ∷ []) (pos 0 ∷ pos 1 ∷ pos 1 ∷ pos 0 ∷ pos 1 ∷ []) (pos 0) (pos 1))
     (report 23 30 0 0 0 (pos 0 ∷ pos 1 ∷ pos 1 ∷ pos 0 ∷ pos 1 ∷ [])) 0
     -- M13
-    ∷ checks (text (as-bytes "4 dimensions of 0..1")) 10 0
+    ∷ checks (text (as-bytes "4 dimensions of 0..1")) 40 0
     ∷ []
 
 -- none fails

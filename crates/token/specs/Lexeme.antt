@@ -28,6 +28,14 @@ keywords =
     ∷ spelled "otherwise" (kind .otherwise-word) ∷ spelled "then" (kind .then-word) ∷ spelled "when" (kind .when-word)
     ∷ spelled "cell" (kind .cell) ∷ spelled "time" (kind .time) ∷ spelled "random" (kind .refused) ∷ []
 
+-- the built-in list, which is lent beside a source: the predefined names, in lower case
+abbrev pub built-in-names : List ℕ
+built-in-names = as-bytes "cell time random"
+
+-- a list is the built-in list
+abbrev pub is-built-in : List ℕ → Bool
+is-built-in list = same list built-in-names
+
 abbrev pub two-byte-tokens : List Spelled
 two-byte-tokens =
     spelled ":=" (kind .assign) ∷ spelled ".." (kind .dots) ∷ spelled "<=" (kind .at-most) ∷ spelled ">=" (kind .at-least)

@@ -80,6 +80,17 @@ impl Cursor {
     }
 }
 
+// The token that stands at a place of a source.
+pub fn read_at(source: &[u8], at: usize) -> Lexed
+    requires { ⌜ (at < length (now source)) × (length (now source) ≤ 65535) ⌝ }
+    ensures { λ r. ⌜ Reads (now (source .entry)) at r ⌝ }
+{
+    let kinds = bytes::kind_table();
+    let rows = spelling::row_table();
+    let here = Cursor { at };
+    here.next(source, &kinds, &rows)
+}
+
 // Scans a source: its tokens stand in the word table, four words a token, with zeros behind them, whatever the table held before.
 pub fn scan_source(source: &[u8], words: &mut [u32]) -> Scan
     requires { ⌜ (length (now source) ≤ 65535) × (length (now words) ≡ 16384) ⌝ }

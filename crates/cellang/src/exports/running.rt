@@ -6,12 +6,14 @@ ghost use Rattle.runner.specs.Property3.{Agree};
 ghost use Rattle.cellang.specs.Told.{TellsRun};
 use entries::put_report;
 use runner::run;
+use spelling::told_part;
 
 // Runs a source on a grid, each step of which evaluates every cell, and gives the reply's number.
-// `report` is told number, place, cell, steps and count.
+// `report` is told number, place, cell, steps and count, and the spelling: where it stands, its first byte and its length.
 #[no_mangle]
 pub extern "C" fn cellang_run_full(
     source: &[u8],
+    list: &[u8],
     words: &mut [u32],
     names: &mut [u32],
     sizes: &[u32],
@@ -22,11 +24,12 @@ pub extern "C" fn cellang_run_full(
     steps: i64,
     report: &mut [u64],
 ) -> u32
-    ensures { λ r. ⌜ TellsRun full (lent (now (source .entry)) (now (sizes .entry)) (memory (now (words .entry)) (now (names .entry)) (now (grid .entry)) (now (scratch .entry)) (now (marks .entry))) start steps) (now (report .entry)) r (memory (now (words .exit)) (now (names .exit)) (now (grid .exit)) (now (scratch .exit)) (now (marks .exit))) (now (report .exit)) ⌝ }
-    ensures ranges { λ _. ⌜ RangesKept (read-lent flat-names (lent (now (source .entry)) (now (sizes .entry)) (memory (now (words .entry)) (now (names .entry)) (now (grid .entry)) (now (scratch .entry)) (now (marks .entry))) start steps)) (asked (lent (now (source .entry)) (now (sizes .entry)) (memory (now (words .entry)) (now (names .entry)) (now (grid .entry)) (now (scratch .entry)) (now (marks .entry))) start steps)) (now (grid .exit)) ⌝ }
+    ensures { λ r. ⌜ TellsRun full (lent (now (source .entry)) (now (list .entry)) (now (sizes .entry)) (memory (now (words .entry)) (now (names .entry)) (now (grid .entry)) (now (scratch .entry)) (now (marks .entry))) start steps) (now (report .entry)) r (memory (now (words .exit)) (now (names .exit)) (now (grid .exit)) (now (scratch .exit)) (now (marks .exit))) (now (report .exit)) ⌝ }
+    ensures ranges { λ _. ⌜ RangesKept (read-lent flat-names (lent (now (source .entry)) (now (list .entry)) (now (sizes .entry)) (memory (now (words .entry)) (now (names .entry)) (now (grid .entry)) (now (scratch .entry)) (now (marks .entry))) start steps)) (asked (lent (now (source .entry)) (now (list .entry)) (now (sizes .entry)) (memory (now (words .entry)) (now (names .entry)) (now (grid .entry)) (now (scratch .entry)) (now (marks .entry))) start steps)) (now (grid .exit)) ⌝ }
 {
     let told = run(
         source,
+        list,
         words,
         names,
         sizes,
@@ -37,6 +40,7 @@ pub extern "C" fn cellang_run_full(
         steps,
         false,
     );
+    let part = told_part(source, told.number, told.place);
     put_report(
         report,
         told.number,
@@ -44,15 +48,19 @@ pub extern "C" fn cellang_run_full(
         told.cell,
         told.steps,
         told.count,
+        part.stands,
+        part.start,
+        part.len,
     );
     told.number
 }
 
 // Runs a source on a grid, each step of which evaluates the open cells alone, and gives the reply's number.
-// `report` is told number, place, cell, steps and count; but for the count they are the full run's, and so is the grid.
+// `report` is told as by the full run; but for the count its numbers are the full run's, and so is the grid.
 #[no_mangle]
 pub extern "C" fn cellang_run_quiet(
     source: &[u8],
+    list: &[u8],
     words: &mut [u32],
     names: &mut [u32],
     sizes: &[u32],
@@ -63,12 +71,13 @@ pub extern "C" fn cellang_run_quiet(
     steps: i64,
     report: &mut [u64],
 ) -> u32
-    ensures { λ r. ⌜ TellsRun quiet (lent (now (source .entry)) (now (sizes .entry)) (memory (now (words .entry)) (now (names .entry)) (now (grid .entry)) (now (scratch .entry)) (now (marks .entry))) start steps) (now (report .entry)) r (memory (now (words .exit)) (now (names .exit)) (now (grid .exit)) (now (scratch .exit)) (now (marks .exit))) (now (report .exit)) ⌝ }
-    ensures ranges { λ _. ⌜ RangesKept (read-lent flat-names (lent (now (source .entry)) (now (sizes .entry)) (memory (now (words .entry)) (now (names .entry)) (now (grid .entry)) (now (scratch .entry)) (now (marks .entry))) start steps)) (asked (lent (now (source .entry)) (now (sizes .entry)) (memory (now (words .entry)) (now (names .entry)) (now (grid .entry)) (now (scratch .entry)) (now (marks .entry))) start steps)) (now (grid .exit)) ⌝ }
-    ensures agrees { λ _. ⌜ Agree (run-report flat-names quiet (lent (now (source .entry)) (now (sizes .entry)) (memory (now (words .entry)) (now (names .entry)) (now (grid .entry)) (now (scratch .entry)) (now (marks .entry))) start steps)) (run-report flat-names full (lent (now (source .entry)) (now (sizes .entry)) (memory (now (words .entry)) (now (names .entry)) (now (grid .entry)) (now (scratch .entry)) (now (marks .entry))) start steps)) ⌝ }
+    ensures { λ r. ⌜ TellsRun quiet (lent (now (source .entry)) (now (list .entry)) (now (sizes .entry)) (memory (now (words .entry)) (now (names .entry)) (now (grid .entry)) (now (scratch .entry)) (now (marks .entry))) start steps) (now (report .entry)) r (memory (now (words .exit)) (now (names .exit)) (now (grid .exit)) (now (scratch .exit)) (now (marks .exit))) (now (report .exit)) ⌝ }
+    ensures ranges { λ _. ⌜ RangesKept (read-lent flat-names (lent (now (source .entry)) (now (list .entry)) (now (sizes .entry)) (memory (now (words .entry)) (now (names .entry)) (now (grid .entry)) (now (scratch .entry)) (now (marks .entry))) start steps)) (asked (lent (now (source .entry)) (now (list .entry)) (now (sizes .entry)) (memory (now (words .entry)) (now (names .entry)) (now (grid .entry)) (now (scratch .entry)) (now (marks .entry))) start steps)) (now (grid .exit)) ⌝ }
+    ensures agrees { λ _. ⌜ Agree (run-report flat-names quiet (lent (now (source .entry)) (now (list .entry)) (now (sizes .entry)) (memory (now (words .entry)) (now (names .entry)) (now (grid .entry)) (now (scratch .entry)) (now (marks .entry))) start steps)) (run-report flat-names full (lent (now (source .entry)) (now (list .entry)) (now (sizes .entry)) (memory (now (words .entry)) (now (names .entry)) (now (grid .entry)) (now (scratch .entry)) (now (marks .entry))) start steps)) ⌝ }
 {
     let told = run(
         source,
+        list,
         words,
         names,
         sizes,
@@ -79,6 +88,7 @@ pub extern "C" fn cellang_run_quiet(
         steps,
         true,
     );
+    let part = told_part(source, told.number, told.place);
     put_report(
         report,
         told.number,
@@ -86,6 +96,9 @@ pub extern "C" fn cellang_run_quiet(
         told.cell,
         told.steps,
         told.count,
+        part.stands,
+        part.start,
+        part.len,
     );
     told.number
 }

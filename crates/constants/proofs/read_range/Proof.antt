@@ -4,6 +4,7 @@ use Rattle.reader.proofs.Going.{nowhere, went, goes-on, still}
 use native.Mathlib.Omega.{arith}
 use mathlib.Core.Path.{_∙_, refl, sym}
 use borrow.Author.Needs.{needs}
+use borrow.Author.Tests.{eq-eqb, ne-eqb}
 use Rattle.constants.proofs.read_range.Statement.{statement}
 use Rattle.constants.proofs.read_range.Tie as tie
 
@@ -90,8 +91,8 @@ returns-3 c =
       onward = nowhere y;
     }
 
-fits-requires : tie.Need-fits-requires
-fits-requires c κs = search needs
+range-rule-requires : tie.Need-range-rule-requires
+range-rule-requires c κs = search needs
 
 carrying-requires : tie.Need-carrying-requires
 carrying-requires c κs = search needs
@@ -111,7 +112,7 @@ returns-4 c =
     let q = c .before .before .before .before .before .before .before .before .before .before .before .q in
     let read-signed2 = c .before .before .before .before .before .before .before .before .read-signed2 in
     let p = c .before .before .before .before .p in
-    let fits2 = c .before .before .fits2 in
+    let rule = c .before .before .range-rule in
     let if1 = c .before .if1 in
     let carrying = c .carrying in
     let u = went (read-signed .ensures .onward) (r .given .1) in
@@ -123,7 +124,7 @@ returns-4 c =
           on-told _ (read-signed .ensures .gives) (r .given .1)
           (on _ (expect .ensures .gives _ _) (q .given .1)
           (λ _ _. on-told _ (read-signed2 .ensures .gives) (p .given .1)
-          (so _ _ (sym (fits2 .ensures) ∙ if1 .taken)
+          (so _ _ (eq-eqb _ _ (sym (rule .ensures) ∙ if1 .taken))
           (carried _ k (rw (k .word, k .low))))));
       onward =
           goes-on
@@ -160,7 +161,7 @@ returns-5 c =
     let q = c .before .before .before .before .before .before .before .before .before .before .before .before .before .q in
     let read-signed2 = c .before .before .before .before .before .before .before .before .before .before .read-signed2 in
     let p = c .before .before .before .before .before .before .p in
-    let fits2 = c .before .before .before .before .fits2 in
+    let rule = c .before .before .before .before .range-rule in
     let if1 = c .before .before .before .if1 in
     let refuse = c .refuse in
     let y = refuse .ensures in
@@ -169,8 +170,8 @@ returns-5 c =
           on-told _ (read-signed .ensures .gives) (r .given .1)
           (on _ (expect .ensures .gives _ _) (q .given .1)
           (λ _ _. on-told _ (read-signed2 .ensures .gives) (p .given .1)
-          (other _ _ (sym (fits2 .ensures) ∙ if1 .left)
-          (refused-last _ y))));
+          (other _ _ (ne-eqb _ _ (λ z. if1 .left (rule .ensures ∙ z)))
+          (refused-last _ (rw (rule .ensures) at y)))));
       onward = nowhere y;
     }
 
@@ -193,7 +194,7 @@ read-range-spec =
     enum-told-3
     same-length-3
     returns-3
-    fits-requires
+    range-rule-requires
     carrying-requires
     same-length-4
     returns-4

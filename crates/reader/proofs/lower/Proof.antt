@@ -1,6 +1,13 @@
+use borrow.Author.Needs.{needs}
 use Rattle.reader.proofs.Leaves.{Leaves}
 use Rattle.reader.proofs.lower.Statement.{statement}
 use Rattle.reader.proofs.lower.Tie as tie
+
+rank-requires : tie.Need-rank-requires
+rank-requires c κs = search needs
+
+rank-requires-2 : tie.Need-rank-requires-2
+rank-requires-2 c κs = search needs
 
 returns : tie.Need-returns
 returns c = search Leaves
@@ -12,4 +19,4 @@ returns-3 : tie.Need-returns-3
 returns-3 c = search Leaves
 
 pub lower-spec : {M : Type 1} → statement M
-lower-spec = tie.close (tie.spec returns returns-2 returns-3)
+lower-spec = tie.close (tie.spec rank-requires rank-requires-2 returns returns-2 returns-3)

@@ -40,6 +40,7 @@ use denote.Triple.Walked.{says, Stays, stay-none-slice, gave-slice, walkOf, goes
 use denote.Exit.{yes}
 use Rattle.records.specs.declared.Name.{Name}
 use Rattle.cellang.specs.declared.checking.Answer.{Answer}
+use Rattle.cellang.specs.Left.{lent-rows-fit}
 use Rattle.cellang.specs.Promises.{ChecksOver, ChecksRows}
 use Rattle.cellang.proofs.checking.Answer.Laws as O′
 use Rattle.records.proofs.NameRow.{Row, vals, makes}
@@ -58,7 +59,7 @@ use Rattle.cellang.proofs.checking.check.Statement as stated
 use Rattle.cellang.proofs.checking.check.Code as code
 
 abbrev stayed : Stays (f.ended .signature .params) (f.ended .kept)
-stayed = (stay-none-slice (0 ∷ []) tt (plain (λ _. u8)) yes, (gave-slice (1 ∷ []) tt (plain (λ _. u32)), (gave-slice (2 ∷ []) tt (plain (λ _. Row)), tt)))
+stayed = (stay-none-slice (0 ∷ []) tt (plain (λ _. u8)) yes, (stay-none-slice (1 ∷ []) tt (plain (λ _. u8)) yes, (gave-slice (2 ∷ []) tt (plain (λ _. u32)), (gave-slice (3 ∷ []) tt (plain (λ _. Row)), tt))))
 
 module _ {M : Type 1} (𝓤 : URA M) (H : Heap 𝓤) (A : Atoms 𝓤) (mem : Memory → SProp 𝓤) (run : Routine → Fun 𝓤) where
   -- the contracts that the proof cites
@@ -68,9 +69,9 @@ module _ {M : Type 1} (𝓤 : URA M) (H : Heap 𝓤) (A : Atoms 𝓤) (mem : Mem
   abbrev Sf : Contract 𝓤
   Sf = tripleOf 𝓤 H A sf.signature (sf.spec 𝓤 H A mem run)
 
-module _ {M : Type 1} (𝓤 : URA M) (H : Heap 𝓤) (A : Atoms 𝓤) (W : Given 𝓤 H A) (mem : Memory → SProp 𝓤) (run : Routine → Fun 𝓤) (κ0 κ1 κ2 : Lft) (q0 q1 q2 : Share)
-    (b0 o0 : ℕ) (γ0 : GName) (v0 : List ℕ) (b1 o1 : ℕ) (γ1 : GName) (v1 : List ℕ) (b2 o2 : ℕ) (γ2 : GName) (v2 : List Name)
-    (g0 : Room u8 (length v0)) (g1 : Room u32 (length v1)) (g2 : Room Row (length v2)) where
+module _ {M : Type 1} (𝓤 : URA M) (H : Heap 𝓤) (A : Atoms 𝓤) (W : Given 𝓤 H A) (mem : Memory → SProp 𝓤) (run : Routine → Fun 𝓤) (κ0 κ1 κ2 κ3 : Lft) (q0 q1 q2 q3 : Share)
+    (b0 o0 : ℕ) (γ0 : GName) (v0 : List ℕ) (b1 o1 : ℕ) (γ1 : GName) (v1 : List ℕ) (b2 o2 : ℕ) (γ2 : GName) (v2 : List ℕ) (b3 o3 : ℕ) (γ3 : GName) (v3 : List Name)
+    (g0 : Room u8 (length v0)) (g1 : Room u8 (length v1)) (g2 : Room u32 (length v2)) (g3 : Room Row (length v3)) where
   abbrev x0 : RefT (List ℕ)
   x0 = record { ptr = (b0, o0); name = γ0; now = v0 }
 
@@ -87,113 +88,122 @@ module _ {M : Type 1} (𝓤 : URA M) (H : Heap 𝓤) (A : Atoms 𝓤) (W : Given
   s1 = sliceVal (b1, o1) (length v1)
 
   abbrev Own1 : Fml
-  Own1 = MutSlice (named 1) κ1 u32 .own x1 (s1 ∷ [])
+  Own1 = ShrSlice (named 1) κ1 u8 .own x1 (s1 ∷ [])
 
-  abbrev x2 : RefT (List Name)
+  abbrev x2 : RefT (List ℕ)
   x2 = record { ptr = (b2, o2); name = γ2; now = v2 }
 
   abbrev s2 : Val
   s2 = sliceVal (b2, o2) (length v2)
 
   abbrev Own2 : Fml
-  Own2 = MutSlice (named 2) κ2 Row .own x2 (s2 ∷ [])
+  Own2 = MutSlice (named 2) κ2 u32 .own x2 (s2 ∷ [])
 
-  abbrev x : (RefT (List ℕ)) × ((RefT (List ℕ)) × ((RefT (List Name)) × (Unit {0})))
-  x = (x0, (x1, (x2, tt)))
+  abbrev x3 : RefT (List Name)
+  x3 = record { ptr = (b3, o3); name = γ3; now = v3 }
 
-  abbrev at : Vals f.signature (κ0, (κ1, (κ2, tt)))
-  at = (s0 ∷ [], (s1 ∷ [], (s2 ∷ [], tt)))
+  abbrev s3 : Val
+  s3 = sliceVal (b3, o3) (length v3)
+
+  abbrev Own3 : Fml
+  Own3 = MutSlice (named 3) κ3 Row .own x3 (s3 ∷ [])
+
+  abbrev x : (RefT (List ℕ)) × ((RefT (List ℕ)) × ((RefT (List ℕ)) × ((RefT (List Name)) × (Unit {0}))))
+  x = (x0, (x1, (x2, (x3, tt))))
+
+  abbrev at : Vals f.signature (κ0, (κ1, (κ2, (κ3, tt))))
+  at = (s0 ∷ [], (s1 ∷ [], (s2 ∷ [], (s3 ∷ [], tt))))
 
   abbrev Post : Val → SProp 𝓤
-  Post = walkOf 𝓤 H A f.ended stayed (f.clauses 𝓤 H A mem run) .post (((κ0, (κ1, (κ2, tt))), (q0, (q1, (q2, tt))), tt, x, at), tt)
+  Post = walkOf 𝓤 H A f.ended stayed (f.clauses 𝓤 H A mem run) .post (((κ0, (κ1, (κ2, (κ3, tt)))), (q0, (q1, (q2, (q3, tt)))), tt, x, at), tt)
 
   -- what the core and `store_first` say, and what this function says
   abbrev Said : Answer → List ℕ → Type 0
-  Said r z1 = ChecksOver v0 v1 (length v2) r z1
+  Said r z2 = ChecksOver (lent-rows-fit v1 (length v2) (length v3)) v0 v2 (length v3) r z2
 
   abbrev Stored : Answer → List Name → Type 0
-  Stored r ns = ns ≡ take (r .count) (r .rows) ++ skip (r .count) v2
+  Stored r ns = ns ≡ take (r .count) (r .rows) ++ skip (r .count) v3
 
-  all-said : (r : Answer) (z1 : List ℕ) (ns : List Name) → Said r z1 → Stored r ns → ChecksRows v0 v1 v2 (r .reply) z1 ns
-  all-said r z1 ns e h = record { reply = e .reply; words = e .words; names = h ∙ e .stores v2 refl }
+  all-said : (r : Answer) (z2 : List ℕ) (ns : List Name) → Said r z2 → Stored r ns → ChecksRows (lent-rows-fit v1 (length v2) (length v3)) v0 v2 v3 (r .reply) z2 ns
+  all-said r z2 ns e h = record { reply = e .reply; words = e .words; names = h ∙ e .stores v3 refl }
 
-  may-store : (r : Answer) (z1 : List ℕ) → Said r z1 → (r .count ≤ 256) × (r .count ≤ length v2)
-  may-store r z1 e = e .few
+  may-store : (r : Answer) (z2 : List ℕ) → Said r z2 → (r .count ≤ 256) × (r .count ≤ length v3)
+  may-store r z2 e = e .few
 
-  exits : (r : Answer) (z1 : List ℕ) (ns : List Name) → Is ReplyRow (r .reply) (reply-mach (r .reply) ∷ []) → Said r z1 → Stored r ns → length z1 ≡ length v1 → length ns ≡ length v2
-      → ent 𝓤 (⋆ 𝓤 H A ((‵ (flft κ0 q0) ⊛ ‵ (flft κ1 q1) ⊛ ‵ ftrue) ∷ (‵ (flft κ2 q2) ⊛ ‵ ftrue) ∷ ‵ Own0 ∷ ‵ (finally u32 γ1 z1) ∷ ‵ (finally Row γ2 ns) ∷ [])) (Post (reply-mach (r .reply)))
-  exits r z1 ns is e h l1 ln =
-      qed W ((‵ (flft κ0 q0) ⊛ ‵ (flft κ1 q1) ⊛ ‵ ftrue) ∷ (‵ (flft κ2 q2) ⊛ ‵ ftrue) ∷ ‵ Own0 ∷ ‵ (finally u32 γ1 z1) ∷ ‵ (finally Row γ2 ns) ∷ []) ∵
-      suffices ! _ (ends-at 𝓤 H A f.ended stayed (f.clauses 𝓤 H A mem run) W (((κ0, (κ1, (κ2, tt))), (q0, (q1, (q2, tt))), tt, x, at), tt) (reply-mach (r .reply)) (r .reply) (tt, (z1, (ns, tt))) (tt, (l1, (ln, tt)))) $
-      says ! (all-said r z1 ns e h) $ split ! $ move ! (1 ∷ []) $ split ! $ move ! (1 ∷ []) $ drop ! $ move ! (2 ∷ []) $ split ! $ join ! $ move ! (1 ∷ 0 ∷ []) $ join ! $ move ! (1 ∷ 0 ∷ []) $ join ! $ frame ! $ nothing ! $ move ! (3 ∷ 0 ∷ []) $ fjoin ! $ move ! (2 ∷ 0 ∷ []) $ fjoin ! $ move ! (1 ∷ 0 ∷ []) $ fjoin ! $ owned ! ReplyRow (Is ReplyRow) (reply-makes 𝓤 H A) (r .reply) _ is $ move ! (1 ∷ 0 ∷ []) $ done !
+  exits : (r : Answer) (z2 : List ℕ) (ns : List Name) → Is ReplyRow (r .reply) (reply-mach (r .reply) ∷ []) → Said r z2 → Stored r ns → length z2 ≡ length v2 → length ns ≡ length v3
+      → ent 𝓤 (⋆ 𝓤 H A ((‵ (flft κ0 q0) ⊛ ‵ (flft κ1 q1) ⊛ ‵ (flft κ2 q2) ⊛ ‵ ftrue) ∷ (‵ (flft κ3 q3) ⊛ ‵ ftrue) ∷ ‵ Own0 ∷ ‵ Own1 ∷ ‵ (finally u32 γ2 z2) ∷ ‵ (finally Row γ3 ns) ∷ [])) (Post (reply-mach (r .reply)))
+  exits r z2 ns is e h l2 ln =
+      qed W ((‵ (flft κ0 q0) ⊛ ‵ (flft κ1 q1) ⊛ ‵ (flft κ2 q2) ⊛ ‵ ftrue) ∷ (‵ (flft κ3 q3) ⊛ ‵ ftrue) ∷ ‵ Own0 ∷ ‵ Own1 ∷ ‵ (finally u32 γ2 z2) ∷ ‵ (finally Row γ3 ns) ∷ []) ∵
+      suffices ! _ (ends-at 𝓤 H A f.ended stayed (f.clauses 𝓤 H A mem run) W (((κ0, (κ1, (κ2, (κ3, tt)))), (q0, (q1, (q2, (q3, tt)))), tt, x, at), tt) (reply-mach (r .reply)) (r .reply) (tt, (tt, (z2, (ns, tt)))) (tt, (tt, (l2, (ln, tt))))) $
+      says ! (all-said r z2 ns e h) $ split ! $ move ! (1 ∷ []) $ split ! $ move ! (1 ∷ []) $ split ! $ move ! (1 ∷ []) $ drop ! $ move ! (3 ∷ []) $ split ! $ join ! $ move ! (1 ∷ 0 ∷ []) $ join ! $ move ! (1 ∷ 0 ∷ []) $ join ! $ move ! (1 ∷ 0 ∷ []) $ join ! $ frame ! $ nothing ! $ move ! (4 ∷ 0 ∷ []) $ fjoin ! $ move ! (3 ∷ 0 ∷ []) $ fjoin ! $ move ! (2 ∷ 0 ∷ []) $ fjoin ! $ move ! (1 ∷ 0 ∷ []) $ fjoin ! $ owned ! ReplyRow (Is ReplyRow) (reply-makes 𝓤 H A) (r .reply) _ is $ move ! (1 ∷ 0 ∷ []) $ done !
 
   -- what each callee's triple binds outside, and that the caller has what it asks
   abbrev to-ck : Ck 𝓤 H A mem run .Ghost
-  to-ck = (((κ0, (κ1, tt)), (q0, (q1, tt)), tt, (x0, (x1, (length v2, tt))), (s0 ∷ [], (s1 ∷ [], (vint w64 (length v2) ∷ [], tt)))), tt)
+  to-ck = (((κ0, (κ1, (κ2, tt))), (q0, (q1, (q2, tt))), tt, (x0, (x1, (x2, (length v3, tt)))), (s0 ∷ [], (s1 ∷ [], (s2 ∷ [], (vint w64 (length v3) ∷ [], tt))))), tt)
 
   abbrev Passed : Fml
-  Passed = owns (ShrSlice (named 0) κ0 u8 ∷ MutSlice (named 1) κ1 u32 ∷ usize ∷ []) (x0, (x1, (length v2, tt))) (s0 ∷ [], (s1 ∷ [], (vint w64 (length v2) ∷ [], tt)))
+  Passed = owns (ShrSlice (named 0) κ0 u8 ∷ ShrSlice (named 1) κ1 u8 ∷ MutSlice (named 2) κ2 u32 ∷ usize ∷ []) (x0, (x1, (x2, (length v3, tt)))) (s0 ∷ [], (s1 ∷ [], (s2 ∷ [], (vint w64 (length v3) ∷ [], tt))))
 
-  goes-ck : ent 𝓤 (sep 𝓤 (sep 𝓤 (A .lft κ0 q0) (sep 𝓤 (A .lft κ1 q1) (sem 𝓤 H A ftrue))) (sem 𝓤 H A Passed)) (Ck 𝓤 H A mem run .pre to-ck)
-  goes-ck = qed W ((‵ (flft κ0 q0) ⊛ ‵ (flft κ1 q1) ⊛ ‵ ftrue) ∷ ‵ Passed ∷ []) ∵ join ! $ nothing ! $ move ! (1 ∷ 0 ∷ []) $ done !
+  goes-ck : ent 𝓤 (sep 𝓤 (sep 𝓤 (A .lft κ0 q0) (sep 𝓤 (A .lft κ1 q1) (sep 𝓤 (A .lft κ2 q2) (sem 𝓤 H A ftrue)))) (sem 𝓤 H A Passed)) (Ck 𝓤 H A mem run .pre to-ck)
+  goes-ck = qed W ((‵ (flft κ0 q0) ⊛ ‵ (flft κ1 q1) ⊛ ‵ (flft κ2 q2) ⊛ ‵ ftrue) ∷ ‵ Passed ∷ []) ∵ join ! $ nothing ! $ move ! (1 ∷ 0 ∷ []) $ done !
 
   abbrev to-sf : Answer → Sf 𝓤 H A mem run .Ghost
-  to-sf r = (((κ2, tt), (q2, tt), tt, (x2, (r .rows, (r .count, tt))), (s2 ∷ [], (array-vals vals (r .rows), (vint w64 (r .count) ∷ [], tt)))), tt)
+  to-sf r = (((κ3, tt), (q3, tt), tt, (x3, (r .rows, (r .count, tt))), (s3 ∷ [], (array-vals vals (r .rows), (vint w64 (r .count) ∷ [], tt)))), tt)
 
-  goes-sf : (r : Answer) → Is (Array Row 256) (r .rows) (array-vals vals (r .rows)) → r .count < 2 ^ 64 → (r .count ≤ 256) × (r .count ≤ length v2)
-      → ent 𝓤 (sep 𝓤 (A .lft κ2 q2) (sem 𝓤 H A Own2)) (Sf 𝓤 H A mem run .pre (to-sf r))
+  goes-sf : (r : Answer) → Is (Array Row 256) (r .rows) (array-vals vals (r .rows)) → r .count < 2 ^ 64 → (r .count ≤ 256) × (r .count ≤ length v3)
+      → ent 𝓤 (sep 𝓤 (A .lft κ3 q3) (sem 𝓤 H A Own3)) (Sf 𝓤 H A mem run .pre (to-sf r))
   goes-sf r is fits within =
-      qed W (‵ (flft κ2 q2) ∷ ‵ Own2 ∷ []) ∵ says ! within $ nothing ! $ move ! (1 ∷ 0 ∷ []) $ join ! $ frame ! $
+      qed W (‵ (flft κ3 q3) ∷ ‵ Own3 ∷ []) ∵ says ! within $ nothing ! $ move ! (1 ∷ 0 ∷ []) $ join ! $ frame ! $
       nothing ! $ owned ! usize (Is usize) (uint-makes 𝓤 H A W w64) (r .count) _ (refl, fits) $ fjoin ! $ owned ! (Array Row 256) (Is (Array Row 256)) (array-makes 𝓤 H A W Row (makes 𝓤 H A) 256) (r .rows) _ is $ fjoin ! $
       move ! (1 ∷ 0 ∷ []) $ fjoin ! $ done !
 
   module _ (C : Calls 𝓤 H) (Λ : Loops 𝓤 H) (fm : FmC 𝓤 H (W .laws) C) (known-ck : Triple 𝓤 (C #ck) (Ck 𝓤 H A mem run)) (known-sf : Triple 𝓤 (C #sf) (Sf 𝓤 H A mem run)) where
-    walk : ent 𝓤 (onEntry 𝓤 H A f.signature (κ0, (κ1, (κ2, tt))) (q0, (q1, (q2, tt))) x at) (WpFn 𝓤 H C Λ code.function (s0 ∷ s1 ∷ s2 ∷ []) Post)
+    walk : ent 𝓤 (onEntry 𝓤 H A f.signature (κ0, (κ1, (κ2, (κ3, tt)))) (q0, (q1, (q2, (q3, tt)))) x at) (WpFn 𝓤 H C Λ code.function (s0 ∷ s1 ∷ s2 ∷ s3 ∷ []) Post)
     walk =
-        qed W ((‵ (flft κ0 q0) ⊛ ‵ (flft κ1 q1) ⊛ ‵ (flft κ2 q2) ⊛ ‵ ftrue) ∷ ‵ (owns (ShrSlice (named 0) κ0 u8 ∷ MutSlice (named 1) κ1 u32 ∷ MutSlice (named 2) κ2 Row ∷ []) x at) ∷ []) ∵ enter ! C Λ code.function (s0 ∷ s1 ∷ s2 ∷ []) _ $
-        alloc1 ! (λ l0. alloc1 ! (λ l1. alloc1 ! (λ l2. alloc1 ! (λ l3. alloc1 ! (λ l4. alloc1 ! (λ l5. alloc1 ! (λ l6. alloc1 ! (λ l7. alloc1 ! (λ l8. alloc1 ! (λ l9. alloc1 ! (λ l10. alloc0 ! $ params1 ! $
-        pass1 ! (init ! 18 refl (tt, (tt, (record { fits = g0 .0 }, tt)))) $ pass1 ! (init ! 16 refl (tt, (tt, (record { fits = g1 .0 }, tt)))) $ pass1 ! (init ! 14 refl (tt, (tt, (record { fits = g2 .0 }, tt)))) $ pass0 ! $
+        qed W ((‵ (flft κ0 q0) ⊛ ‵ (flft κ1 q1) ⊛ ‵ (flft κ2 q2) ⊛ ‵ (flft κ3 q3) ⊛ ‵ ftrue) ∷ ‵ (owns (ShrSlice (named 0) κ0 u8 ∷ ShrSlice (named 1) κ1 u8 ∷ MutSlice (named 2) κ2 u32 ∷ MutSlice (named 3) κ3 Row ∷ []) x at) ∷ []) ∵ enter ! C Λ code.function (s0 ∷ s1 ∷ s2 ∷ s3 ∷ []) _ $
+        alloc1 ! (λ l0. alloc1 ! (λ l1. alloc1 ! (λ l2. alloc1 ! (λ l3. alloc1 ! (λ l4. alloc1 ! (λ l5. alloc1 ! (λ l6. alloc1 ! (λ l7. alloc1 ! (λ l8. alloc1 ! (λ l9. alloc1 ! (λ l10. alloc1 ! (λ l11. alloc0 ! $ params1 ! $
+        pass1 ! (init ! 20 refl (tt, (tt, (record { fits = g0 .0 }, tt)))) $ pass1 ! (init ! 18 refl (tt, (tt, (record { fits = g1 .0 }, tt)))) $ pass1 ! (init ! 16 refl (tt, (tt, (record { fits = g2 .0 }, tt)))) $ pass1 ! (init ! 14 refl (tt, (tt, (record { fits = g3 .0 }, tt)))) $ pass0 ! $
         assigns ! (addr ! (from ! (fld ! refl (hop ! (look-in ! 16 (sub ! 0 refl (whole !))) (stop !))))) (from ! (stop !)) (init ! 10 refl (tt, tt)) $
-        assigns ! (agg ! (and-then ! (load ! (from ! (stop !)) (look ! 10 refl)) (and-then ! (load ! (from ! (fld ! refl (stop !))) (look-in ! 16 (sub ! 1 refl (whole !)))) (no-more !)))) (from ! (stop !)) (init ! 8 refl (tt, (tt, (record { fits = g1 .0 }, tt)))) $
-        assigns ! (of-opd ! (load ! (from ! (fld ! refl (stop !))) (look-in ! 14 (sub ! 1 refl (whole !))))) (from ! (stop !)) (init ! 6 refl (tt, record { fits = g2 .0 })) $
+        assigns ! (agg ! (and-then ! (load ! (from ! (stop !)) (look ! 10 refl)) (and-then ! (load ! (from ! (fld ! refl (stop !))) (look-in ! 16 (sub ! 1 refl (whole !)))) (no-more !)))) (from ! (stop !)) (init ! 8 refl (tt, (tt, (record { fits = g2 .0 }, tt)))) $
+        assigns ! (of-opd ! (load ! (from ! (fld ! refl (stop !))) (look-in ! 14 (sub ! 1 refl (whole !))))) (from ! (stop !)) (init ! 6 refl (tt, record { fits = g3 .0 })) $
         -- what the parameters own is taken apart; of a `&` slice it is had twice
-        move ! (23 ∷ []) $ fsplit ! $ use1 W (‵ Own0 ⊛ ‵ Own0) (shr-slice-copy 𝓤 H A W (named 0) κ0 u8 .twice x0 (s0 ∷ [])) $ split ! $ move ! (2 ∷ []) $ fsplit ! $ move ! (1 ∷ []) $ fsplit ! $ move ! (27 ∷ []) $ split ! $ move ! (1 ∷ []) $ split ! $ move ! (1 ∷ []) $ split ! $
+        move ! (25 ∷ []) $ fsplit ! $ use1 W (‵ Own0 ⊛ ‵ Own0) (shr-slice-copy 𝓤 H A W (named 0) κ0 u8 .twice x0 (s0 ∷ [])) $ split ! $ move ! (2 ∷ []) $ fsplit ! $ use1 W (‵ Own1 ⊛ ‵ Own1) (shr-slice-copy 𝓤 H A W (named 1) κ1 u8 .twice x1 (s1 ∷ [])) $ split ! $ move ! (2 ∷ []) $ fsplit ! $ move ! (1 ∷ []) $ fsplit ! $ move ! (31 ∷ []) $ split ! $ move ! (1 ∷ []) $ split ! $ move ! (1 ∷ []) $ split ! $ move ! (1 ∷ []) $ split ! $
         -- the core is called
-        nothing ! $ move ! (3 ∷ 0 ∷ []) $ join ! $ move ! (3 ∷ 0 ∷ []) $ join ! $ nothing ! $ owned ! usize (Is usize) (uint-makes 𝓤 H A W w64) (length v2) _ (refl, g2 .0) $ fjoin ! $ move ! (6 ∷ 0 ∷ []) $ fjoin ! $ move ! (6 ∷ 0 ∷ []) $ fjoin ! $ move ! (1 ∷ 0 ∷ []) $ use2 W (raw (Ck 𝓤 H A mem run .pre to-ck)) goes-ck $
-        calls-at ! fm (Ck 𝓤 H A mem run) known-ck to-ck (and-then ! (load ! (from ! (stop !)) (look ! 24 refl)) (and-then ! (load ! (from ! (stop !)) (look ! 14 refl)) (and-then ! (load ! (from ! (stop !)) (look ! 12 refl)) (no-more !)))) (λ v.
-        use1 W (later (some (λ (r : Answer). ((‵ (flft κ0 q0) ⊛ ‵ (flft κ1 q1) ⊛ ‵ ftrue) ⊛ ‵ (OutRow .own r (v ∷ []))) ⊛ raw (ensured 𝓤 H A ck.ended (ck.clauses 𝓤 H A mem run) (κ0, (κ1, tt)) (x0, (x1, (length v2, tt))) tt r)))) (id⊢ 𝓤 _) $ await ! tt $ pick ! (λ r.
-        split ! $ move ! (1 ∷ []) $ use1 W (some (λ (zs : (Unit {0}) × ((List ℕ) × ((Unit {0}) × (Unit {0})))). ‵ (lasts ck.ended (κ0, (κ1, tt)) (x0, (x1, (length v2, tt))) zs) ⊛ raw (fact 𝓤 (Said r (zs .1 .0))))) (id⊢ 𝓤 _) $ pick ! (λ zs.
-        split ! $ move ! (1 ∷ []) $ heard ! (Said r (zs .1 .0)) (λ e. fsplit ! $ drop ! $ fsplit ! $ fsplit ! $ move ! (1 ∷ []) $ feqL ! (λ l1.
+        nothing ! $ move ! (3 ∷ 0 ∷ []) $ join ! $ move ! (3 ∷ 0 ∷ []) $ join ! $ move ! (3 ∷ 0 ∷ []) $ join ! $ nothing ! $ owned ! usize (Is usize) (uint-makes 𝓤 H A W w64) (length v3) _ (refl, g3 .0) $ fjoin ! $ move ! (6 ∷ 0 ∷ []) $ fjoin ! $ move ! (6 ∷ 0 ∷ []) $ fjoin ! $ move ! (7 ∷ 0 ∷ []) $ fjoin ! $ move ! (1 ∷ 0 ∷ []) $ use2 W (raw (Ck 𝓤 H A mem run .pre to-ck)) goes-ck $
+        calls-at ! fm (Ck 𝓤 H A mem run) known-ck to-ck (and-then ! (load ! (from ! (stop !)) (look ! 27 refl)) (and-then ! (load ! (from ! (stop !)) (look ! 25 refl)) (and-then ! (load ! (from ! (stop !)) (look ! 15 refl)) (and-then ! (load ! (from ! (stop !)) (look ! 13 refl)) (no-more !))))) (λ v.
+        use1 W (later (some (λ (r : Answer). ((‵ (flft κ0 q0) ⊛ ‵ (flft κ1 q1) ⊛ ‵ (flft κ2 q2) ⊛ ‵ ftrue) ⊛ ‵ (OutRow .own r (v ∷ []))) ⊛ raw (ensured 𝓤 H A ck.ended (ck.clauses 𝓤 H A mem run) (κ0, (κ1, (κ2, tt))) (x0, (x1, (x2, (length v3, tt)))) tt r)))) (id⊢ 𝓤 _) $ await ! tt $ pick ! (λ r.
+        split ! $ move ! (1 ∷ []) $ use1 W (some (λ (zs : (Unit {0}) × ((Unit {0}) × ((List ℕ) × ((Unit {0}) × (Unit {0}))))). ‵ (lasts ck.ended (κ0, (κ1, (κ2, tt))) (x0, (x1, (x2, (length v3, tt)))) zs) ⊛ raw (fact 𝓤 (Said r (zs .1 .1 .0))))) (id⊢ 𝓤 _) $ pick ! (λ zs.
+        split ! $ move ! (1 ∷ []) $ heard ! (Said r (zs .1 .1 .0)) (λ e. fsplit ! $ drop ! $ fsplit ! $ drop ! $ fsplit ! $ fsplit ! $ move ! (1 ∷ []) $ feqL ! (λ l2.
         move ! (2 ∷ []) $ split ! $ move ! (1 ∷ []) $ peeks ! OutRow (Is OutRow) (shows 𝓤 H A OutRow) r (v ∷ []) (λ is.
-        land ! (from ! (stop !)) (init ! 21 refl (out-typed 𝓤 H A W r v is)) $ rewrite ! 21 (λ (y : Val). ‵ (fat fullShare O′.mir l4 0 y)) (ap only (out-tells r (v ∷ []) is)) refl $ drop ! $
+        land ! (from ! (stop !)) (init ! 22 refl (out-typed 𝓤 H A W r v is)) $ rewrite ! 22 (λ (y : Val). ‵ (fat fullShare O′.mir l5 0 y)) (ap only (out-tells r (v ∷ []) is)) refl $ drop ! $
         -- `store_first` is called
-        assigns ! (addr ! (from ! (fld ! refl (hop ! (look-in ! 22 (sub ! 0 refl (whole !))) (stop !))))) (from ! (stop !)) (init ! 10 refl (tt, tt)) $
-        assigns ! (agg ! (and-then ! (load ! (from ! (stop !)) (look ! 10 refl)) (and-then ! (load ! (from ! (fld ! refl (stop !))) (look-in ! 22 (sub ! 1 refl (whole !)))) (no-more !)))) (from ! (stop !)) (init ! 8 refl (tt, (tt, (record { fits = g2 .0 }, tt)))) $
-        move ! (3 ∷ 5 ∷ []) $ use2 W (raw (Sf 𝓤 H A mem run .pre (to-sf r))) (goes-sf r (rows-is r v is) (count-fits r v is) (may-store r (zs .1 .0) e)) $
-        calls-at ! fm (Sf 𝓤 H A mem run) known-sf (to-sf r) (and-then ! (load ! (from ! (stop !)) (look ! 7 refl)) (and-then ! (load ! (from ! (fld ! refl (stop !))) (look-in ! 19 (sub ! 1 refl (whole !)))) (and-then ! (load ! (from ! (fld ! refl (stop !))) (look-in ! 19 (sub ! 2 refl (whole !)))) (no-more !)))) (λ y.
-        use1 W (later (some (λ (z : Unit {0}). ((‵ (flft κ2 q2) ⊛ ‵ ftrue) ⊛ ‵ (unit .own z (y ∷ []))) ⊛ raw (ensured 𝓤 H A sf.ended (sf.clauses 𝓤 H A mem run) (κ2, tt) (x2, (r .rows, (r .count, tt))) tt z)))) (id⊢ 𝓤 _) $ await ! tt $ pick ! (λ z.
-        split ! $ move ! (1 ∷ []) $ use1 W (some (λ (ns : List Name × (Unit {0} × (Unit {0} × Unit {0}))). ‵ (lasts sf.ended (κ2, tt) (x2, (r .rows, (r .count, tt))) ns) ⊛ raw (fact 𝓤 (Stored r (ns .0))))) (id⊢ 𝓤 _) $ pick ! (λ ns.
+        assigns ! (addr ! (from ! (fld ! refl (hop ! (look-in ! 23 (sub ! 0 refl (whole !))) (stop !))))) (from ! (stop !)) (init ! 11 refl (tt, tt)) $
+        assigns ! (agg ! (and-then ! (load ! (from ! (stop !)) (look ! 11 refl)) (and-then ! (load ! (from ! (fld ! refl (stop !))) (look-in ! 23 (sub ! 1 refl (whole !)))) (no-more !)))) (from ! (stop !)) (init ! 9 refl (tt, (tt, (record { fits = g3 .0 }, tt)))) $
+        move ! (3 ∷ 5 ∷ []) $ use2 W (raw (Sf 𝓤 H A mem run .pre (to-sf r))) (goes-sf r (rows-is r v is) (count-fits r v is) (may-store r (zs .1 .1 .0) e)) $
+        calls-at ! fm (Sf 𝓤 H A mem run) known-sf (to-sf r) (and-then ! (load ! (from ! (stop !)) (look ! 8 refl)) (and-then ! (load ! (from ! (fld ! refl (stop !))) (look-in ! 20 (sub ! 1 refl (whole !)))) (and-then ! (load ! (from ! (fld ! refl (stop !))) (look-in ! 20 (sub ! 2 refl (whole !)))) (no-more !)))) (λ y.
+        use1 W (later (some (λ (z : Unit {0}). ((‵ (flft κ3 q3) ⊛ ‵ ftrue) ⊛ ‵ (unit .own z (y ∷ []))) ⊛ raw (ensured 𝓤 H A sf.ended (sf.clauses 𝓤 H A mem run) (κ3, tt) (x3, (r .rows, (r .count, tt))) tt z)))) (id⊢ 𝓤 _) $ await ! tt $ pick ! (λ z.
+        split ! $ move ! (1 ∷ []) $ use1 W (some (λ (ns : List Name × (Unit {0} × (Unit {0} × Unit {0}))). ‵ (lasts sf.ended (κ3, tt) (x3, (r .rows, (r .count, tt))) ns) ⊛ raw (fact 𝓤 (Stored r (ns .0))))) (id⊢ 𝓤 _) $ pick ! (λ ns.
         split ! $ move ! (1 ∷ []) $ heard ! (Stored r (ns .0)) (λ h. fsplit ! $ fsplit ! $ move ! (1 ∷ []) $ feqL ! (λ ln. move ! (2 ∷ []) $ split ! $ move ! (1 ∷ []) $ feqL ! (λ eu.
-        land ! (from ! (stop !)) (init ! 13 refl (subst (λ (k : Val). T (hasTy tyUnit k) × WT k) (sym (ap only eu)) (tt, tt))) $
-        assigns ! (of-opd ! (load ! (from ! (fld ! refl (stop !))) (look-in ! 21 (sub ! 0 refl (whole !))))) (from ! (stop !)) (init ! 29 refl (reply-typed 𝓤 H A W (r .reply) (reply-is r v is))) $
-        returns ! (look ! 29 refl) $ forget ! 29 refl $ forget ! 27 refl $ forget ! 25 refl $ forget ! 23 refl $ forget ! 21 refl $ forget ! 19 refl $ forget ! 17 refl $ forget ! 15 refl $ forget ! 13 refl $ forget ! 11 refl $ forget ! 9 refl $
-        move ! (29 ∷ 30 ∷ []) $ free1 ! $ move ! (27 ∷ 28 ∷ []) $ free1 ! $ move ! (25 ∷ 26 ∷ []) $ free1 ! $ move ! (23 ∷ 24 ∷ []) $ free1 ! $ move ! (21 ∷ 22 ∷ []) $ free1 ! $ move ! (19 ∷ 20 ∷ []) $ free1 ! $ move ! (17 ∷ 18 ∷ []) $ free1 ! $ move ! (15 ∷ 16 ∷ []) $ free1 ! $ move ! (13 ∷ 14 ∷ []) $ free1 ! $ move ! (11 ∷ 12 ∷ []) $ free1 ! $ move ! (9 ∷ 10 ∷ []) $ free1 ! $ free0 ! $
-        keep ! (3 ∷ 0 ∷ 8 ∷ 4 ∷ 1 ∷ []) $ by ! (exits r (zs .1 .0) (ns .0) (reply-is r v is) e h l1 ln))))))))))))))))))))))))
+        land ! (from ! (stop !)) (init ! 14 refl (subst (λ (k : Val). T (hasTy tyUnit k) × WT k) (sym (ap only eu)) (tt, tt))) $
+        assigns ! (of-opd ! (load ! (from ! (fld ! refl (stop !))) (look-in ! 22 (sub ! 0 refl (whole !))))) (from ! (stop !)) (init ! 32 refl (reply-typed 𝓤 H A W (r .reply) (reply-is r v is))) $
+        returns ! (look ! 32 refl) $ forget ! 32 refl $ forget ! 30 refl $ forget ! 28 refl $ forget ! 26 refl $ forget ! 24 refl $ forget ! 22 refl $ forget ! 20 refl $ forget ! 18 refl $ forget ! 16 refl $ forget ! 14 refl $ forget ! 12 refl $ forget ! 10 refl $
+        move ! (32 ∷ 33 ∷ []) $ free1 ! $ move ! (30 ∷ 31 ∷ []) $ free1 ! $ move ! (28 ∷ 29 ∷ []) $ free1 ! $ move ! (26 ∷ 27 ∷ []) $ free1 ! $ move ! (24 ∷ 25 ∷ []) $ free1 ! $ move ! (22 ∷ 23 ∷ []) $ free1 ! $ move ! (20 ∷ 21 ∷ []) $ free1 ! $ move ! (18 ∷ 19 ∷ []) $ free1 ! $ move ! (16 ∷ 17 ∷ []) $ free1 ! $ move ! (14 ∷ 15 ∷ []) $ free1 ! $ move ! (12 ∷ 13 ∷ []) $ free1 ! $ move ! (10 ∷ 11 ∷ []) $ free1 ! $ free0 ! $
+        keep ! (3 ∷ 0 ∷ 9 ∷ 8 ∷ 4 ∷ 1 ∷ []) $ by ! (exits r (zs .1 .1 .0) (ns .0) (reply-is r v is) e h l2 ln)))))))))))))))))))))))))
 
 module _ {M : Type 1} (𝓤 : URA M) (H : Heap 𝓤) (A : Atoms 𝓤) (W : Given 𝓤 H A) (mem : Memory → SProp 𝓤) (run : Routine → Fun 𝓤) where
   walks : (C : Calls 𝓤 H) (Λ : Loops 𝓤 H) → FmC 𝓤 H (W .laws) C → Triple 𝓤 (C #ck) (Ck 𝓤 H A mem run) → Triple 𝓤 (C #sf) (Sf 𝓤 H A mem run)
       → Walks 𝓤 H A f.ended stayed (WpFn 𝓤 H C Λ code.function) (f.clauses 𝓤 H A mem run)
   walks C Λ fm known-ck known-sf = walked 𝓤 H A f.ended stayed (f.clauses 𝓤 H A mem run) (WpFn 𝓤 H C Λ code.function)
-      (λ κs. (slice-vals, (slice-vals, (slice-vals, tt)))) (λ κs. (shr-slice-tells (named 0) (κs .0) u8, (mut-slice-tells (named 1) (κs .1 .0) u32, (mut-slice-tells (named 2) (κs .1 .1 .0) Row, tt))))
-      (λ κs qs bounds a _ are. via 𝓤 _ (fst∗ 𝓤 _ (emp 𝓤)) (walk 𝓤 H A W mem run (κs .0) (κs .1 .0) (κs .1 .1 .0) (qs .0) (qs .1 .0) (qs .1 .1 .0)
-      (a .0 .ptr .0) (a .0 .ptr .1) (a .0 .name) (a .0 .now) (a .1 .0 .ptr .0) (a .1 .0 .ptr .1) (a .1 .0 .name) (a .1 .0 .now) (a .1 .1 .0 .ptr .0) (a .1 .1 .0 .ptr .1) (a .1 .1 .0 .name) (a .1 .1 .0 .now)
-      (are .0 .0 .1) (are .1 .0 .0 .1) (are .1 .1 .0 .0 .1) C Λ fm known-ck known-sf))
+      (λ κs. (slice-vals, (slice-vals, (slice-vals, (slice-vals, tt))))) (λ κs. (shr-slice-tells (named 0) (κs .0) u8, (shr-slice-tells (named 1) (κs .1 .0) u8, (mut-slice-tells (named 2) (κs .1 .1 .0) u32, (mut-slice-tells (named 3) (κs .1 .1 .1 .0) Row, tt)))))
+      (λ κs qs bounds a _ are. via 𝓤 _ (fst∗ 𝓤 _ (emp 𝓤)) (walk 𝓤 H A W mem run (κs .0) (κs .1 .0) (κs .1 .1 .0) (κs .1 .1 .1 .0) (qs .0) (qs .1 .0) (qs .1 .1 .0) (qs .1 .1 .1 .0)
+      (a .0 .ptr .0) (a .0 .ptr .1) (a .0 .name) (a .0 .now) (a .1 .0 .ptr .0) (a .1 .0 .ptr .1) (a .1 .0 .name) (a .1 .0 .now) (a .1 .1 .0 .ptr .0) (a .1 .1 .0 .ptr .1) (a .1 .1 .0 .name) (a .1 .1 .0 .now) (a .1 .1 .1 .0 .ptr .0) (a .1 .1 .1 .0 .ptr .1) (a .1 .1 .1 .0 .name) (a .1 .1 .1 .0 .now)
+      (are .0 .0 .1) (are .1 .0 .0 .1) (are .1 .1 .0 .0 .1) (are .1 .1 .1 .0 .0 .1) C Λ fm known-ck known-sf))
 
 meets : {M : Type 1} (𝓤 : URA M) (H : Heap 𝓤) (A : Atoms 𝓤) → Given 𝓤 H A → (mem : Memory → SProp 𝓤) (run : Routine → Fun 𝓤) (𝓣 : Tables 𝓤 H)
     → Triple 𝓤 (𝓣 .C #ck) (Ck 𝓤 H A mem run) → Triple 𝓤 (𝓣 .C #sf) (Sf 𝓤 H A mem run)
     → Meets 𝓤 H A f.signature (WpFn 𝓤 H (𝓣 .C) (𝓣 .Λ) code.function) (f.spec 𝓤 H A mem run)
 meets 𝓤 H A W mem run 𝓣 known-ck known-sf =
-    walk-meets 𝓤 H A f.ended stayed W (goes-none-slice 𝓤 H A W 3 (0 ∷ []) tt (plain (λ _. u8)) yes, (goes-gave-slice 𝓤 H A W 3 1 tt (plain (λ _. u32)), (goes-gave-slice 𝓤 H A W 3 2 tt (plain (λ _. Row)), tt)))
+    walk-meets 𝓤 H A f.ended stayed W (goes-none-slice 𝓤 H A W 4 (0 ∷ []) tt (plain (λ _. u8)) yes, (goes-none-slice 𝓤 H A W 4 (1 ∷ []) tt (plain (λ _. u8)) yes, (goes-gave-slice 𝓤 H A W 4 2 tt (plain (λ _. u32)), (goes-gave-slice 𝓤 H A W 4 3 tt (plain (λ _. Row)), tt))))
     (f.clauses 𝓤 H A mem run) (WpFn 𝓤 H (𝓣 .C) (𝓣 .Λ) code.function) (WpFn-mono 𝓤 H (W .laws) 𝓣 code.function) (walks 𝓤 H A W mem run (𝓣 .C) (𝓣 .Λ) (fmOf 𝓤 H (W .laws) 𝓣) known-ck known-sf)
 
 pub check-spec : {M : Type 1} → stated.statement M

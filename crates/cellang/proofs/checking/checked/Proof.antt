@@ -1,13 +1,18 @@
+use mathlib.Core.Path.{ap, sym, _∙_}
+use mathlib.Core.Bool.{not}
 use borrow.Author.Needs.{needs}
 use Rattle.cellang.proofs.StoreLaws.{no-row-check, row-check}
 use Rattle.cellang.proofs.checking.checked.Statement.{statement}
 use Rattle.cellang.proofs.checking.checked.Tie as tie
 
+row-fits-requires : tie.Need-row-fits-requires
+row-fits-requires c κs = search needs
+
 rows-of-requires : tie.Need-rows-of-requires
 rows-of-requires c κs = search needs
 
 returns : tie.Need-returns
-returns c = no-row-check _ _ _ _ (c .before .before .if1 .taken)
+returns c = no-row-check (c .before .before .before .before .before .before .before .args .list .now) _ _ _ _ (ap not (sym (c .before .before .before .row-fits .ensures)) ∙ c .before .before .if1 .taken)
 
 stored-requires : tie.Need-stored-requires
 stored-requires c κs = search needs
@@ -26,14 +31,15 @@ same-length c = search needs
 
 returns-2 : tie.Need-returns-2
 returns-2 c =
-    row-check _ _ _ _ _ (c .before .before .before .before .before .check .result) _ _ (c .before .before .before .before .before .before .before .before .before .if1 .left)
-    (c .before .before .before .before .before .before .before .before .stored .ensures)
-    (c .before .before .before .before .before .check .ensures) (c .rows-of2 .ensures)
+    let k = c .before .before .before .before .before in
+    let t = k .before .before .before .before in
+    row-check (t .before .before .before .before .before .args .list .now) _ _ _ _ _ (k .check .result) _ _ (ap not (sym (t .before .row-fits .ensures)) ∙ t .if1 .left) (k .before .before .before .stored .ensures) (k .check .ensures) (c .rows-of2 .ensures)
 
 pub checked-spec : {M : Type 1} → statement M
 checked-spec =
     tie.close
     (tie.spec
+    row-fits-requires
     rows-of-requires
     returns
     stored-requires

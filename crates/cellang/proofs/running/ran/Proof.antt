@@ -1,14 +1,21 @@
+use mathlib.Core.Path.{ap, sym, _∙_}
+use mathlib.Core.Bool.{not}
 use borrow.Author.Needs.{needs}
 use Rattle.runner.proofs.RunLaws.{read-times}
 use Rattle.cellang.proofs.StoreLaws.{no-row-run, row-run}
 use Rattle.cellang.proofs.running.ran.Statement.{statement}
 use Rattle.cellang.proofs.running.ran.Tie as tie
 
+row-fits-requires : tie.Need-row-fits-requires
+row-fits-requires c κs = search needs
+
 turned-away-requires : tie.Need-turned-away-requires
 turned-away-requires c κs = search needs
 
 returns : tie.Need-returns
-returns c = let a = c .before .before .before .before .before .before .args in no-row-run _ _ _ _ _ _ _ _ (a .start) (a .steps) _ (c .before .if1 .taken) (c .turned-away .ensures)
+returns c =
+    let a = c .before .before .before .before .before .before .before .before .args in
+    no-row-run _ _ (a .list .now) _ _ _ _ _ _ (a .start) (a .steps) _ (ap not (sym (c .before .before .row-fits .ensures)) ∙ c .before .if1 .taken) (c .turned-away .ensures)
 
 stored-requires : tie.Need-stored-requires
 stored-requires c κs = search needs
@@ -36,14 +43,17 @@ same-length-4 c = search needs
 
 returns-2 : tie.Need-returns-2
 returns-2 c =
-    let s = c .before .before .before .before .before .before .before .before .before .before .before .before .before .before .before .before .before .before .before .before .before in
-    row-run _ _ _ _ _ _ _ _ (s .args .start) (s .args .steps) _ _ _ _ _ _ _ _ (c .before .before .before .before .before .before .before .before .before .before .before .before .before .before .before .before .if1 .left) (c .before .before .before .before .before .before .before .before .before .before .before .before .before .before .before .stored .ensures)
-    (read-times (s .fits .start) (s .fits .steps) (c .before .before .before .before .before .before .before .before .before .run .ensures .0)) (c .rows-of .ensures)
+    let r = c .before .before .before .before .before .before .before .before .before in
+    let t = r .before .before .before .before .before .before .before in
+    let s = t .before .before .before .before .before .before .before in
+    row-run _ _ (s .args .list .now) _ _ _ _ _ _ (s .args .start) (s .args .steps) _ _ _ _ _ _ _ _ (ap not (sym (t .before .row-fits .ensures)) ∙ t .if1 .left) (r .before .before .before .before .before .before .stored .ensures)
+    (read-times (s .fits .start) (s .fits .steps) (r .run .ensures .0)) (c .rows-of .ensures)
 
 pub ran-spec : {M : Type 1} → statement M
 ran-spec =
     tie.close
     (tie.spec
+    row-fits-requires
     turned-away-requires
     returns
     stored-requires

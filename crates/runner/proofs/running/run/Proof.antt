@@ -1,12 +1,21 @@
-use lib.ListN.{length}
-use Rattle.services.specs.Calls.{flat-names, memory, lent}
+use mathlib.Core.Path.{refl}
 use borrow.Author.Needs.{needs}
-use Rattle.runner.proofs.RunLaws.{closed-run, run-ready, run-done, cast-start, cast-steps, read-times, run-agrees, run-ranges}
+use Rattle.services.specs.Calls.{flat-names, memory, lent}
+use Rattle.runner.proofs.RunLaws.{unlisted, listed, read-times, run-agrees, run-ranges}
 use Rattle.runner.proofs.running.run.Statement.{statement}
 use Rattle.runner.proofs.running.run.Tie as tie
 
-open-run-requires : tie.Need-open-run-requires
-open-run-requires c κs = search needs
+is-built-in-requires : tie.Need-is-built-in-requires
+is-built-in-requires c κs = search needs
+
+returns : tie.Need-returns
+returns c =
+    let s = c .before .before .before .before .before .before .before .before in
+    let ran = unlisted (s .args .list .now) (c .before .is-built-in .ensures) (s .args .quiet) (lent _ _ _ (memory _ _ _ (s .args .scratch .now) (s .args .marks .now)) (s .args .start) (s .args .steps)) refl (c .if1 .taken) in
+    (ran, (run-agrees flat-names (s .args .quiet) _ ran, run-ranges flat-names _ _ ran))
+
+run-listed-requires : tie.Need-run-listed-requires
+run-listed-requires c κs = search needs
 
 same-length : tie.Need-same-length
 same-length c = search needs
@@ -17,86 +26,21 @@ same-length-2 c = search needs
 same-length-3 : tie.Need-same-length-3
 same-length-3 c = search needs
 
-returns : tie.Need-returns
-returns c =
-    let o = c .before .before .before .before .before .before in
-    let s = o .before .before .before .before .before .before .before .before .before in
-    let ran = read-times (s .fits .start) (s .fits .steps) (closed-run (lent _ _ (memory _ _ _ (s .args .scratch .now) (s .args .marks .now)) _ _) (o .open-run .ensures) (s .args .quiet) (c .if1 .taken)) in
-    (ran, run-agrees flat-names (s .args .quiet) (lent _ _ (memory _ _ _ (s .args .scratch .now) (s .args .marks .now)) _ _) ran, run-ranges flat-names _ (lent _ _ (memory _ _ _ (s .args .scratch .now) (s .args .marks .now)) _ _) ran)
-
-all-open-requires : tie.Need-all-open-requires
-all-open-requires c κs = search needs
-
-cast-run-steps : tie.Need-cast-run-steps
-cast-run-steps c =
-    let t = c .before .before .before .before .before .before .before in
-    let o = t .before .before .before .before .before .before in
-    let s = o .before .before .before .before .before .before .before .before .before in
-    cast-start (lent _ _ (memory _ _ _ (s .args .scratch .now) (s .args .marks .now)) _ _) (o .open-run .ensures) (s .args .quiet) (t .if1 .left)
-
-cast-run-steps-2 : tie.Need-cast-run-steps-2
-cast-run-steps-2 c =
-    let t = c .before .before .before .before .before .before .before in
-    let o = t .before .before .before .before .before .before in
-    let s = o .before .before .before .before .before .before .before .before .before in
-    cast-steps (lent _ _ (memory _ _ _ (s .args .scratch .now) (s .args .marks .now)) _ _) (o .open-run .ensures) (s .args .quiet) (t .if1 .left)
-
-run-steps-requires : tie.Need-run-steps-requires
-run-steps-requires c κs =
-    let t = c .before .before .before .before .before .before .before in
-    let o = t .before .before .before .before .before .before in
-    let s = o .before .before .before .before .before .before .before .before .before in
-    run-ready (lent _ _ (memory _ _ _ (s .args .scratch .now) (s .args .marks .now)) _ _) (o .open-run .ensures) (s .args .quiet) (t .if1 .left)
-
-clear-numbers-requires : tie.Need-clear-numbers-requires
-clear-numbers-requires c κs = search needs
-
-clear-marks-requires : tie.Need-clear-marks-requires
-clear-marks-requires c κs = search needs
-
 same-length-4 : tie.Need-same-length-4
 same-length-4 c = search needs
 
 same-length-5 : tie.Need-same-length-5
 same-length-5 c = search needs
 
-same-length-6 : tie.Need-same-length-6
-same-length-6 c = search needs
-
-same-length-7 : tie.Need-same-length-7
-same-length-7 c = search needs
-
-same-length-8 : tie.Need-same-length-8
-same-length-8 c = search needs
-
 returns-2 : tie.Need-returns-2
 returns-2 c =
-    let r = c .before .before .before .before .before .before .before .before .before .before .before in
-    let s = r .before .before .before .before .before .before .before .before .before .before .before .before .before .before .before .before .before .before .before .before .before .before .before in
-    let ran =
-    read-times (s .fits .start) (s .fits .steps)
-    (run-done (lent _ _ (memory _ _ _ (s .args .scratch .now) (s .args .marks .now)) _ _) (r .before .before .before .before .before .before .before .before .before .before .before .before .before .before .open-run .ensures) (s .args .quiet) (r .before .before .before .before .before .before .before .before .if1 .left) (length (r .run-steps .last .1 .1 .1 .1 .1 .1 .0))
-    (length (r .run-steps .last .1 .1 .1 .1 .1 .1 .1 .0)) (r .before .before .before .before .before .all-open .ensures) (r .run-steps .ensures) (c .before .before .before .before .before .clear-numbers .ensures) (search needs) (c .before .before .clear-marks .ensures) (search needs)) in
-    (ran, run-agrees flat-names (s .args .quiet) (lent _ _ (memory _ _ _ (s .args .scratch .now) (s .args .marks .now)) _ _) ran, run-ranges flat-names _ (lent _ _ (memory _ _ _ (s .args .scratch .now) (s .args .marks .now)) _ _) ran)
+    let r = c .before .before .before .before .before .before .before .before in
+    let t = r .before .before .before .before .before .before in
+    let s = t .before .before .before .before .before .before .before .before in
+    let ran = read-times (s .fits .start) (s .fits .steps) (listed (s .args .list .now) (t .before .is-built-in .ensures) (t .if1 .left) (r .run-listed .ensures)) in
+    (ran, (run-agrees flat-names (s .args .quiet) _ ran, run-ranges flat-names _ _ ran))
 
 pub run-spec : {M : Type 1} → statement M
 run-spec =
     tie.close
-    (tie.spec
-    open-run-requires
-    same-length
-    same-length-2
-    same-length-3
-    returns
-    all-open-requires
-    cast-run-steps
-    cast-run-steps-2
-    run-steps-requires
-    clear-numbers-requires
-    clear-marks-requires
-    same-length-4
-    same-length-5
-    same-length-6
-    same-length-7
-    same-length-8
-    returns-2)
+    (tie.spec is-built-in-requires returns run-listed-requires same-length same-length-2 same-length-3 same-length-4 same-length-5 returns-2)

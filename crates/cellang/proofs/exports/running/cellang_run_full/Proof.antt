@@ -8,6 +8,9 @@ use Rattle.cellang.proofs.exports.running.cellang_run_full.Tie as tie
 run-requires : tie.Need-run-requires
 run-requires c κs = search needs
 
+told-part-requires : tie.Need-told-part-requires
+told-part-requires c κs = search needs
+
 put-report-requires : tie.Need-put-report-requires
 put-report-requires c κs = search needs
 
@@ -31,14 +34,17 @@ same-length-6 c = search needs
 
 returns : tie.Need-returns
 returns c =
-    let s = c .before .before .before .before .before .before .before .before .before .before .before .before .before .before .before .before .before .before .before .before .before .before .before .before in
-    (tells-run (s .fits .start) (s .fits .steps) (c .before .before .before .before .before .before .before .before .before .before .before .before .run .ensures .0) (c .before .before .put-report .ensures), run-ranges flat-names _ _ (read-times (s .fits .start) (s .fits .steps) (c .before .before .before .before .before .before .before .before .before .before .before .before .run .ensures .0)))
+    let t = c .before .before .before .before in
+    let r = t .before .before .before .before .before .before .before .before .before in
+    let s = r .before .before .before .before .before .before .before .before .before .before .before .before .before in
+    (tells-run (s .fits .start) (s .fits .steps) (r .run .ensures .0) (t .told-part .ensures) (c .before .before .put-report .ensures), run-ranges flat-names _ _ (read-times (s .fits .start) (s .fits .steps) (r .run .ensures .0)))
 
 pub cellang-run-full-spec : {M : Type 1} → statement M
 cellang-run-full-spec =
     tie.close
     (tie.spec
     run-requires
+    told-part-requires
     put-report-requires
     same-length
     same-length-2

@@ -1,2 +1,0 @@
--- What the leaves promise.
-pub mod Fitting

@@ -1,0 +1,102 @@
+use lib.ListN.{length}
+use Rattle.token.specs.Lexeme.{built-in-names}
+use Rattle.services.specs.Calls.{memory, lent}
+use borrow.Author.Needs.{needs}
+use Rattle.runner.proofs.RunLaws.{closed-run, run-ready, run-done, cast-start, cast-steps, read-times, the-list}
+use Rattle.runner.proofs.running.run_listed.Statement.{statement}
+use Rattle.runner.proofs.running.run_listed.Tie as tie
+
+open-run-requires : tie.Need-open-run-requires
+open-run-requires c κs = search needs
+
+same-length : tie.Need-same-length
+same-length c = search needs
+
+same-length-2 : tie.Need-same-length-2
+same-length-2 c = search needs
+
+same-length-3 : tie.Need-same-length-3
+same-length-3 c = search needs
+
+returns : tie.Need-returns
+returns c =
+    let o = c .before .before .before .before .before .before in
+    let s = o .before .before .before .before .before .before .before .before .before in
+    record { each = λ list e. read-times (s .fits .start) (s .fits .steps) (closed-run (lent _ list _ (memory _ _ _ (s .args .scratch .now) (s .args .marks .now)) _ _) e (o .open-run .ensures) (s .args .quiet) (c .if1 .taken)) }
+
+all-open-requires : tie.Need-all-open-requires
+all-open-requires c κs = search needs
+
+cast-run-steps : tie.Need-cast-run-steps
+cast-run-steps c =
+    let t = c .before .before .before .before .before .before .before in
+    let o = t .before .before .before .before .before .before in
+    let s = o .before .before .before .before .before .before .before .before .before in
+    cast-start (lent _ built-in-names _ (memory _ _ _ (s .args .scratch .now) (s .args .marks .now)) _ _) the-list (o .open-run .ensures) (s .args .quiet) (t .if1 .left)
+
+cast-run-steps-2 : tie.Need-cast-run-steps-2
+cast-run-steps-2 c =
+    let t = c .before .before .before .before .before .before .before in
+    let o = t .before .before .before .before .before .before in
+    let s = o .before .before .before .before .before .before .before .before .before in
+    cast-steps (lent _ built-in-names _ (memory _ _ _ (s .args .scratch .now) (s .args .marks .now)) _ _) the-list (o .open-run .ensures) (s .args .quiet) (t .if1 .left)
+
+run-steps-requires : tie.Need-run-steps-requires
+run-steps-requires c κs =
+    let t = c .before .before .before .before .before .before .before in
+    let o = t .before .before .before .before .before .before in
+    let s = o .before .before .before .before .before .before .before .before .before in
+    run-ready (lent _ built-in-names _ (memory _ _ _ (s .args .scratch .now) (s .args .marks .now)) _ _) the-list (o .open-run .ensures) (s .args .quiet) (t .if1 .left)
+
+clear-numbers-requires : tie.Need-clear-numbers-requires
+clear-numbers-requires c κs = search needs
+
+clear-marks-requires : tie.Need-clear-marks-requires
+clear-marks-requires c κs = search needs
+
+same-length-4 : tie.Need-same-length-4
+same-length-4 c = search needs
+
+same-length-5 : tie.Need-same-length-5
+same-length-5 c = search needs
+
+same-length-6 : tie.Need-same-length-6
+same-length-6 c = search needs
+
+same-length-7 : tie.Need-same-length-7
+same-length-7 c = search needs
+
+same-length-8 : tie.Need-same-length-8
+same-length-8 c = search needs
+
+returns-2 : tie.Need-returns-2
+returns-2 c =
+    let r = c .before .before .before .before .before .before .before .before .before .before .before in
+    let s = r .before .before .before .before .before .before .before .before .before .before .before .before .before .before .before .before .before .before .before .before .before .before .before in
+    record {
+      each = λ list e. read-times (s .fits .start) (s .fits .steps)
+          (run-done (lent _ list _ (memory _ _ _ (s .args .scratch .now) (s .args .marks .now)) _ _) e (r .before .before .before .before .before .before .before .before .before .before .before .before .before .before .open-run .ensures) (s .args .quiet) (r .before .before .before .before .before .before .before .before .if1 .left) (length (r .run-steps .last .1 .1 .1 .1 .1 .1 .0))
+          (length (r .run-steps .last .1 .1 .1 .1 .1 .1 .1 .0)) (r .before .before .before .before .before .all-open .ensures) (r .run-steps .ensures) (c .before .before .before .before .before .clear-numbers .ensures) (search needs) (c .before .before .clear-marks .ensures) (search needs));
+    }
+
+pub run-listed-spec : {M : Type 1} → statement M
+run-listed-spec =
+    tie.close
+    (tie.spec
+    open-run-requires
+    same-length
+    same-length-2
+    same-length-3
+    returns
+    all-open-requires
+    cast-run-steps
+    cast-run-steps-2
+    run-steps-requires
+    clear-numbers-requires
+    clear-marks-requires
+    same-length-4
+    same-length-5
+    same-length-6
+    same-length-7
+    same-length-8
+    returns-2)
