@@ -23,7 +23,7 @@ extern "C" {
 
 #define CELLANG_MOST_SOURCE 65535       /* bytes of a source */
 #define CELLANG_MOST_TOKENS 4096        /* tokens of a source */
-#define CELLANG_MOST_NAMES 256          /* names declared in a source */
+#define CELLANG_MOST_NAMES 256          /* names in use at one time */
 #define CELLANG_MOST_FIELDS 8           /* fields of a cell */
 #define CELLANG_MOST_DIMENSIONS 3       /* dimensions */
 #define CELLANG_MOST_SIZE 4096          /* cells along a dimension */
@@ -35,7 +35,8 @@ extern "C" {
 #define CELLANG_WORDS 16384     /* exact length of the word table: four words a token */
 #define CELLANG_NAME_WORDS 1024 /* exact length of the name list: four words a name */
 
-/* The words of a name record; record k has words 4k to 4k+3. Names stand in order of declaration. */
+/* The words of a name record; record k has words 4k to 4k+3. Names stand in order of declaration; an index variable has no record
+ * once its loop has ended, so that none is left. */
 enum cellang_name_word {
     CELLANG_NAME_START = 0,  /* the place of its first byte */
     CELLANG_NAME_LENGTH = 1, /* its length in bytes */
@@ -50,7 +51,7 @@ enum cellang_kind {
     CELLANG_ARRAY_CONSTANT = 2, /* how many values it has */
     CELLANG_FIELD = 3,          /* the field's number, from 0 */
     CELLANG_VARIABLE = 4,       /* 0 */
-    CELLANG_INDEX = 5,          /* 0 */
+    CELLANG_INDEX = 5,          /* in no list that is left */
     CELLANG_CONST_FIELD = 6     /* the field's number, from 0 */
 };
 
@@ -88,7 +89,7 @@ enum cellang_reply {
                                            indices; at that token or in its stead */
     CELLANG_RELATION_ON_RELATION = 13,  /* a relation on a bare relation; at the second operator */
     CELLANG_NESTED_TOO_DEEP = 14,       /* the 17th nesting; at the opening token */
-    CELLANG_TOO_MANY_NAMES = 15,        /* the 257th name; at it */
+    CELLANG_TOO_MANY_NAMES = 15,        /* a name declared where 256 are in use; at it */
     CELLANG_BAD_DIMENSIONS = 40,        /* dimensions not 1 to 3; at the constant */
     CELLANG_RANGE_REVERSED = 41,        /* a range reversed; at the upper bound's constant */
     CELLANG_LOOP_TOO_LONG = 42,         /* a forall range of more than 4,096 values; at the upper bound's constant */

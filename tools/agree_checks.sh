@@ -1,5 +1,6 @@
 #!/usr/bin/env bash
-# Compares the proved checker with the second program on generated sources, and says how many agreed.
+# Compares the proved checker with the second program on generated sources, and says how many agreed: the reply, and the sums of every word of the
+# word table and of the name list, each word times its number (crates/check_vectors).
 #
 #     tools/agree_checks.sh SEED COUNT
 #

@@ -210,9 +210,9 @@ static void lengths(void) {
 }
 
 static void name_list(void) {
-    const char *source = "const low := -3 1 dimensions of a of low..9 const b of 0..1 end x := 1";
+    const char *source = "const low := -3 1 dimensions of a of low..9 const b of 0..1 end forall i : 0..1 x := i end";
     const uint32_t expected[] = {6,  3, CELLANG_CONSTANT, (uint32_t)-3, 32, 1, CELLANG_FIELD,    0,
-                                 50, 1, CELLANG_CONST_FIELD, 1,         64, 1, CELLANG_VARIABLE, 0};
+                                 50, 1, CELLANG_CONST_FIELD, 1,         80, 1, CELLANG_VARIABLE, 0};
     const size_t told = sizeof expected / sizeof *expected;
     expect_check("names", source, CELLANG_DONE, 0);
     expect(memcmp(names, expected, sizeof expected) == 0, "name records");

@@ -141,9 +141,9 @@ fn run_line(outcome: &Outcome) -> String {
     line
 }
 
-/// The line that answers a stored check: behind the number and place of a
-/// refusal stand the numbers of its spelling.
-pub fn check_reply(source: &[u8]) -> String {
+/// The line of a reply: behind the number and place of a refusal stand the
+/// numbers of its spelling.
+fn check_reply(source: &[u8]) -> String {
     let reply = check(source).reply;
     let line = check_line(reply);
     if reply.number == 0 {
@@ -151,6 +151,27 @@ pub fn check_reply(source: &[u8]) -> String {
     }
     let [stands, start, length] = spelling(source, reply).numbers();
     format!("{} {stands} {start} {length}\n", line.trim_end())
+}
+
+/// The sum of a row of words, each times its number in the row, from 1.
+fn sum(words: impl Iterator<Item = u32>) -> u64 {
+    words
+        .zip(1..)
+        .map(|(word, number)| u64::from(word) * number)
+        .sum()
+}
+
+/// The answer to a check: the line of the reply, and a line with the sums of
+/// the word table and of the name list, which are zero of a refused source.
+pub fn check_answer(source: &[u8]) -> String {
+    let line = check_reply(source);
+    let Some(program) = check(source).program else {
+        return line + "0 0\n";
+    };
+    let table = sum(program.table.into_iter().flatten());
+    let names = program.names.iter();
+    let names = sum(names.flat_map(|name| [name.start, name.length, name.kind, name.value as u32]));
+    format!("{line}{table} {names}\n")
 }
 
 fn put_u32(out: &mut Vec<u8>, value: u32) {

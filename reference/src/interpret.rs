@@ -74,7 +74,7 @@ struct Cell<'a> {
     /// The cell's index in each dimension, and its number.
     index: [i32; 3],
     number: usize,
-    slots: [i32; MAX_NAMES],
+    slots: Vec<i32>,
     next: [i32; MAX_FIELDS],
 }
 
@@ -202,7 +202,7 @@ pub fn step(
         time,
         index: [0; 3],
         number: 0,
-        slots: [0; MAX_NAMES],
+        slots: vec![0; program.slots],
         next: [0; MAX_FIELDS],
     };
     for (dimension, &size) in shape.iter().enumerate() {
@@ -211,7 +211,7 @@ pub fn step(
     let cells = old.len() / fields;
     for number in 0..cells {
         cell.number = number;
-        cell.slots[..program.slots].fill(0);
+        cell.slots.fill(0);
         let own = number * fields..(number + 1) * fields;
         cell.next[..fields].copy_from_slice(&old[own.clone()]);
         if let Err(fault) = cell.run(&program.statements) {

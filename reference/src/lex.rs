@@ -72,6 +72,24 @@ pub struct Token {
     pub length: u32,
 }
 
+/// The number of a token's kind in the word table (docs/LAYOUT.md).
+pub fn kind_number(kind: Kind, spelling: &[u8]) -> u32 {
+    match kind {
+        Kind::Stop(_) => 0,
+        Kind::Name if spelling.eq_ignore_ascii_case(b"cell") => 3,
+        Kind::Name if spelling.eq_ignore_ascii_case(b"time") => 4,
+        Kind::Name => 1,
+        Kind::Literal(_) => 2,
+        Kind::Keyword(keyword) => 5 + keyword as u32,
+        Kind::Symbol(Symbol::Assign) => 128,
+        Kind::Symbol(Symbol::DotDot) => 129,
+        Kind::Symbol(Symbol::LessEqual) => 130,
+        Kind::Symbol(Symbol::GreaterEqual) => 131,
+        Kind::Symbol(Symbol::NotEqual) => 132,
+        Kind::Symbol(_) => u32::from(spelling[0]),
+    }
+}
+
 fn is_separator(byte: u8) -> bool {
     matches!(byte, b' ' | 9..=13)
 }

@@ -193,6 +193,7 @@ pub fn name_counts() -> Vec<Vec<u8>> {
             .collect();
         row.push(format!("{arrays}{S}").into_bytes());
     }
+    row.extend(index_counts());
     let all = variables(full);
     for last in [
         "w := 1",
@@ -229,6 +230,109 @@ pub fn name_counts() -> Vec<Vec<u8>> {
         row.push(format!("{}1 dimensions of {fields}", constants(count)).into_bytes());
     }
     row
+}
+
+/// Sources in which records of indices are freed and taken again.
+pub fn index_counts() -> Vec<Vec<u8>> {
+    let full = MAX_NAMES;
+    let mut row = Vec::new();
+    // Short loops in a row, of one name and of many, beside nothing, and beside
+    // names that leave room for one index, for two, and for none.
+    row.push(with_s(&"forall i : 0..1 x := i end ".repeat(full + 1)));
+    let loops: String = (0..=full)
+        .map(|i| format!("forall i{i}:0..1 end "))
+        .collect();
+    row.push(with_s(&loops));
+    for names in [full - 2, full - 1, full] {
+        row.push(with_s(&format!("{}{loops}", constants(names))));
+        row.push(with_s(&format!("{loops}{}", variables(names))));
+    }
+    // All names at once, inside nested loops.
+    for depth in [1, 16] {
+        let open: String = (0..depth).map(|i| format!("forall i{i}:0..1 ")).collect();
+        let close = "end ".repeat(depth);
+        for names in [full - depth - 1, full - depth, full - depth + 1] {
+            let inner = variables(names);
+            row.push(with_s(&format!("{open}{inner}{close}")));
+            row.push(with_s(&format!("{open}{inner}{close}w := v0 z := v1")));
+            row.push(with_s(&format!("{inner}{open}cell := i0 {close}w := 1")));
+        }
+    }
+    // Declared inside a loop whose index record they outlive.
+    for inner in [
+        "x := i",
+        "const k := -1",
+        "const a[] for 2 := 5, 6",
+        "x := i const k := 7 y := x + k const a[] for 1 := k z := a[0] + y",
+        "forall j : 0..1 x := i + j end y := x",
+        "forall j : 0..1 x := 1 end forall j : 0..1 y := x + j end",
+    ] {
+        row.push(with_s(&format!(
+            "u := 1 forall i : 0..1 {inner} v := u end w := v cell := w"
+        )));
+        row.push(with_s(&format!("forall i : 0..1 {inner} end cell := x")));
+        row.push(with_s(&format!("forall i : 0..1 {inner} end cell := y")));
+        row.push(with_s(&format!("forall i : 0..1 {inner} end cell := k")));
+        row.push(with_s(&format!("forall i : 0..1 {inner} end cell := a[0]")));
+        row.push(with_s(&format!("forall i : 0..1 {inner} end cell := i")));
+    }
+    // A name reused: as an index and then otherwise, and the other way.
+    for text in [
+        "forall i : 0..1 end i := 3 cell := i",
+        "forall i : 0..1 x := i end i := x forall j : 0..1 i := i + j end",
+        "forall i : 0..1 end const i := 3 cell := [i]",
+        "forall i : 0..1 end const i[] for 1 := 1 cell := i[0]",
+        "i := 1 forall i : 0..1 end",
+        "const i := 1 forall i : 0..1 end",
+        "forall i : 0..1 i := 1 end",
+        "forall i : 0..1 const i := 1 end",
+        "forall i : 0..1 forall i : 0..1 end end",
+        "forall i : 0..1 forall j : 0..1 end j := i end i := j",
+        "forall i : 0..1 forall j : 0..1 end forall j : 0..1 cell := [j] end end",
+        "forall i : 0..1 cell := [i] end forall j : 0..1 cell := [i] end",
+    ] {
+        row.push(with_s(text));
+    }
+    // The last record, on both sides.
+    for (names, text) in [
+        (full - 1, "forall i : 0..1 x := 1 end"),
+        (full - 1, "forall i : 0..1 end x := 1"),
+        (full - 1, "forall i : 0..1 end x := 1 y := 1"),
+        (full - 1, "x := 1 forall i : 0..1 end"),
+        (full, "forall i : 0..1 end"),
+        (full - 2, "forall i : 0..1 forall j : 0..1 end k := 1 end"),
+        (full - 2, "forall i : 0..1 forall j : 0..1 k := 1 end end"),
+        (full - 2, "forall i : 0..1 k := 1 end forall j : 0..1 end"),
+        (full - 2, "forall i : 0..1 k := 1 forall j : 0..1 end end"),
+        (full - 2, "forall i : 0..1 k := 1 end l := 1 cell := l"),
+        (full - 2, "forall i : 0..1 k := 1 end l := 1 m := 1"),
+    ] {
+        row.push(with_s(&format!("{}{text}", constants(names))));
+    }
+    row
+}
+
+/// Names up to about the greatest number, with loops that take and free some.
+fn near_full(random: &mut Random) -> String {
+    let mut text = constants(MAX_NAMES - random.below(8));
+    let mut depth = 0;
+    for _ in 0..random.below(30) {
+        let number = random.below(6);
+        match random.below(9) {
+            0..=2 if depth < 16 => {
+                depth += 1;
+                text += &format!("forall i{number} : 0..1 ");
+            }
+            3..=5 if depth > 0 => {
+                depth -= 1;
+                text += "end ";
+            }
+            6 => text += &format!("const d{number} := 1 "),
+            7 => text += &format!("cell := i{number} "),
+            _ => text += &format!("i{number} := 1 v{number} := v{number} "),
+        }
+    }
+    text + &"end ".repeat(depth)
 }
 
 // Nesting.
@@ -580,7 +684,7 @@ pub fn any(random: &mut Random, small_only: bool) -> Vec<u8> {
     let kind = if small_only {
         random.below(6)
     } else {
-        random.below(11)
+        random.below(12)
     };
     match kind {
         0..=3 => {
@@ -622,6 +726,7 @@ pub fn any(random: &mut Random, small_only: bool) -> Vec<u8> {
             let last = *random.pick(&["", "", "x", "$", "2147483648", "->", "]", "x := y"]);
             format!("{}{last}", of_tokens(count)).into_bytes()
         }
+        10 => with_s(&near_full(random)),
         _ => {
             let length = MAX_SOURCE - 1 + random.below(4);
             let begun = random.pick(&["", "cell := ", "cell := 1 #", "x := y #", "cell := 1 "]);

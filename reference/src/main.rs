@@ -1,6 +1,6 @@
 //! The program: `reference SUBCOMMAND ...`; see `USAGE`.
 
-use reference::case::{check_line, check_reply, put_check, put_run, run_case, run_lines};
+use reference::case::{check_answer, check_line, put_check, put_run, run_case, run_lines};
 use reference::{check, json, vectors, Report};
 use std::io::{self, BufWriter, Read, Write};
 use std::path::Path;
@@ -79,7 +79,7 @@ fn check_input() -> io::Result<ExitCode> {
     Ok(ExitCode::SUCCESS)
 }
 
-/// A line for each source on standard input, which stands behind its length.
+/// The answer to each source on standard input, which stands behind its length.
 fn answer_input() -> io::Result<ExitCode> {
     let mut input = io::stdin().lock();
     let mut out = BufWriter::new(io::stdout().lock());
@@ -87,7 +87,7 @@ fn answer_input() -> io::Result<ExitCode> {
     while input.read_exact(&mut head).is_ok() {
         let mut source = vec![0; u32::from_le_bytes(head) as usize];
         input.read_exact(&mut source)?;
-        out.write_all(check_reply(&source).as_bytes())?;
+        out.write_all(check_answer(&source).as_bytes())?;
     }
     out.flush()?;
     Ok(ExitCode::SUCCESS)
@@ -169,7 +169,7 @@ fn stream(
         for source in vectors::checks(seed, count, small) {
             bytes.clear();
             if replies {
-                bytes.extend(check_reply(&source).bytes());
+                bytes.extend(check_answer(&source).bytes());
             } else {
                 put_check(&mut bytes, &source);
             }

@@ -1,4 +1,5 @@
-//! The name list: records in order of declaration, and what is visible.
+//! The name list: records in order of declaration, and what is visible. An
+//! index has a record only while its loop is open.
 
 /// Greatest number of name records.
 pub const MAX_NAMES: usize = 256;
@@ -28,6 +29,10 @@ pub struct Entry {
     pub visible: bool,
     /// Array number, or number of the variable's or index's slot.
     pub slot: usize,
+    /// What the word table notes where the name is used: a constant's value,
+    /// the position of an array constant's name, a variable's number among the
+    /// variables, or an index's depth.
+    pub noted: u32,
     /// An index variable's range.
     pub low: i32,
     pub high: i32,
@@ -68,10 +73,24 @@ impl Names {
             spelling,
             visible: false,
             slot,
+            noted: 0,
             low: 0,
             high: 0,
         });
         self.entries.len() - 1
+    }
+
+    /// Takes out the record of a loop that ends; those behind it move down.
+    pub fn remove(&mut self, number: usize) {
+        self.entries.remove(number);
+    }
+
+    /// How many variables there are.
+    pub fn variables(&self) -> u32 {
+        let variables = self.entries.iter();
+        variables
+            .filter(|entry| entry.record.kind == VARIABLE)
+            .count() as u32
     }
 
     pub fn records(&self) -> Vec<Record> {

@@ -36,7 +36,7 @@
 
 mod expression;
 
-use crate::lex::{kind_behind, lex, Keyword, Kind, Symbol, Token, MAX_SOURCE};
+use crate::lex::{kind_behind, kind_number, lex, Keyword, Kind, Symbol, Token, MAX_SOURCE};
 use crate::names::{
     Names, Record, ARRAY, CONSTANT, CONST_FIELD, FIELD, INDEX, MAX_NAMES, VARIABLE,
 };
@@ -83,9 +83,11 @@ pub fn check(source: &[u8]) -> Checked {
             place: MAX_SOURCE as u32,
         });
     }
+    let tokens = lex(source);
     let mut reader = Reader {
         source,
-        tokens: lex(source),
+        table: tokens.iter().map(|&token| scanned(source, token)).collect(),
+        tokens,
         at: 0,
         names: Names::default(),
         depth: 0,
@@ -116,6 +118,7 @@ pub fn check(source: &[u8]) -> Checked {
                     written: reader.written,
                     uses_time,
                     names: reader.names.records(),
+                    table: reader.table,
                 }),
             }
         }
@@ -131,9 +134,23 @@ pub fn check(source: &[u8]) -> Checked {
     }
 }
 
+/// A token's words as scanning leaves them.
+fn scanned(source: &[u8], token: Token) -> [u32; 4] {
+    let value = match token.kind {
+        Kind::Stop(_) => return [0; 4],
+        Kind::Literal(value) => value as u32,
+        _ => 0,
+    };
+    let start = token.start as usize;
+    let spelling = &source[start..start + token.length as usize];
+    let span = token.start + 65_536 * token.length;
+    [kind_number(token.kind, spelling), span, value, 0]
+}
+
 struct Reader<'a> {
     source: &'a [u8],
     tokens: Vec<Token>,
+    table: Vec<[u32; 4]>,
     at: usize,
     names: Names,
     depth: u32,
@@ -210,6 +227,12 @@ impl Reader<'_> {
         self.at += 1;
     }
 
+    /// Writes words 2 and 3 of the token at a position.
+    fn put(&mut self, position: usize, second: u32, third: u32) {
+        self.table[position][2] = second;
+        self.table[position][3] = third;
+    }
+
     fn expect(&mut self, symbol: Symbol) -> Read<()> {
         if !self.is_symbol(symbol) {
             return self.complain(7);
@@ -283,20 +306,25 @@ impl Reader<'_> {
     }
 
     fn constant_declaration(&mut self) -> Read<()> {
+        let first = self.at;
         self.advance();
         let number = self.declare(CONSTANT, 0)?;
         if self.is_symbol(Symbol::OpenBracket) {
-            return self.array_constant(number);
+            self.array_constant(number)?;
+        } else {
+            self.expect(Symbol::Assign)?;
+            let value = self.signed_constant()?;
+            let entry = &mut self.names.entries[number];
+            entry.record.value = value;
+            entry.noted = value as u32;
+            entry.visible = true;
         }
-        self.expect(Symbol::Assign)?;
-        let value = self.signed_constant()?;
-        let entry = &mut self.names.entries[number];
-        entry.record.value = value;
-        entry.visible = true;
+        self.put(first, 0, self.at as u32);
         Ok(())
     }
 
     fn array_constant(&mut self, number: usize) -> Read<()> {
+        let name = self.at - 1;
         self.open()?;
         self.close(Symbol::CloseBracket)?;
         self.expect_keyword(Keyword::For)?;
@@ -306,6 +334,7 @@ impl Reader<'_> {
             return Err(Reply { number: 44, place });
         }
         self.expect(Symbol::Assign)?;
+        let first = self.at;
         let mut values = Vec::new();
         loop {
             values.push(self.signed_constant()?);
@@ -320,12 +349,17 @@ impl Reader<'_> {
         if values.len() < size as usize {
             self.note(45);
         }
+        for (k, &value) in values.iter().enumerate() {
+            self.table[first + k][3] = value as u32;
+        }
+        self.put(name, size as u32, first as u32);
         let slot = self.arrays.len();
         self.arrays.push(values);
         let entry = &mut self.names.entries[number];
         entry.record.kind = ARRAY;
         entry.record.value = size;
         entry.slot = slot;
+        entry.noted = name as u32;
         entry.visible = true;
         Ok(())
     }
@@ -340,6 +374,9 @@ impl Reader<'_> {
             },
             _ => return self.complain(7),
         };
+        if self.is_name() {
+            self.put(self.at, CONSTANT, value as u32);
+        }
         self.advance();
         Ok(value)
     }
@@ -389,6 +426,7 @@ impl Reader<'_> {
         }
         self.dimensions = dimensions as usize;
         self.expect_keyword(Keyword::Dimensions)?;
+        let base = self.at;
         self.expect_keyword(Keyword::Of)?;
         // "A name after the declaration's `of` begins a range exactly if `..`
         // follows it", also where `..` is one token too many.
@@ -402,16 +440,21 @@ impl Reader<'_> {
         if begins_range {
             let (low, high) = self.range(i64::MAX)?;
             self.fields.push(Field { low, high });
-            return Ok(());
-        }
-        self.named = true;
-        loop {
-            self.field_group()?;
-            if self.is_keyword(Keyword::End) {
-                self.advance();
-                return Ok(());
+        } else {
+            self.named = true;
+            loop {
+                self.field_group()?;
+                if self.is_keyword(Keyword::End) {
+                    self.advance();
+                    break;
+                }
             }
         }
+        for k in 0..self.fields.len() {
+            let Field { low, high } = self.fields[k];
+            self.put(base + k, low as u32, high as u32);
+        }
+        Ok(())
     }
 
     /// `[const] name {, name} of range`.
@@ -485,6 +528,7 @@ impl Reader<'_> {
                     if self.loops == 0 {
                         return self.complain(7);
                     }
+                    self.put(self.at, 0, self.at as u32 + 1);
                     self.advance();
                     list.push(Statement::Exit);
                 }
@@ -495,6 +539,8 @@ impl Reader<'_> {
     }
 
     fn if_statement(&mut self) -> Read<Statement> {
+        let first = self.at;
+        let mut arm = first;
         self.open()?;
         let mut branches = Vec::new();
         let mut otherwise = Vec::new();
@@ -502,9 +548,11 @@ impl Reader<'_> {
             let condition = self.expression()?;
             self.expect_keyword(Keyword::Then)?;
             branches.push((condition, self.statements()?));
+            self.put(arm, self.at as u32, 0);
             if !self.is_keyword(Keyword::Elsif) {
                 break;
             }
+            arm = self.at;
             self.advance();
         }
         if self.is_keyword(Keyword::Else) {
@@ -513,12 +561,15 @@ impl Reader<'_> {
         }
         self.expect_keyword(Keyword::End)?;
         self.depth -= 1;
+        self.table[first][3] = self.at as u32;
         Ok(Statement::If(branches, otherwise))
     }
 
     fn forall(&mut self) -> Read<Statement> {
+        let first = self.at;
         self.open()?;
         let slot = self.slots;
+        let name = self.at;
         let number = self.declare(INDEX, slot)?;
         self.slots += 1;
         if !self.is_symbol(Symbol::Colon) {
@@ -526,21 +577,27 @@ impl Reader<'_> {
         }
         self.advance();
         let (low, high) = self.range(MAX_LOOP)?;
+        self.put(name, low as u32, high as u32);
         let entry = &mut self.names.entries[number];
         entry.low = low;
         entry.high = high;
+        entry.noted = self.loops;
         entry.visible = true;
         self.loops += 1;
+        let inner = self.at as u32;
         let body = self.statements()?;
         self.expect_keyword(Keyword::End)?;
         self.loops -= 1;
         self.depth -= 1;
-        self.names.entries[number].visible = false;
+        // "When a loop ends, its index record is free again."
+        self.names.remove(number);
+        self.put(first, inner, self.at as u32);
         Ok(Statement::Forall(slot, low, high, body))
     }
 
     fn assignment(&mut self) -> Read<Statement> {
-        let target = self.left_side()?;
+        let first = self.at;
+        let (target, number) = self.left_side()?;
         if !self.is_symbol(Symbol::Assign) {
             return self.complain(7);
         }
@@ -548,6 +605,7 @@ impl Reader<'_> {
         loop {
             // Here `:=` is looked at.
             let place = self.place();
+            let assign = self.at;
             self.advance();
             let value = self.expression()?;
             let mut choice = Choice {
@@ -560,8 +618,10 @@ impl Reader<'_> {
             }
             if self.is_keyword(Keyword::When) {
                 self.advance();
+                let condition = self.at as u32;
                 choice.condition = Some(self.expression()?);
                 choices.push(choice);
+                self.put(assign, condition, self.at as u32);
                 if self.is_symbol(Symbol::Assign) {
                     continue;
                 }
@@ -569,44 +629,53 @@ impl Reader<'_> {
                 // A lone expression; `otherwise` behind it begins no
                 // statement and is refused 7 there.
                 choices.push(choice);
+                self.put(assign, 0, self.at as u32);
             } else {
                 self.expect_keyword(Keyword::Otherwise)?;
                 choices.push(choice);
+                self.put(assign, 0, self.at as u32);
             }
+            self.put(first, number, self.at as u32);
             return Ok(Statement::Assign(target, choices));
         }
     }
 
-    fn left_side(&mut self) -> Read<Target> {
+    /// What is assigned, and its number: the field's, or the variable's among
+    /// the variables.
+    fn left_side(&mut self) -> Read<(Target, u32)> {
         let spelling = self.spelling();
         if spelling == b"cell" {
             self.advance();
             if self.named {
-                return Ok(Target::Field(self.field_reference(true)?));
+                let field = self.field_reference(true)?;
+                return Ok((Target::Field(field), field as u32));
             }
             self.plain_name_end()?;
-            return Ok(Target::Field(0));
+            return Ok((Target::Field(0), 0));
         }
         if spelling == b"time" {
             return self.complain(9);
         }
-        let slot = match self.names.find(&spelling) {
+        let (slot, number) = match self.names.find(&spelling) {
             Some(entry) if entry.record.kind == VARIABLE => {
-                let slot = entry.slot;
+                let found = (entry.slot, entry.noted);
                 self.advance();
-                slot
+                found
             }
             Some(_) => return self.complain(9),
             None => {
                 let slot = self.slots;
-                let number = self.declare(VARIABLE, slot)?;
-                self.names.entries[number].visible = true;
+                let number = self.names.variables();
+                let record = self.declare(VARIABLE, slot)?;
+                let entry = &mut self.names.entries[record];
+                entry.noted = number;
+                entry.visible = true;
                 self.slots += 1;
-                slot
+                (slot, number)
             }
         };
         self.plain_name_end()?;
-        Ok(Target::Slot(slot))
+        Ok((Target::Slot(slot), number))
     }
 
     /// After a name that is a plain number: `[` is 6 and `.` is 12.

@@ -97,6 +97,8 @@ pub struct Program {
     pub written: Vec<Written>,
     pub uses_time: bool,
     pub names: Vec<Record>,
+    /// The word table, as docs/LAYOUT.md has it: four words a token.
+    pub table: Vec<[u32; 4]>,
 }
 
 impl Program {

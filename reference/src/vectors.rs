@@ -1,6 +1,6 @@
 //! The stored vectors, and rows of generated cases.
 
-use crate::case::{check_reply, put_check, put_run, run_lines, RunCase};
+use crate::case::{check_answer, put_check, put_run, run_lines, RunCase};
 use crate::damage::{damage_bytes, damage_tokens, VOCABULARY};
 use crate::generate::{program, Wish};
 use crate::limits;
@@ -192,7 +192,7 @@ pub fn files() -> Files {
     };
     for source in &checks {
         put_check(&mut files.check_in, source);
-        files.check_out.extend(check_reply(source).bytes());
+        files.check_out.extend(check_answer(source).bytes());
     }
     for case in &runs {
         put_run(&mut files.run_in, case);

@@ -41,6 +41,19 @@ pub fn runs() -> Vec<RunCase> {
         let grid: Vec<i32> = (0..size).collect();
         add(&text, &[size as u32], &grid, 0, 2);
     }
+    // Variables that outlive the records of indices, names used again, and more loops than records.
+    let wide = "1 dimensions of -99..99 ";
+    let short = "forall i : 0..1 x := x + i end ".repeat(80);
+    for rest in [
+        "forall i : 0..3 a := a + i end b := a forall j : 0..1 c := c + b end cell := c + a",
+        "i := 3 forall j : 0..1 i := i + 1 end forall k : 0..1 j := 9 end cell := i * 10 + j",
+        "forall i : 0..2 forall j : 0..1 x := i + j end y := y + x end i := y j := i + 1 cell := j",
+        &format!("{short}i := x cell := i + cell"),
+        &format!("{}cell := i", "forall i : 0..0 end ".repeat(257)),
+        &format!("{}i := 7 cell := i", "forall i : 0..0 end ".repeat(257)),
+    ] {
+        add(&format!("{wide}{rest}"), &[2], &[0, 1], 0, 1);
+    }
     // 23 in code that never runs, and first in source order.
     add(
         &format!("{s}if 0 then cell := [- 3] end cell := [9]"),

@@ -304,6 +304,62 @@ fn signs() {
     assert_eq!(values, [-2_147_483_647, 2_147_483_647]);
 }
 
+/// Where a loop ends, its index's record is free again.
+#[test]
+fn names_of_ended_loops() {
+    expect_s(0, &"forall i : 0..1 end ".repeat(300));
+    let most: String = (0..255).map(|i| format!("const c{i} := 1 ")).collect();
+    expect_s(15, &format!("{most}forall i : 0..1 ^x := 1 end"));
+    expect_s(0, &format!("{most}forall i : 0..1 end x := 1"));
+    expect_s(15, &format!("{most}forall i : 0..1 end x := 1 ^y := 1"));
+    expect_s(15, &format!("{most}const w := 1 forall ^i : 0..1 end"));
+    let most: String = (0..254).map(|i| format!("const c{i} := 1 ")).collect();
+    expect_s(
+        0,
+        &format!("{most}forall i : 0..1 forall j : 0..1 end k := 1 end"),
+    );
+    expect_s(8, "forall i : 0..1 x := 1 end cell := ^i");
+    let source = "const a := 5 1 dimensions of 0..1 forall i : 0..1 forall j : 0..1 x := 1 end \
+                  const k := -1 end i := k";
+    let names = check(source.as_bytes()).program.unwrap().names;
+    let found: Vec<(&str, u32, i32)> = names
+        .iter()
+        .map(|r| (&source[r.start as usize..][..1], r.kind, r.value))
+        .collect();
+    assert_eq!(found, [("a", 1, 5), ("x", 4, 0), ("k", 1, -1), ("i", 4, 0)]);
+}
+
+/// Words 2 and 3 of the tokens, by docs/LAYOUT.md.
+#[test]
+fn table() {
+    let source = "1 dimensions of 0..1 forall i : 0..1 x := i end y := x";
+    let table = check(source.as_bytes()).program.unwrap().table;
+    let words: Vec<(u32, u32)> = table.iter().map(|word| (word[2], word[3])).collect();
+    let expected = [
+        (1, 0),
+        (0, 0),
+        (0, 1), // `of`: the field's range
+        (0, 0),
+        (0, 0),
+        (1, 0),
+        (12, 16), // `forall`
+        (0, 1),   // its index, declared
+        (0, 0),
+        (0, 0),
+        (0, 0),
+        (1, 0),
+        (0, 15), // x, number 0
+        (0, 15),
+        (5, 0), // the index, at depth 0
+        (0, 0),
+        (1, 19), // y, number 1
+        (0, 19),
+        (4, 0), // x
+        (0, 0),
+    ];
+    assert_eq!(words, expected);
+}
+
 #[test]
 fn records() {
     let source = "const n := -2 const A[] for 2 := 1, n 1 dimensions of n.. 5 x := 1 \
@@ -314,14 +370,7 @@ fn records() {
         .iter()
         .map(|r| (r.start, r.length, r.kind, r.value))
         .collect();
-    let expected = [
-        (6, 1, 1, -2),
-        (20, 1, 2, 2),
-        (60, 1, 4, 0),
-        (74, 1, 5, 0),
-        (83, 1, 4, 0),
-        (101, 1, 5, 0),
-    ];
+    let expected = [(6, 1, 1, -2), (20, 1, 2, 2), (60, 1, 4, 0), (83, 1, 4, 0)];
     assert_eq!(found, expected);
     let fields = "1 dimensions of ab of 0..1 const c, d of 0..1 end";
     let program = check(fields.as_bytes()).program.unwrap();

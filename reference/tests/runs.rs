@@ -78,6 +78,20 @@ fn remainders() {
 }
 
 #[test]
+fn variables_behind_ended_loops() {
+    let value = |rest: &str| {
+        let source = format!("1 dimensions of -99..99 {rest}");
+        let case = RunCase::new(source.into_bytes(), &[1], vec![0], 0, 1);
+        run_case(&case, false).grid[0]
+    };
+    let text = "forall i : 0..3 a := a + i end b := a forall j : 0..1 c := c + b end cell := c + a";
+    assert_eq!(value(text), 18);
+    let text =
+        "i := 3 forall j : 0..1 i := i + 1 end forall k : 0..1 j := 9 end cell := i * 10 + j";
+    assert_eq!(value(text), 59);
+}
+
+#[test]
 fn refusals() {
     let s = "1 dimensions of 0..1 cell := [2]";
     assert_eq!(run(s, &[2, 1], &[0, 0], 0, 1)[0], 20);

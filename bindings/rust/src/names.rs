@@ -15,7 +15,8 @@ pub enum Kind {
     Field = 3,
     /// A variable; the name's value is 0.
     Variable = 4,
-    /// An index variable of a `forall`; the name's value is 0.
+    /// An index variable of a `forall`. Its record is free again where its
+    /// loop ends, so that no list that is left has one.
     Index = 5,
     /// A field that can't be assigned; the name's value is its number, from 0.
     ConstField = 6,

@@ -89,7 +89,7 @@ pub enum Reason {
     RelationOnRelation = 13,
     /// The 17th nesting.
     NestedTooDeep = 14,
-    /// The 257th name.
+    /// A name declared where 256 are in use.
     TooManyNames = 15,
     /// Dimensions not 1 to 3.
     BadDimensions = 40,
@@ -149,7 +149,7 @@ impl fmt::Display for Reason {
             }
             Reason::RelationOnRelation => "relation on a bare relation",
             Reason::NestedTooDeep => "nested more than 16 deep",
-            Reason::TooManyNames => "more than 256 names",
+            Reason::TooManyNames => "more than 256 names in use",
             Reason::BadDimensions => "dimensions not 1 to 3",
             Reason::RangeReversed => "range reversed",
             Reason::LoopTooLong => "loop range of more than 4096 values",

@@ -223,10 +223,10 @@ fn rooms_of_wrong_length_are_not_touched() {
 }
 
 #[test]
-fn names_of_every_kind() {
+fn names_of_every_kind_left() {
     let source =
         b"const c := -4 const A[] for 2 := 1, 2 1 dimensions of f of 0..1 const g of 0..1 end
-        v := c forall i : 0..1 cell.f := A[i] end";
+        v := c forall i : 0..1 cell.f := A[i] w := 1 end i := w";
     let mut rooms = Rooms::new();
     check(source, &mut rooms).unwrap();
     let names: Vec<_> = rooms
@@ -239,7 +239,8 @@ fn names_of_every_kind() {
         ("f", Kind::Field, 0),
         ("g", Kind::ConstField, 1),
         ("v", Kind::Variable, 0),
-        ("i", Kind::Index, 0),
+        ("w", Kind::Variable, 0),
+        ("i", Kind::Variable, 0),
     ];
     assert_eq!(names, expected);
     for name in rooms.names(source) {

@@ -1,7 +1,7 @@
-// Checks one source after another, and writes a line for each: `accepted`, or for example `refused 8 at 26 1 26 1`, where behind number and place
-// stand the numbers of the spelling: where it stands, its first byte and its length. On standard input each source stands behind its length, in four
-// bytes, the lowest first.
-ghost use Prim.Native.Nat.{_≤_};
+// Checks one source after another, and writes two lines for each: the reply with the numbers of its spelling, and the sums of the word table and of the
+// name list that are left. On standard input each source stands behind its length, in four bytes, the lowest first.
+ghost use Prim.Native.Nat.{_<_, _≤_};
+ghost use lib.ListN.{length};
 ghost use Rattle.io.specs.Counts.{Counts};
 use libc::STDIN_FILENO;
 use libc::STDOUT_FILENO;
@@ -32,8 +32,66 @@ fn skip(n: u32) {
     read_some(&mut rest, n);
 }
 
+fn wide_word(w: u32) -> u64
+    ensures { λ r. ⌜ r ≤ 4294967295 ⌝ }
+{
+    w as u64
+}
+
+// A word times its number in a row of at most 16,384, counted from 1.
+fn weighed(word: u32, i: usize) -> u64
+    requires { ⌜ i < 16384 ⌝ }
+    ensures { λ r. ⌜ r ≤ 70368744177664 ⌝ }
+{
+    wide_word(word) * ((i + 1) as u64)
+}
+
+// The sum of n words, each times its number in the row.
+fn sum(words: &[u32], n: usize) -> u64
+    requires { ⌜ (n ≤ length (now words)) × (n ≤ 16384) ⌝ }
+{
+    let mut sum: u64 = 0;
+    let mut i: usize = 0;
+    while i < n {
+        sum += weighed(words[i], i);
+        i += 1;
+    }
+    sum
+}
+
+// How many words are in use in a row of records of four words: those before the first record whose word at `mark` is 0, where a token or a name has
+// its kind.
+fn used(words: &[u32], mark: usize) -> usize
+    requires { ⌜ (length (now words) ≤ 16384) × (mark < 4) ⌝ }
+    ensures { λ r. ⌜ r ≤ length (now (words .entry)) ⌝ }
+{
+    let mut i: usize = 0;
+    while i + 4 <= words.len() {
+        if words[i + mark] == 0 {
+            return i;
+        }
+        i += 4;
+    }
+    i
+}
+
+// The sum of the words in use.
+fn total(words: &[u32], mark: usize) -> u64
+    requires { ⌜ (length (now words) ≤ 16384) × (mark < 4) ⌝ }
+{
+    sum(words, used(words, mark))
+}
+
+// Writes so many bytes of the lines, and answers whether it could.
+fn write_front(lines: &[u8], end: usize) -> bool {
+    if lines.len() < end {
+        return false;
+    }
+    io::write_all(STDOUT_FILENO, &lines[..end])
+}
+
 // Checks a source of so many bytes, of which one more than a source may have is enough to see that it is too long. Answers whether its
-// line was written.
+// lines were written.
 fn answer(length: u32) -> bool {
     let mut source = io::large_buffer();
     let n = read_some(&mut source, length);
@@ -45,17 +103,20 @@ fn answer(length: u32) -> bool {
     let list = spelling::BUILT_IN;
     let reply = checker::check(&source[..n], &list, &mut words, &mut names);
     let part = spelling::told_part(&source[..n], reply.number, reply.place);
-    let mut line = [0u8; 66];
-    let end = reply_line::write_spelled(
+    let mut lines = [0u8; 113];
+    let a = reply_line::write_spelled(
         reply.number,
         reply.place,
         part.stands,
         part.start,
         part.len,
-        &mut line,
+        &mut lines,
     );
-    let written = io::count(end as isize, &line);
-    io::write_all(STDOUT_FILENO, &line[..written])
+    let b = text::put_number(&mut lines, a, total(&words, 0));
+    let c = text::put_byte(&mut lines, b, b' ');
+    let d = text::put_number(&mut lines, c, total(&names, 2));
+    let end = text::put_byte(&mut lines, d, b'\n');
+    write_front(&lines, end)
 }
 
 // Checks the next source, and answers whether there was one.

@@ -11,7 +11,7 @@ use Rattle.token.specs.Kind.{kind}
 use Rattle.token.specs.Lexeme.{is-built-in}
 use Rattle.token.specs.Promises.{Scans}
 use Rattle.grammar.specs.Reader.{ok, fail}
-use Rattle.grammar.specs.Source.{Accepted, has-kind, sized, read-program, what-is-read, parse}
+use Rattle.grammar.specs.Source.{Accepted, has-kind, settled, read-program, what-is-read, parse}
 use Rattle.grammar.specs.Checking.{outcome-of, rooms-fit, lent-fit, read-source, check, words-after, names-after}
 use Rattle.reader.specs.Reading.{input, state, Told}
 use Rattle.reader.specs.declared.Reading.{Reading}
@@ -110,7 +110,7 @@ module _ (source ws ns : List ℕ) (e : length ws ≡ 16384) (f : length ns ≡ 
     refused-with {k} {n} q a b c d =
         unaccepted (rw (c ∙ ap (λ (n : ℕ). replicate n 0) a, d ∙ ap (λ (n : ℕ). replicate n 0) b) (refuses k n (read-refused q))) (simp (reads, read-refused q))
 
-    pub accepted-with : {t : Reading} {ns′ : List ℕ} → p .read ≡ Next t → ns′ ≡ sized ws₂ ns₂ (t .count)
+    pub accepted-with : {t : Reading} {ns′ : List ℕ} → p .read ≡ Next t → ns′ ≡ settled ws₂ ns₂ (t .count)
         → (o : Outline) → o .tokens ≡ sc .count → o .base ≡ p .base → o .body ≡ p .body → o .dims ≡ p .dims → o .fields ≡ p .fields → o .slots ≡ t .count
         → o .timed ≡ has-kind (kind .time) ws₂ (sc .count)
         → Checks (rooms-fit (length ws) (length ns)) source ws ns 0 0 ws₂ ns′ × Loads source ws ns true o

@@ -1,4 +1,4 @@
--- The kinds of tokens in a table, the sizes of array constants, and zeros. Assumes nothing.
+-- The kinds of tokens in a table, the values of names after acceptance, and zeros. Assumes nothing.
 use Prim.Native.Nat.{ℕ, suc, _+_, _-_, _*_, _≤_, _<_}
 use native.Mathlib.Omega.{arith}
 use native.Mathlib.Numerals.{add-one}
@@ -10,9 +10,9 @@ use lib.Dec.{eqb}
 use borrow.Author.Tests.{eq-eqb, ne-eqb}
 use Rattle.value.specs.Choice.{if_then_else_}
 use Rattle.names.specs.declared.Entry.{Entry}
-use Rattle.names.specs.Names.{name-kind, is, entry-at, with-value}
+use Rattle.names.specs.Names.{entry-at, with-value}
 use Rattle.program.specs.Table.{word-at}
-use Rattle.grammar.specs.Source.{has-kind, sized}
+use Rattle.grammar.specs.Source.{has-kind, settled-value, settled}
 
 -- ---- tokens of a kind
 
@@ -50,27 +50,37 @@ pub unseen-all : (kind : ℕ) (words : List ℕ) (n i : ℕ) → Unseen kind wor
 unfolding has-kind
 unseen-all kind words n i h l = let z : i ≡ 0 = omega arith in sym (h .left ∙ ap (has-kind kind words) z)
 
--- ---- the sizes of array constants
+-- ---- values after acceptance
 
--- the first i names have their sizes
-pub record Sized (words old : List ℕ) (i : ℕ) (new : List ℕ) : Type 0 where
-  pub is : new ≡ sized words old i
+-- of one name, by its kind
+module _ (words : List ℕ) (e : Entry) where
+  pub value-of-array : e .kind ≡ 2 → {w : ℕ} → w ≡ word-at words (e .word) 2 → w ≡ settled-value words e
+  unfolding settled-value
+  value-of-array k p = p ∙ sym (simp (eq-eqb _ _ k))
+
+  pub value-of-variable : (e .kind ≡ 2 → ⊥) → e .kind ≡ 4 → 0 ≡ settled-value words e
+  unfolding settled-value
+  value-of-variable d k = sym (simp (ne-eqb _ _ d, eq-eqb _ _ k))
+
+  pub value-of-other : (e .kind ≡ 2 → ⊥) → (e .kind ≡ 4 → ⊥) → e .word ≡ settled-value words e
+  unfolding settled-value
+  value-of-other d n = sym (simp (ne-eqb _ _ d, ne-eqb _ _ n))
+
+pub ruleset Values = (value-of-array, value-of-variable, value-of-other)
+
+-- the first i names have them
+pub record Settled (words old : List ℕ) (i : ℕ) (new : List ℕ) : Type 0 where
+  pub is : new ≡ settled words old i
   pub long : length new ≡ length old
 
-pub sized-start : (words old : List ℕ) → Sized words old 0 old
-unfolding sized
-sized-start words old = record { is = refl; long = refl }
+pub settled-start : (words old : List ℕ) → Settled words old 0 old
+unfolding settled
+settled-start words old = record { is = refl; long = refl }
 
-module _ (words old : List ℕ) (i : ℕ) (new : List ℕ) (h : Sized words old i new) {e : Entry} (q : e ≡ entry-at new i) where
-  next : sized words old (i + 1) ≡ (if is e (name-kind .array) then with-value new i (word-at words (e .word) 2) else new)
-  unfolding sized
-  next = ap (sized words old) (add-one i) ∙ sym (rw (q, h .is))
+pub settled-next : (words old : List ℕ) (i : ℕ) (new : List ℕ) → Settled words old i new → {e : Entry} → e ≡ entry-at new i → {w : ℕ} → w ≡ settled-value words e → {after : List ℕ} → after ≡ with-value new i w
+    → Settled words old (i + 1) after
+unfolding settled
+settled-next words old i new h {e} q {w} p {after} a = record { is = a ∙ rw (p, q, h .is) (sym (ap (settled words old) (add-one i))); long = ap length a ∙ length-set new (4 * i + 3) w ∙ h .long }
 
-  pub sized-array : {w : ℕ} {after : List ℕ} → e .kind ≡ 2 → w ≡ word-at words (e .word) 2 → after ≡ with-value new i w → Sized words old (i + 1) after
-  sized-array {w} {after} k p a = record { is = a ∙ ap (with-value new i) p ∙ sym (next ∙ simp (eq-eqb _ _ k)); long = ap length a ∙ simp length-set (h .long) }
-
-  pub sized-other : {after : List ℕ} → (e .kind ≡ 2 → ⊥) → after ≡ new → Sized words old (i + 1) after
-  sized-other k a = record { is = a ∙ sym (next ∙ simp (ne-eqb _ _ k)); long = ap length a ∙ h .long }
-
-pub sized-all : (words old : List ℕ) (i : ℕ) (new : List ℕ) {count : ℕ} → Sized words old i new → i ≤ count → count ≤ i → new ≡ sized words old count
-sized-all words old i new {count} h l m = let e : i ≡ count = omega arith in h .is ∙ ap (sized words old) e
+pub settled-all : (words old : List ℕ) (i : ℕ) (new : List ℕ) {count : ℕ} → Settled words old i new → i ≤ count → count ≤ i → new ≡ settled words old count
+settled-all words old i new {count} h l m = let e : i ≡ count = omega arith in h .is ∙ ap (settled words old) e

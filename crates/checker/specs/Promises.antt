@@ -13,7 +13,7 @@ use Rattle.grammar.specs.Complaint.{complaint}
 use Rattle.grammar.specs.Reader.{Input, State, ok, unit, token-of}
 use Rattle.grammar.specs.Constants.{read-constants}
 use Rattle.grammar.specs.Statements.{read-block}
-use Rattle.grammar.specs.Source.{Accepted, Declared, read-cell, most-open, has-kind, sized, accepted-as, finish, read-program, input-of, start-state}
+use Rattle.grammar.specs.Source.{Accepted, Declared, read-cell, most-open, has-kind, settled, accepted-as, finish, read-program, input-of, start-state}
 use Rattle.grammar.specs.Checking.{most-bytes, rooms-fit, Outcome, turned-away, refused, accepted, read-source, check, words-after, names-after}
 use Rattle.reader.specs.Reading.{input, state, Gives}
 use Rattle.reader.specs.declared.Reading.{Reading}
@@ -30,7 +30,7 @@ begun = record { at = 0; noted = 0; place = 0; count = 0; word = 0; low = 0 }
 -- the accepted source's word table and name list are told by the words left and the number of names
 pub record Whole (ns ws : List ℕ) (a : Accepted) (t : Reading) : Type 0 where
   pub words : a .words ≡ ws
-  pub names : a .names ≡ sized ws ns (t .count)
+  pub names : a .names ≡ settled ws ns (t .count)
 
 -- the source ends at s, and no complaint is noted
 pub record Finished (ws : List ℕ) (scan : Scan) (s : Reading) : Type 0 where

@@ -7,7 +7,7 @@ ghost use Rattle.names.specs.Names.{name-words};
 ghost use Rattle.grammar.specs.Checking.{most-bytes, rooms-fit, lent-fit};
 ghost use Rattle.checker.specs.Promises.{Ends, Programs, Checks, Unloaded, Loads};
 use crate::has_kind;
-use crate::size_arrays;
+use crate::settle_values;
 use constants::read_constants;
 use declaration::read_cell;
 use expressions::Cell;
@@ -162,7 +162,7 @@ fn load_into(source: &[u8], words: &mut [u32], names: &mut [u32]) -> Loaded
     let r = p.read;
     match r {
         Read::Next(s) => {
-            size_arrays(words, names, s.count);
+            settle_values(words, names, s.count);
             let outline = Outline {
                 tokens: scan.count,
                 base: p.base,

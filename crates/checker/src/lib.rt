@@ -4,7 +4,8 @@ ghost use Prim.Native.Nat.{_≤_};
 ghost use lib.ListN.{length};
 ghost use Rattle.token.specs.Scanning.{most-tokens, table-words};
 ghost use Rattle.names.specs.Names.{most-names, name-words};
-ghost use Rattle.grammar.specs.Source.{has-kind, sized};
+ghost use Rattle.grammar.specs.Source.{has-kind, settled-value, settled};
+use names::Entry;
 use names::entry_in;
 use names::write_value;
 use program::word_at;
@@ -32,17 +33,29 @@ pub fn has_kind(words: &[u32], n: usize, kind: u32) -> bool
     false
 }
 
-// Gives the array constants among so many names their size, which is noted in the table at the position that their value is.
-pub fn size_arrays(words: &[u32], names: &mut [u32], count: usize)
+// The value of a name after acceptance: of an array constant its size, which the table notes at the position that its value is, of a variable 0.
+fn settled_value(words: &[u32], e: Entry) -> u32
+    requires { ⌜ length (now words) ≡ table-words ⌝ }
+    ensures { λ r. ⌜ r ≡ settled-value (now (words .entry)) e ⌝ }
+{
+    if e.kind == names::kind::ARRAY {
+        return word_at(words, e.word as usize, 2);
+    }
+    if e.kind == names::kind::VARIABLE {
+        return 0;
+    }
+    e.word
+}
+
+// Gives so many names the values that they have after acceptance.
+pub fn settle_values(words: &[u32], names: &mut [u32], count: usize)
     requires { ⌜ (count ≤ most-names) × (length (now words) ≡ table-words) × (length (now names) ≡ name-words) ⌝ }
-    ensures { λ _. ⌜ now (names .exit) ≡ sized (now (words .entry)) (now (names .entry)) count ⌝ }
+    ensures { λ _. ⌜ now (names .exit) ≡ settled (now (words .entry)) (now (names .entry)) count ⌝ }
 {
     let mut i: usize = 0;
     while i < count {
         let e = entry_in(names, i);
-        if e.kind == names::kind::ARRAY {
-            write_value(names, i, word_at(words, e.word as usize, 2));
-        }
+        write_value(names, i, settled_value(words, e));
         i += 1;
     }
 }

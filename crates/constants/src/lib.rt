@@ -53,7 +53,7 @@ pub fn read_constant(
         };
         let e = entry_in(names, slot);
         if e.kind == names::kind::CONSTANT {
-            let a = use_name(words, s, slot, e);
+            let a = use_name(words, s, e);
             return Read::Next(carrying(a, e.word, 0));
         }
         return refuse(words, scan, s, s.at, 8);

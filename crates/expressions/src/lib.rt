@@ -141,10 +141,10 @@ fn named_index(names: &[u32], words: &mut [u32], scan: Scan, s: Reading, slot: u
 {
     let e = entry_in(names, slot);
     if e.kind == names::kind::INDEX {
-        return Read::Next(use_name(words, s, slot, e));
+        return Read::Next(use_name(words, s, e));
     }
     if e.kind == names::kind::CONSTANT {
-        return Read::Next(use_name(words, s, slot, e));
+        return Read::Next(use_name(words, s, e));
     }
     refuse(words, scan, s, s.at, 8)
 }
@@ -403,7 +403,7 @@ fn name_use(
     ensures { λ r. ⌜ Reads anything (name-use (has-room room) (inner-in (cell-of cell) room) slot) (now (source .entry)) scan (s .count) s (now (names .entry)) (now (words .entry)) r (now (names .entry)) (now (words .exit)) ⌝ }
 {
     let e = entry_in(names, slot);
-    let a = use_name(words, s, slot, e);
+    let a = use_name(words, s, e);
     if e.kind == names::kind::ARRAY {
         return array_use(source, names, words, scan, a, cell, room);
     }

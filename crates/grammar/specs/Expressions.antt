@@ -13,7 +13,7 @@ use Rattle.names.specs.declared.Entry.{Entry}
 use Rattle.names.specs.Names.{name-kind, is}
 use Rattle.program.specs.Syntax.{Index, fixed, moving, Expr, number, time, variable, index, field, element, unary, binary}
 use Rattle.program.specs.Table.{word-at}
-use Rattle.grammar.specs.Reader.{Reader, _>>=_, _>>_, _<<_, _▷_, return, Turn, again, done, repeat, turns, get-state, refuse, note, is-kind, next-token, position, advance, put, put-both, expect, expect-or, forbid, opening, is-name, by-name, entry-in, reference, use-name}
+use Rattle.grammar.specs.Reader.{Reader, _>>=_, _>>_, _<<_, _▷_, return, Turn, again, done, repeat, turns, get-state, refuse, note, is-kind, next-token, position, advance, put, put-both, expect, expect-or, forbid, opening, is-name, by-name, entry-in, use-name}
 use Rattle.grammar.specs.Constants.{is-sign, read-signed}
 
 -- what the cell declaration says of a cell: how many dimensions there are, and whether its fields are named
@@ -58,7 +58,7 @@ put-field i f = position >>= put-both i f
 unfoldable pub named-index : Token → ℕ → Reader Index
 named-index t slot =
     entry-in slot >>= λ e.
-    if is e (name-kind .index) then (use-name slot ▷ λ _. moving (t .start) (reference slot e))
+    if is e (name-kind .index) then (use-name slot ▷ λ _. moving (t .start) (e .word))
     else if is e (name-kind .constant) then (use-name slot ▷ λ _. fixed (t .start) (decode-of (e .word)))
     else refuse 8
 
@@ -149,8 +149,8 @@ name-use room inner slot =
     use-name slot >>= λ e.
     if is e (name-kind .array) then array-use room inner e
     else if is e (name-kind .constant) then plain >> return (number (decode-of (e .word)))
-    else if is e (name-kind .variable) then plain >> return (variable slot)
-    else plain >> return (index (reference slot e))
+    else if is e (name-kind .variable) then plain >> return (variable (e .word))
+    else plain >> return (index (e .word))
 
 -- a primary: a literal, a bracket, a relative index, `cell`, `time` or a name
 unfoldable pub read-primary : Cell → Bool → Reader Expr → Reader Expr

@@ -14,7 +14,7 @@ use Rattle.token.specs.declared.Scan.{Scan}
 use Rattle.token.specs.Kind.{kind}
 use Rattle.token.specs.Scanning.{token-in, kind-in}
 use Rattle.names.specs.declared.Entry.{Entry}
-use Rattle.names.specs.Names.{name-kind, is, most-names, entry-at, with-entry, with-value, find-name}
+use Rattle.names.specs.Names.{most-names, entry-at, with-entry, without-entry, find-name}
 use Rattle.program.specs.Table.{with-word}
 use Rattle.grammar.specs.Complaint.{Complaint, complaint, first-of, broken}
 
@@ -23,7 +23,7 @@ pub record Input : Type 0 where
   pub source : List ℕ
   pub scan : Scan
 
--- where reading stands: the position of the next token, the complaint noted so far, how many names are declared, the words of the name
+-- where reading stands: the position of the next token, the complaint noted so far, how many names are in use, the words of the name
 -- list, and the word table, in which the tokens stand
 pub record State : Type 0 where
   pub at : ℕ
@@ -204,9 +204,9 @@ declare i k v input s =
       },
     )
 
--- the value of the name in a slot becomes v
-unfoldable pub revalue : ℕ → ℕ → Reader Unit
-revalue slot v input s = ok (unit, record { at = s .at; noted = s .noted; count = s .count; names = with-value (s .names) slot v; words = s .words })
+-- the record in a slot is free again
+unfoldable pub release : ℕ → Reader Unit
+release slot input s = ok (unit, record { at = s .at; noted = s .noted; count = s .count - 1; names = without-entry (s .names) slot; words = s .words })
 
 -- over a name in declaration position; its token's position. Refused 7 if it is no name, 9 if it is predefined or taken, then by `full`
 -- if that is not 0, then 15 if the list is full
@@ -225,16 +225,9 @@ fresh fields full =
 abbrev pub fresh-name : Reader ℕ
 fresh-name = fresh false 0
 
--- what the table notes of the name in a slot where it is used: of a variable its slot, of an index its loop's depth, else its value
-unfoldable pub reference : ℕ → Entry → ℕ
-reference slot e =
-    if is e (name-kind .variable) then slot
-    else if is e (name-kind .index) then e .word - 1
-    else e .word
-
--- over a name in use, whose kind and reference are noted in the table; its entry
+-- over a name in use, whose kind and value are noted in the table; its entry
 unfoldable pub use-name : ℕ → Reader Entry
 use-name slot =
     entry-in slot >>= λ e.
     position >>= λ i.
-    put-both i (e .kind) (reference slot e) >> advance >> return e
+    put-both i (e .kind) (e .word) >> advance >> return e

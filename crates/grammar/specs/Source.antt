@@ -11,6 +11,7 @@ use Rattle.value.specs.Worked.{encode-of}
 use Rattle.token.specs.declared.Token.{Token}
 use Rattle.token.specs.Kind.{kind}
 use Rattle.token.specs.Scanning.{Scanned, scan, scan-of, scanned-words}
+use Rattle.names.specs.declared.Entry.{Entry}
 use Rattle.names.specs.Names.{name-kind, name-words, is, entry-at, with-value}
 use Rattle.program.specs.Syntax.{Range, Block, Program}
 use Rattle.program.specs.Table.{word-at, with-range}
@@ -104,14 +105,19 @@ unfoldable pub has-kind : ℕ → List ℕ → ℕ → Bool
 has-kind k words zero = false
 has-kind k words (suc n) = has-kind k words n || eqb (word-at words n 0) k
 
--- the words of n names, with the size of each array constant, noted at its name in the table, for its value
-unfoldable pub sized : List ℕ → List ℕ → ℕ → List ℕ
-sized words names zero = names
-sized words names (suc n) =
-    let before = sized words names n in
-    let e = entry-at before n in
-    if is e (name-kind .array) then with-value before n (word-at words (e .word) 2)
-    else before
+-- the value of a name after acceptance: of an array constant its size, which the table notes at its name, of a variable 0, else as it was
+unfoldable pub settled-value : List ℕ → Entry → ℕ
+settled-value words e =
+    if is e (name-kind .array) then word-at words (e .word) 2
+    else if is e (name-kind .variable) then 0
+    else e .word
+
+-- the words of the name list, with the values that the first n names have after acceptance
+unfoldable pub settled : List ℕ → List ℕ → ℕ → List ℕ
+settled words names zero = names
+settled words names (suc n) =
+    let before = settled words names n in
+    with-value before n (settled-value words (entry-at before n))
 
 -- what reading leaves of an accepted source: the program, its word table, and its name list
 pub record Accepted : Type 0 where
@@ -125,7 +131,7 @@ accepted-as input d body s =
     record {
       program = record { dims = d .cell .dims; fields = d .fields; slots = s .count; body = body; timed = has-kind (kind .time) (s .words) (input .scan .count) };
       words = s .words;
-      names = sized (s .words) (s .names) (s .count);
+      names = settled (s .words) (s .names) (s .count);
     }
 
 -- the end of the source stands behind the last statement, and no complaint is noted

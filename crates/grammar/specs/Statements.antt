@@ -9,21 +9,26 @@ use Rattle.value.specs.Choice.{if_then_else_}
 use Rattle.value.specs.Worked.{encode-of}
 use Rattle.token.specs.declared.Token.{Token}
 use Rattle.token.specs.Kind.{kind}
-use Rattle.names.specs.Names.{name-kind, is}
+use Rattle.names.specs.Names.{name-kind, is, variables-in}
 use Rattle.program.specs.Syntax.{Expr, Target, to-field, to-variable, Clause, Block, empty, assign, select, loop, exit, constant}
-use Rattle.grammar.specs.Reader.{Reader, _>>=_, _>>_, _<<_, _▷_, return, Turn, again, done, repeat, turns, refuse, refuse-last, is-kind, next-token, position, advance, put, put-both, expect, expect-or, forbid, opening, is-name, by-name, entry-in, declare, revalue, fresh-name}
+use Rattle.grammar.specs.Reader.{Reader, _>>=_, _>>_, _<<_, _▷_, return, Turn, again, done, repeat, turns, get-state, refuse, refuse-last, is-kind, next-token, position, advance, put, put-both, expect, expect-or, forbid, opening, is-name, by-name, entry-in, declare, release, fresh-name}
 use Rattle.grammar.specs.Constants.{read-range, read-declaration}
 use Rattle.grammar.specs.Expressions.{Cell, dot-field, read-expression}
 
 -- ---- assignments
 
--- over the name in a slot on a left side: it must be a variable
+-- over the name in a slot on a left side: it must be a variable; its number among the variables
 unfoldable pub old-variable : ℕ → Reader ℕ
-old-variable slot = entry-in slot >>= λ e. if is e (name-kind .variable) then advance >> return slot else refuse 9
+old-variable slot = entry-in slot >>= λ e. if is e (name-kind .variable) then advance >> return (e .word) else refuse 9
 
--- over a new name on a left side, which begins a variable; its slot
+-- over a new name on a left side, which begins a variable; its number among the variables
 unfoldable pub new-variable : Reader ℕ
-new-variable = fresh-name >>= λ i. declare i (name-kind .variable) 0
+new-variable = do
+  i ← fresh-name
+  s ← get-state
+  let k = variables-in (s .names) (s .count)
+  declare i (name-kind .variable) k
+  return k
 
 -- `.name` on a left side: the number of the field, which must not be const
 unfoldable pub named-target : Reader ℕ
@@ -136,7 +141,7 @@ read-if room expr block =
 
 -- ---- loops
 
--- a loop inside so many others. While it is open, the value of its index's record is its depth plus 1. The body's position and the
+-- a loop inside so many others. While it is open its index has a record, whose value is the loop's depth. The body's position and the
 -- position past the loop are noted at `forall`, the range at the index's name
 unfoldable pub read-forall : Bool → ℕ → Reader Block → Reader (Block → Block)
 read-forall room depth block = do
@@ -146,11 +151,11 @@ read-forall room depth block = do
   expect-or (kind .colon) 6
   r ← read-range 4096
   put-both name (encode-of (r .low)) (encode-of (r .high))
-  slot ← declare name (name-kind .index) (depth + 1)
+  slot ← declare name (name-kind .index) depth
   inner ← position
   body ← block
   expect (kind .end-word)
-  revalue slot 0
+  release slot
   past ← position
   put-both i inner past
   return (loop r body)

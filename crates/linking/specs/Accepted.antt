@@ -1,4 +1,4 @@
--- An accepted source: its program holds in the word table that is left, and no constant in its name list is the least value.
+-- An accepted source: its program holds in the word table that is left.
 use Prim.Native.Nat.{ℕ, zero, suc, _+_, _*_, _≤_, _<_}
 use native.Mathlib.Omega.{arith}
 use mathlib.Core.Path.{_≡_, refl, sym, ap, _∙_, subst}
@@ -7,28 +7,23 @@ use mathlib.Core.List.{List, []}
 use mathlib.Core.Option.{Option}
 use lib.Dec.{eqb}
 use lib.ListN.{length}
-use lib.Seq.{getD-set-other}
 use borrow.Author.Tests.{eqb-true, eqb-false, not-false}
 use Rattle.value.specs.Choice.{if_then_else_}
-use Rattle.value.specs.Worked.{decode-of}
 use Rattle.value.specs.Laws.{and-both}
 use Rattle.token.specs.declared.Token.{Token}
 use Rattle.token.specs.Kind.{kind}
 use Rattle.token.specs.Scanning.{scan}
-use Rattle.names.specs.declared.Entry.{Entry}
-use Rattle.names.specs.Names.{name-kind, is, entry-at, with-value}
 use Rattle.program.specs.Syntax.{Expr, Clause, Block}
-use Rattle.program.specs.Table.{word-at}
 use Rattle.grammar.specs.Reader.{Input, State, Result, ok, fail, Reader, refuse-with, unit, token-of, is-kind, refuse}
 use Rattle.grammar.specs.Constants.{read-constants}
 use Rattle.grammar.specs.Statements.{read-block}
-use Rattle.grammar.specs.Source.{Declared, read-cell, most-open, input-of, start-state, Accepted, accepted-as, sized, finish, read-program, what-is-read, parse}
+use Rattle.grammar.specs.Source.{Declared, read-cell, most-open, input-of, start-state, Accepted, accepted-as, finish, read-program, what-is-read, parse}
 use Rattle.semantics.specs.declared.Rule.{Rule}
 use Rattle.semantics.specs.Stands.{Holds, table-of, rule-table}
 use Rattle.semantics.specs.Written.{written-in}
 use Rattle.semantics.specs.Listing.{Writes}
 use Rattle.linking.specs.Steps.{Gives, bind, no-end}
-use Rattle.linking.specs.Runs.{tokens, Signable, value-kept}
+use Rattle.linking.specs.Runs.{tokens}
 use Rattle.linking.specs.Timed.{Timing}
 use Rattle.linking.specs.Linking.{Linked, linking, timed-linked}
 
@@ -120,49 +115,3 @@ written source a p =
 pub flagged : {timed-expr : Expr → Bool} {timed-condition : Option Expr → Bool} {timed-clauses : List Clause → Bool} {timed : Block → Bool} → Timing timed-expr timed-condition timed-clauses timed → (source : List ℕ) (a : Accepted) → Parsed source a
     → timed (a .program .body) ≡ true → a .program .timed ≡ true
 flagged {timed = timed} T source a p = subst (λ (z : Accepted). timed (z .program .body) ≡ true → z .program .timed ≡ true) (sym (p .is)) (timed-linked T (p .linked))
-
--- ---- the constants in its name list
-
--- the kind stays where a value is written
-kind-kept : (names : List ℕ) (n v : ℕ) → entry-at (with-value names n v) n .kind ≡ entry-at names n .kind
-unfolding entry-at
-kind-kept names n v = getD-set-other names (4 * n + 3) (4 * n + 2) v 0 (λ q. absurd (omega arith))
-
--- the sizes of array constants leave a simple constant's record
-sized-constant : (words names : List ℕ) (n slot : ℕ) → entry-at (sized words names n) slot .kind ≡ name-kind .constant → entry-at (sized words names n) slot ≡ entry-at names slot
-unfolding sized
-sized-constant words names zero slot e = refl
-sized-constant words names (suc n) slot e = by (λ d. sized-constant words names n slot d) (is (entry-at before n) (name-kind .array)) refl (eqb slot n) refl e
-  where
-    before : List ℕ
-    before = sized words names n
-
-    size : ℕ
-    size = word-at words (entry-at before n .word) 2
-
-    by : (entry-at before slot .kind ≡ name-kind .constant → entry-at before slot ≡ entry-at names slot) → (t : Bool) → is (entry-at before n) (name-kind .array) ≡ t → (u : Bool) → eqb slot n ≡ u
-        → entry-at (if t then with-value before n size else before) slot .kind ≡ name-kind .constant → entry-at (if t then with-value before n size else before) slot ≡ entry-at names slot
-    by rest false p u q e = rest e
-    by rest true p true q e =
-        let at : entry-at (with-value before n size) n .kind ≡ 1 = ap (λ (k : ℕ). entry-at (with-value before n size) k .kind) (sym (eqb-true slot n q)) ∙ e in
-        absurd (omega (arith, kind-kept before n size, eqb-true (entry-at before n .kind) 2 p))
-    by rest true p false q e =
-        let kept = value-kept before n size slot (eqb-false slot n q) in
-        kept ∙ rest (ap (λ (x : Entry). x .kind) (sym kept) ∙ e)
-
--- of every accepted source, each simple constant has a value from -2147483647 to 2147483647: none is the least value
-pub constants-signable : (source : List ℕ) → length source ≤ 65535 → (a : Accepted) → parse source ≡ ok a
-    → (slot : ℕ) → slot < a .program .slots → entry-at (a .names) slot .kind ≡ name-kind .constant → Signable (decode-of (entry-at (a .names) slot .word))
-constants-signable source short a e = subst Says (sym (p .is)) all
-  where
-    p : Parsed source a
-    p = parsed source short a e
-
-    Says : Accepted → Type 0
-    Says z = (slot : ℕ) → slot < z .program .slots → entry-at (z .names) slot .kind ≡ name-kind .constant → Signable (decode-of (entry-at (z .names) slot .word))
-
-    all : Says (accepted-as (input-of source) (p .declaration) (p .body) (p .s₃))
-    all slot l k =
-        let s = p .s₃ in
-        let same = sized-constant (s .words) (s .names) (s .count) slot k in
-        subst (λ (x : Entry). Signable (decode-of (x .word))) (sym same) (p .linked .constants slot l (ap (λ (x : Entry). x .kind) (sym same) ∙ k))

@@ -12,14 +12,14 @@ use lib.ListN.{length}
 use borrow.Author.Tests.{eqb-true, eqb-false}
 use Rattle.value.specs.Choice.{if_then_else_}
 use Rattle.token.specs.Kind.{kind}
-use Rattle.names.specs.Names.{name-kind, is, entry-at}
+use Rattle.names.specs.Names.{name-kind, is, entry-at, variables-in}
 use Rattle.program.specs.Syntax.{Range, Expr, Target, to-field, to-variable, Clause, Block, assign}
 use Rattle.grammar.specs.Reader.{Input, State, Reader, return, Turn, again, done, repeat, turns, token-of, is-kind, is-name, by-name}
 use Rattle.grammar.specs.Expressions.{Cell}
 use Rattle.grammar.specs.Statements.{old-variable, new-variable, named-target, field-target, read-target, target-number, clause, when-clause, clause-end, clause-turn, read-assignment}
 use Rattle.semantics.specs.Stands.{Table, table-of, word-in, ExprAt, target-in, first-clause, ClausesAt, assigns, Stands}
 use Rattle.semantics.specs.Written.{written-in-expr, written-in-condition, written-in-clauses, written-in-block}
-use Rattle.linking.specs.Steps.{advanced, written, named, Gives, gave, refused, refused-last, bind, made, regroup, choose, at-position, at-token, at-entry, over, wrote, wrote-both, named-last, by-found, expected, forbidden, Turned, repeated}
+use Rattle.linking.specs.Steps.{advanced, written, named, Gives, gave, refused, refused-last, bind, made, regroup, choose, at-position, at-token, at-state, at-entry, over, wrote, wrote-both, named-it, by-found, expected, forbidden, Turned, repeated}
 use Rattle.linking.specs.Runs.{tokens, Text, Sound, Run, stay, join, go-on, write-first, word-other}
 use Rattle.linking.specs.Naming.{of-kind, head-is, name-it}
 use Rattle.linking.specs.Constants.{is-name-inside, fresh-gives}
@@ -77,14 +77,16 @@ module _ {input : Input} {text : List ℕ} (T : Text input text) (cell : Cell) (
   variable-aim : {s : State} → Sound input text s → s .at < tokens input → Gives input (by-name (token-of input s (s .at)) false old-variable new-variable) s (λ _ t. Run input text (advanced s) t × (t .at ≡ s .at + 1))
   unfolding old-variable new-variable
   variable-aim {s} x l =
-      by-found _ false (λ slot _. at-entry slot _ (choose (is (entry-at (s .names) slot) (name-kind .variable)) (λ _. over (gave slot (stay (go-on x l .sound), refl))) (λ _. refused 9)))
+      by-found _ false (λ slot _. at-entry slot _ (choose (is (entry-at (s .names) slot) (name-kind .variable)) (λ _. over (gave _ (stay (go-on x l .sound), refl))) (λ _. refused 9)))
       (bind (fresh-gives T false 0 x)
       (λ i t f.
-      named-last i (name-kind .variable) 0 (
-        name-it (subst (λ (z : State). Run input text (advanced s) z) (sym (f .next)) (stay (go-on x l .sound))) i (name-kind .variable) 0 (f .inside) (f .a-name) (omega (arith, f .few, f .piece .same)) (omega arith) (omega arith) (λ _. omega arith)
-            (λ e. absurd (omega arith)),
+      at-state _
+      (named-it i (name-kind .variable) (variables-in (t .names) (t .count)) _
+      (gave _ (
+        name-it (subst (λ (z : State). Run input text (advanced s) z) (sym (f .next)) (stay (go-on x l .sound))) i (name-kind .variable) (variables-in (t .names) (t .count)) (f .inside) (f .a-name) (omega (arith, f .few, f .piece .same)) (omega arith)
+            (omega arith) (λ e. absurd (omega arith)) (λ e. absurd (omega arith)) (λ _. refl) (λ e. absurd (omega arith)),
         ap (λ (z : State). z .at) (f .next),
-      )))
+      )))))
 
   target-gives : {s : State} → Sound input text s → is-name (token-of input s (s .at)) ≡ true → Gives input (read-target cell) s (λ to t. Aim s to t × (is-kind (token-of input s (s .at)) (kind .time) ≡ false))
   unfolding read-target first-clause

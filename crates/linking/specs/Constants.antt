@@ -19,7 +19,7 @@ use Rattle.names.specs.declared.Entry.{Entry}
 use Rattle.names.specs.Names.{name-kind, is, entry-at, most-names}
 use Rattle.program.specs.Syntax.{Range, range}
 use Rattle.program.specs.Table.{word-at}
-use Rattle.grammar.specs.Reader.{Input, State, Result, ok, fail, Reader, and-then, _>>=_, _>>_, _▷_, return, next-token, unit, is-kind, again, done, turns, token-of, position, advance, put, is-name, entry-in, fresh, reference, use-name}
+use Rattle.grammar.specs.Reader.{Input, State, Result, ok, fail, Reader, and-then, _>>=_, _>>_, _▷_, return, next-token, unit, is-kind, again, done, turns, token-of, position, advance, put, is-name, entry-in, fresh, use-name}
 use Rattle.grammar.specs.Constants.{is-sign, named-constant, read-constant, read-signed, range-rule, read-range, value-turn, read-values, read-size, array-head, array-constant, simple-constant, constant-value, read-declaration, constants-turn, read-constants}
 use Rattle.linking.specs.Steps.{advanced, written, Gives, gave, refused, refused-last, bind, regroup, given-as, choose, at-position, at-token, at-state, at-entry, over, wrote, wrote-both, wrote-last, noted-it, named-it, by-found, expected, opened, Turned, repeated}
 use Rattle.linking.specs.Runs.{word-put, both-2, both-3, tokens, head-at, Text, Signable, Sound, Run, stay, join, go-on, write-first, write-plain}
@@ -101,7 +101,7 @@ module _ {input : Input} {text : List ℕ} where
 
 -- the state behind a name in use
 abbrev pub used : State → ℕ → State
-used s slot = written (written (advanced s) (s .at) 2 (entry-at (s .names) slot .kind)) (s .at) 3 (reference slot (entry-at (s .names) slot))
+used s slot = written (written (advanced s) (s .at) 2 (entry-at (s .names) slot .kind)) (s .at) 3 (entry-at (s .names) slot .word)
 
 pub used-it : {A : Type 0} {input : Input} {s : State} {Q : A → State → Type 0} (slot : ℕ) (h : Entry → Reader A) → Gives input (h (entry-at (s .names) slot)) (used s slot) Q → Gives input (use-name slot >>= h) s Q
 unfolding use-name entry-in position put advance _>>=_ return
@@ -109,7 +109,7 @@ used-it slot h x = record { is = x .is }
 
 pub use-piece : {input : Input} {text : List ℕ} {s : State} → Sound input text s → s .at < tokens input → (slot : ℕ) → Piece input text s (used s slot)
 use-piece {s = s} x l slot =
-    write-piece x (write-piece x (one-token x l) (s .at) 2 (entry-at (s .names) slot .kind) (le-refl _) (omega arith) (omega arith) (omega arith)) (s .at) 3 (reference slot (entry-at (s .names) slot)) (le-refl _) (omega arith) (omega arith)
+    write-piece x (write-piece x (one-token x l) (s .at) 2 (entry-at (s .names) slot .kind) (le-refl _) (omega arith) (omega arith) (omega arith)) (s .at) 3 (entry-at (s .names) slot .word) (le-refl _) (omega arith) (omega arith)
     (omega arith)
 
 -- ---- constants and ranges
@@ -290,7 +290,8 @@ module _ {input : Input} {text : List ℕ} (T : Text input text) where
               let l₄ : 4 * i + 3 < length (s₂ .words) = omega (arith, v .run .sound .size, T .few) in
               let w₂ = both-2 (s₂ .words) i (encode-of z) (s₁ .at + 1) l₄ in
               let w₃ = both-3 (s₂ .words) i (encode-of z) (s₁ .at + 1) l₄ in
-              (omega arith, omega (arith, v .far, p₁ .far), omega (arith, p₀ .far, p₁ .far), λ c. omega (arith, v .long c))),
+              (omega arith, omega (arith, v .far, p₁ .far), omega (arith, p₀ .far, p₁ .far), λ c. omega (arith, v .long c)))
+              (λ q. absurd (omega arith)) (λ q. absurd (omega arith)),
           omega (arith, v .far, p₁ .far, p₀ .far),
         )))))))
 
@@ -303,7 +304,7 @@ module _ {input : Input} {text : List ℕ} (T : Text input text) where
         (λ z t h.
         let p₂ = join-pieces p₁ (h .0) in
         named-it i (name-kind .constant) (encode-of z) _
-        (gave unit (name-it (p₂ .run) i (name-kind .constant) (encode-of z) i-in a-name (omega (arith, p₂ .same)) (omega arith) (omega arith) (λ _. encoded-signable z (h .1)) (λ q. absurd (omega arith)), p₂ .far))))
+        (gave unit (name-it (p₂ .run) i (name-kind .constant) (encode-of z) i-in a-name (omega (arith, p₂ .same)) (omega arith) (omega arith) (λ _. encoded-signable z (h .1)) (λ q. absurd (omega arith)) (λ q. absurd (omega arith)) (λ q. absurd (omega arith)), p₂ .far))))
 
     value-gives : (room : Bool) {s : State} → Piece input text s₀ s → i < s .at → Gives input (constant-value room i) s (λ _ t. Run input text s₀ t × (s₀ .at < t .at))
     unfolding constant-value

@@ -14,9 +14,9 @@ use Rattle.value.specs.Worked.{decode-of}
 use Rattle.value.specs.Laws.{never, and-both}
 use Rattle.token.specs.Kind.{kind, level-of}
 use Rattle.names.specs.declared.Entry.{Entry}
-use Rattle.names.specs.Names.{name-kind, is, entry-at, is-field, is-visible, in-space}
+use Rattle.names.specs.Names.{name-kind, is, entry-at, is-field, in-space}
 use Rattle.program.specs.Syntax.{Range, Expr, number, time, variable, index, element, unary, binary}
-use Rattle.grammar.specs.Reader.{Input, State, Reader, _>>_, return, done, turns, token-of, refuse, reference}
+use Rattle.grammar.specs.Reader.{Input, State, Reader, _>>_, return, done, turns, token-of, refuse}
 use Rattle.grammar.specs.Constants.{is-sign as is-sign-token}
 use Rattle.grammar.specs.Expressions.{Cell, plain, array-values, read-bracket, read-element, array-use, name-use, read-primary, read-operand, Left, left, read-right, operator-turn, climb, levels, operand-in, read-expression}
 use Rattle.semantics.specs.Stands.{Table, table-of, word-in, array-in, is-sign, is-unary}
@@ -31,9 +31,9 @@ use Rattle.linking.specs.Fields.{plain-it, used-2, used-3, Reads, neighb
 
 -- a visible name that is no array constant, constant or variable is an index
 index-kind : (e : Entry) → 0 < e .kind → e .kind < 7 → in-space false e ≡ true → eqb (e .kind) 2 ≡ false → eqb (e .kind) 1 ≡ false → eqb (e .kind) 4 ≡ false → e .kind ≡ name-kind .index
-unfolding in-space is-visible is-field
+unfolding in-space is-field
 index-kind e l m v a b c =
-    let h = not-true (eqb (e .kind) 3 || eqb (e .kind) 6) (and-both _ (not (eqb (e .kind) 5 && eqb (e .word) 0)) v .0) in
+    let h = not-true (eqb (e .kind) 3 || eqb (e .kind) 6) v in
     omega (arith, eqb-false (e .kind) 2 a, eqb-false (e .kind) 1 b, eqb-false (e .kind) 4 c, eqb-false (e .kind) 3 (neither (eqb (e .kind) 3) (eqb (e .kind) 6) h .0), eqb-false (e .kind) 6 (neither (eqb (e .kind) 3) (eqb (e .kind) 6) h .1))
   where
     neither : (a b : Bool) → (a || b) ≡ false → (a ≡ false) × (b ≡ false)
@@ -108,7 +108,7 @@ module _ {input : Input} {text : List ℕ} (T : Text input text) (cell : Cell) (
     simple e c = plain-it (gave e (behind, c))
 
     array-gives : (room : Bool) (inner : Reader Expr) → ReadsLevel 1 inner → it .kind ≡ name-kind .array → Gives input (array-use room inner (entry-at (s .names) slot)) (used s slot) (Reads T (cell .dims) (λ tb at e next. Name tb at e next) s)
-    unfolding array-use read-element reference it plain-kind
+    unfolding array-use read-element it plain-kind
     array-gives room inner reads k =
         at-token _
         (choose _
@@ -124,7 +124,7 @@ module _ {input : Input} {text : List ℕ} (T : Text input text) (cell : Cell) (
           join behind (h .0),
           λ wf v.
               let v₁ = second-part x v behind (h .0) in
-              let w : word-in wf (tokens input) 3 (s .at) ≡ it .word = used-3 T slot x (h .0) v ∙ rw k in
+              let w : word-in wf (tokens input) 3 (s .at) ≡ it .word = used-3 T slot x (h .0) v in
               subst₂ (λ (p : ℕ) (a : List ℤ). Name (table-of wf (tokens input) (cell .dims)) (s .at) (element p a d) (t .at)) (view-place v (behind .sound) (s .at + 1) b)
               (ap (array-in (table-of wf (tokens input) (cell .dims))) w ∙ v₁ .known slot (f .listed) k)
               (name-array _ (s .at) (used-2 T slot x (h .0) v ∙ k) (view-kind v (behind .sound) (s .at + 1) ∙ eqb-true _ _ c) (h .1 wf v₁)),
@@ -133,7 +133,7 @@ module _ {input : Input} {text : List ℕ} (T : Text input text) (cell : Cell) (
         (λ _. regroup _ _ _ (noted-it 12 (λ p. plain-it (gave _ (note-it behind 12 p (omega arith), λ wf v. absurd (still-noted (s .noted) 12 p (omega arith) (v .clear))))))))
 
     name-gives : (room : Bool) (inner : Reader Expr) → ReadsLevel 1 inner → Gives input (name-use room inner slot) s (Reads T (cell .dims) (λ tb at e next. Name tb at e next) s)
-    unfolding name-use reference it
+    unfolding name-use it
     name-gives room inner reads =
         used-it slot _
         (choose _ (λ a. array-gives room inner reads (eqb-true _ _ a))
@@ -141,19 +141,17 @@ module _ {input : Input} {text : List ℕ} (T : Text input text) (cell : Cell) (
         choose _
         (λ c.
         let k : it .kind ≡ name-kind .constant = eqb-true _ _ c in
-        let w₃ : reference slot it ≡ it .word = rw k in
         simple _
         (λ wf v.
-        subst (λ (w : ℕ). Name (table-of wf (tokens input) (cell .dims)) (s .at) (number (decode-of w)) (s .at + 1)) (used-3 T slot x (stay (behind .sound)) v ∙ w₃)
+        subst (λ (w : ℕ). Name (table-of wf (tokens input) (cell .dims)) (s .at) (number (decode-of w)) (s .at + 1)) (used-3 T slot x (stay (behind .sound)) v)
         (name-constant _ (s .at) (used-2 T slot x (stay (behind .sound)) v ∙ k))))
         (λ nc.
         choose _
         (λ d.
         let k : it .kind ≡ name-kind .variable = eqb-true _ _ d in
-        let w₃ : reference slot it ≡ slot = rw k in
         simple _
         (λ wf v.
-        subst (λ (w : ℕ). Name (table-of wf (tokens input) (cell .dims)) (s .at) (variable w) (s .at + 1)) (used-3 T slot x (stay (behind .sound)) v ∙ w₃)
+        subst (λ (w : ℕ). Name (table-of wf (tokens input) (cell .dims)) (s .at) (variable w) (s .at + 1)) (used-3 T slot x (stay (behind .sound)) v)
         (name-variable _ (s .at) (used-2 T slot x (stay (behind .sound)) v ∙ k))))
         (λ nd.
         let e = x .entries slot (f .listed) in

@@ -18,7 +18,7 @@ use Rattle.names.specs.declared.Entry.{Entry}
 use Rattle.names.specs.Names.{name-kind, is, entry-at, letters}
 use Rattle.token.specs.Bytes.{same}
 use Rattle.program.specs.Syntax.{Range, Index, fixed, moving, Expr, field}
-use Rattle.grammar.specs.Reader.{Input, State, Reader, _>>_, unit, again, done, turns, token-of, is-kind, is-name, forbid, reference}
+use Rattle.grammar.specs.Reader.{Input, State, Reader, _>>_, unit, again, done, turns, token-of, is-kind, is-name, forbid}
 use Rattle.grammar.specs.Constants.{is-sign as is-sign-token}
 use Rattle.grammar.specs.Expressions.{Cell, plain, field-name, dot-field, field-number, read-field, put-field, named-index, fixed-index, read-index, index-turn, read-indices, read-neighbour, read-own}
 use Rattle.semantics.specs.Stands.{Table, table-of, word-in, linked, index-in, next-index, indices-in, is-sign}
@@ -47,12 +47,12 @@ module _ {input : Input} {text : List ℕ} (T : Text input text) where
     pub used-2 : word-in wf (tokens input) 2 (s .at) ≡ entry-at (s .names) slot .kind
     used-2 =
         view-word v (r .sound .within) (s .at) 2 (le-refl _) (omega (arith, r .on)) (omega arith) ∙ r .below _ (omega arith)
-        ∙ both-2 (s .words) (s .at) (entry-at (s .names) slot .kind) (reference slot (entry-at (s .names) slot)) (omega (arith, x .size, r .on, r .sound .within, T .few))
+        ∙ both-2 (s .words) (s .at) (entry-at (s .names) slot .kind) (entry-at (s .names) slot .word) (omega (arith, x .size, r .on, r .sound .within, T .few))
 
-    pub used-3 : word-in wf (tokens input) 3 (s .at) ≡ reference slot (entry-at (s .names) slot)
+    pub used-3 : word-in wf (tokens input) 3 (s .at) ≡ entry-at (s .names) slot .word
     used-3 =
         view-word v (r .sound .within) (s .at) 3 (le-refl _) (omega (arith, r .on)) (omega arith) ∙ r .below _ (omega arith)
-        ∙ both-3 (s .words) (s .at) (entry-at (s .names) slot .kind) (reference slot (entry-at (s .names) slot)) (omega (arith, x .size, r .on, r .sound .within, T .few))
+        ∙ both-3 (s .words) (s .at) (entry-at (s .names) slot .kind) (entry-at (s .names) slot .word) (omega (arith, x .size, r .on, r .sound .within, T .few))
 
   -- `cell` and `time` are found in no name list
   pub a-name-found : {s : State} → Sound input text s → (i : ℕ) → is-name (token-of input s i) ≡ true → {fields : Bool} {slot : ℕ} → Found (input .source) (s .names) (s .count) fields (token-of input s i .start) (token-of input s i .len) slot → eqb (token-of input s i .kind) (kind .name) ≡ true
@@ -89,13 +89,13 @@ module _ {input : Input} {text : List ℕ} (T : Text input text) where
       pub next : Claim input text dims s t (λ tb. next-index tb (s .at) ≡ t .at + 1)
 
     named-gives : {s : State} → Sound input text s → is-name (token-of input s (s .at)) ≡ true → (slot : ℕ) → Found (input .source) (s .names) (s .count) false (token-of input s (s .at) .start) (token-of input s (s .at) .len) slot → Gives input (named-index (token-of input s (s .at)) slot) s (Element s)
-    unfolding named-index index-in next-index is-sign reference
+    unfolding named-index index-in next-index is-sign
     named-gives {s} x q slot f =
         at-entry slot _
         (choose _
         (λ c.
         used-it slot _
-        (gave (moving (token-of input s (s .at) .start) (reference slot e))
+        (gave (moving (token-of input s (s .at) .start) (e .word))
         (record {
           piece = p;
           element = λ wf v.
@@ -113,8 +113,7 @@ module _ {input : Input} {text : List ℕ} (T : Text input text) where
           element = λ wf v.
               let k : e .kind ≡ name-kind .constant = eqb-true (e .kind) (name-kind .constant) c in
               let w : word-in wf (tokens input) 2 (s .at) ≡ name-kind .constant = used-2 slot x (stay (p .run .sound)) v ∙ k in
-              let u : reference slot e ≡ e .word = rw k in
-              rw (a-kind v, w) (ap₂ (λ (a b : ℕ). fixed a (decode-of b)) (view-place v x (s .at) l) (used-3 slot x (stay (p .run .sound)) v ∙ u));
+              rw (a-kind v, w) (ap₂ (λ (a b : ℕ). fixed a (decode-of b)) (view-place v x (s .at) l) (used-3 slot x (stay (p .run .sound)) v));
           next = λ wf v. rw (a-kind v) (omega arith);
         })))
         (λ _. refused 8)))

@@ -1,6 +1,7 @@
 -- That the tree which reading gives stands in the word table which reading leaves. Read in this order.
 pub mod Steps
 pub mod Runs
+pub mod Removing
 pub mod Naming
 pub mod Constants
 pub mod Tables
@@ -17,3 +18,4 @@ pub mod Scanning
 pub mod Timed
 pub mod Linking
 pub mod Accepted
+pub mod Numbering

@@ -6,7 +6,7 @@ use mathlib.Core.Logic.{_⊎_, inl, inr}
 use mathlib.Core.Bool.{Bool, true, false}
 use mathlib.Core.List.{List, [], _∷_, _++_}
 use lib.Dec.{ltb}
-use lib.ListN.{length, getD, replicate, length-append, length-replicate, List·getD-eq-default}
+use lib.ListN.{length, getD, replicate, length-append, length-replicate, getD-replicate, List·getD-eq-default}
 use lib.Seq.{getD-append-add, ext-getD}
 use borrow.Author.Tests.{ltb-true, ltb-false, lt-ltb}
 use Rattle.value.specs.Worked.{decode-of}
@@ -26,7 +26,7 @@ use Rattle.grammar.specs.Source.{Declared, read-cell, most-open, input-of, star
 use Rattle.semantics.specs.Stands.{table-of, word-in, ranges-in, Stands}
 use Rattle.semantics.specs.Written.{written-in-block}
 use Rattle.semantics.specs.Listing.{Writes}
-use Rattle.linking.specs.Runs.{tokens, head-at, span-at, Text, Signable, Sound, Run}
+use Rattle.linking.specs.Runs.{tokens, head-at, span-at, Text, Signable, Sound, Run, join}
 use Rattle.linking.specs.Constants.{constants-gives}
 use Rattle.linking.specs.Naming.{token-kind, kind-at}
 use Rattle.linking.specs.Tables.{word-inside, known-left, View}
@@ -164,6 +164,8 @@ module _ (source : List ℕ) (short : length source ≤ 65535) where
     spans = λ i. refl;
     ahead = λ j l. refl;
     entries = λ slot l. absurd (omega arith);
+    numbered = λ slot l. absurd (omega arith);
+    rest = λ j l m. getD-replicate 1024 j 0 0 m;
   }
 
 -- ---- the whole source
@@ -192,8 +194,10 @@ pub record Linked (source : List ℕ) (s₁ s₂ s₃ : State) (d : Declared) (b
   pub in-order : s₂ .at ≤ s₃ .at
   pub within : s₃ .at ≤ tokens (input-of source)
   pub few-names : s₃ .count ≤ 256
-  -- every simple constant is a literal with at most one sign
-  pub constants : (slot : ℕ) → slot < s₃ .count → entry-at (s₃ .names) slot .kind ≡ name-kind .constant → Signable (decode-of (entry-at (s₃ .names) slot .word))
+  -- the names are as in every state that reading can be in
+  pub sound : Sound (input-of source) (scanned-words (scan source)) s₃
+  -- and none is an index's
+  pub no-index : (slot : ℕ) → slot < s₃ .count → entry-at (s₃ .names) slot .kind ≡ name-kind .index → ⊥
   pub size : length (s₃ .words) ≡ 16384
   -- the tokens are those of the source
   pub heads : (i : ℕ) → head-at (s₃ .words) i ≡ head-at (scanned-words (scan source)) i
@@ -222,7 +226,8 @@ linking source short s₁ s₂ s₃ d b p q r stop clear =
       in-order = run .on;
       within = run .sound .within;
       few-names = run .sound .most;
-      constants = λ slot l. run .sound .entries slot l .small;
+      sound = run .sound;
+      no-index = λ slot l k. omega (arith, join constants (join (cell .run) run) .shut slot (omega arith) l k, run .sound .most);
       size = run .sound .size;
       heads = run .sound .heads;
       spans = run .sound .spans;
@@ -234,8 +239,11 @@ linking source short s₁ s₂ s₃ d b p q r stop clear =
     T : Text input (scanned-words (scan source))
     T = text-of source short
 
+    constants : Run input (scanned-words (scan source)) (start-state (scan source)) s₁
+    constants = constants-gives T (start-sound source short) .is unit s₁ p
+
     cell : CellRead T s₁ d s₂
-    cell = cell-gives T (constants-gives T (start-sound source short) .is unit s₁ p .sound) .is d s₂ q
+    cell = cell-gives T (constants .sound) .is d s₂ q
 
     whole : BlockRead T (d .cell) (cell .some-dims) 0 s₂ b s₃
     whole = block-gives T (d .cell) (cell .some-dims) most-open 0 (omega arith) s₂ (cell .run .sound) .is b s₃ r

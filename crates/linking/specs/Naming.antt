@@ -1,5 +1,5 @@
 -- What reading keeps where it declares a name, and what is known of the tokens and names that it looks at.
-use Prim.Native.Nat.{ℕ, zero, suc, _+_, _*_, _/_, _%_, _≤_, _<_}
+use Prim.Native.Nat.{ℕ, zero, suc, _+_, _-_, _*_, _/_, _%_, _≤_, _<_}
 use native.Mathlib.Nat.{le-refl}
 use native.Mathlib.Omega.{arith}
 use mathlib.Core.Path.{_≡_, refl, sym, ap, _∙_, subst}
@@ -7,9 +7,8 @@ use mathlib.Core.Bool.{Bool, true, false, _&&_}
 use mathlib.Core.List.{List}
 use mathlib.Core.Option.{some}
 use lib.Dec.{eqb, ltb}
-use lib.ListN.{length-set}
-use lib.Seq.{getD-set-other}
-use borrow.Author.Tests.{ltb-true, lt-ltb, eqb-true, eqb-false}
+use lib.ListN.{length, length-set}
+use borrow.Author.Tests.{ltb-true, ltb-false, lt-ltb, eqb-true, eqb-false}
 use Rattle.value.specs.Choice.{if_then_else_}
 use Rattle.value.specs.Laws.{and-both}
 use Rattle.value.specs.Worked.{decode-of}
@@ -17,12 +16,13 @@ use Rattle.token.specs.Kind.{kind}
 use Rattle.token.specs.Bytes.{same}
 use Rattle.token.specs.Scanning.{token-in, token-at, stop-of}
 use Rattle.names.specs.declared.Entry.{Entry}
-use Rattle.names.specs.Names.{name-kind, entry-at, entries-from, with-entry, with-value, in-space, letters, find, find-name}
+use Rattle.names.specs.Names.{name-kind, entry-at, entries-from, with-entry, without-entry, variables-in, in-space, letters, find, find-name}
 use Rattle.program.specs.Table.{word-at}
 use Rattle.grammar.specs.Complaint.{Complaint, complaint, before, first-of}
 use Rattle.grammar.specs.Reader.{Input, State, token-of}
-use Rattle.linking.specs.Steps.{named, revalued, noting}
-use Rattle.linking.specs.Runs.{tokens, head-at, span-at, Signable, Entered, Sound, Run, entered-kept, entry-kept, value-kept, entry-new}
+use Rattle.linking.specs.Steps.{named, released, noting}
+use Rattle.linking.specs.Runs.{tokens, head-at, span-at, Signable, Entered, Sound, RunBut, Run, entered-kept, entry-kept, words-behind, entry-new}
+use Rattle.linking.specs.Removing.{without-length, entry-before, entry-behind, rest-zero, variables-kept, variables-more, variables-without}
 
 -- ---- the tokens
 
@@ -72,8 +72,9 @@ module _ {input : Input} {text : List ℕ} {s : State} (x : Sound input text s) 
 
 module _ {input : Input} {text : List ℕ} {s t : State} (r : Run input text s t) where
   pub name-it : (i k v : ℕ) → i < tokens input → head-at text i ≡ kind .name → t .count < 256 → 0 < k → k < 7 → (k ≡ name-kind .constant → Signable (decode-of v))
-      → (k ≡ name-kind .array → (s .at < v) × (v < t .at) × (s .at < word-at (t .words) v 3) × (t .noted .number ≡ 0 → word-at (t .words) v 3 + word-at (t .words) v 2 ≤ t .at)) → Run input text s (named input t i k v)
-  name-it i k v l name room k₀ k₇ small array =
+      → (k ≡ name-kind .array → (s .at < v) × (v < t .at) × (s .at < word-at (t .words) v 3) × (t .noted .number ≡ 0 → word-at (t .words) v 3 + word-at (t .words) v 2 ≤ t .at))
+      → (k ≡ name-kind .variable → v ≡ variables-in (t .names) (t .count)) → {held : ℕ} → (k ≡ name-kind .index → t .count ≡ held) → RunBut input text s (named input t i k v) held
+  name-it i k v l name room k₀ k₇ small array number {held} index =
       record {
         on = r .on;
         clear = r .clear;
@@ -86,11 +87,15 @@ module _ {input : Input} {text : List ℕ} {s t : State} (r : Run input text s t
           spans = x .spans;
           ahead = x .ahead;
           entries = λ slot m. one slot m (eqb slot (t .count)) refl;
+          numbered = λ slot m q. three slot m q (eqb slot (t .count)) refl;
+          rest = λ j m o. words-behind (t .names) (t .count) e j (omega arith) ∙ x .rest j (omega arith) o;
         };
         below = r .below;
         more = omega (arith, r .more);
         old = λ slot m. entry-kept (t .names) (t .count) e slot (λ q. omega (arith, r .more)) ∙ r .old slot m;
         new = λ slot m o q. two slot m o q (eqb slot (t .count)) refl;
+        grown = omega (arith, r .grown, before (t .count) (le-refl _), variables-more (with-entry (t .names) (t .count) e) (t .count) 1 .0);
+        shut = λ slot m o q. four slot m o q (eqb slot (t .count)) refl;
       }
     where
       x : Sound input text t
@@ -136,73 +141,98 @@ module _ {input : Input} {text : List ℕ} {s t : State} (r : Run input text s t
           let f = entry-kept (t .names) (t .count) e slot d in
           subst Behind (sym f) (r .new slot m (omega arith) (ap (λ (y : Entry). y .kind) (sym f) ∙ q))
 
-  -- an index gets another value
-  pub revalue-it : (slot v : ℕ) → s .count ≤ slot → slot < t .count → entry-at (t .names) slot .kind ≡ name-kind .index → Run input text s (revalued t slot v)
-  unfolding entry-at
-  revalue-it slot v l m k =
+      -- the variables before a slot, up to its own
+      before : (slot : ℕ) → slot ≤ t .count → variables-in (with-entry (t .names) (t .count) e) slot ≡ variables-in (t .names) slot
+      before slot m = variables-kept (t .names) (with-entry (t .names) (t .count) e) slot (λ j o. ap (λ (y : Entry). y .kind) (entry-kept (t .names) (t .count) e j (λ q. omega arith)))
+
+      three : (slot : ℕ) → slot < t .count + 1 → entry-at (with-entry (t .names) (t .count) e) slot .kind ≡ name-kind .variable → (b : Bool) → eqb slot (t .count) ≡ b
+          → entry-at (with-entry (t .names) (t .count) e) slot .word ≡ variables-in (with-entry (t .names) (t .count) e) slot
+      three slot m q true c =
+          let p = eqb-true slot (t .count) c in
+          let f : entry-at (with-entry (t .names) (t .count) e) slot ≡ e = ap (λ (y : ℕ). entry-at (with-entry (t .names) (t .count) e) y) p ∙ last in
+          ap (λ (y : Entry). y .word) f ∙ number (ap (λ (y : Entry). y .kind) (sym f) ∙ q) ∙ ap (variables-in (t .names)) (sym p) ∙ sym (before slot (omega arith))
+      three slot m q false c =
+          let d = eqb-false slot (t .count) c in
+          let f = entry-kept (t .names) (t .count) e slot d in
+          ap (λ (y : Entry). y .word) f ∙ x .numbered slot (omega arith) (ap (λ (y : Entry). y .kind) (sym f) ∙ q) ∙ sym (before slot (omega arith))
+
+      four : (slot : ℕ) → s .count ≤ slot → slot < t .count + 1 → entry-at (with-entry (t .names) (t .count) e) slot .kind ≡ name-kind .index → (b : Bool) → eqb slot (t .count) ≡ b → slot ≡ held
+      four slot m o q true c =
+          let p = eqb-true slot (t .count) c in
+          let f : entry-at (with-entry (t .names) (t .count) e) slot ≡ e = ap (λ (y : ℕ). entry-at (with-entry (t .names) (t .count) e) y) p ∙ last in
+          p ∙ index (ap (λ (y : Entry). y .kind) (sym f) ∙ q)
+      four slot m o q false c =
+          let d = eqb-false slot (t .count) c in
+          let f = entry-kept (t .names) (t .count) e slot d in
+          absurd (omega (arith, r .shut slot m (omega arith) (ap (λ (y : Entry). y .kind) (sym f) ∙ q), room))
+
+-- an index's record is free again
+module _ {input : Input} {text : List ℕ} {s t : State} (slot : ℕ) (r : RunBut input text s t slot) where
+  pub release-it : s .count ≤ slot → slot < t .count → entry-at (t .names) slot .kind ≡ name-kind .index → Run input text s (released t slot)
+  release-it l m k =
       record {
         on = r .on;
         clear = r .clear;
         sound = record {
-          size = r .sound .size;
-          within = r .sound .within;
-          room = length-set (t .names) (4 * slot + 3) v ∙ r .sound .room;
-          most = r .sound .most;
-          heads = r .sound .heads;
-          spans = r .sound .spans;
-          ahead = r .sound .ahead;
-          entries = λ j o. one j o (eqb j slot) refl;
+          size = x .size;
+          within = x .within;
+          room = without-length (t .names) slot held ∙ x .room;
+          most = omega (arith, x .most);
+          heads = x .heads;
+          spans = x .spans;
+          ahead = x .ahead;
+          entries = λ j o. let f = from j o in subst (λ (y : Entry). Entered input text (t .words) (t .at) (t .noted .number) y) (sym (f .3)) (x .entries (f .0) (f .1));
+          numbered = λ j o q. let f = from j o in ap (λ (y : Entry). y .word) (f .3) ∙ x .numbered (f .0) (f .1) (ap (λ (y : Entry). y .kind) (sym (f .3)) ∙ q) ∙ sym (f .4);
+          rest = λ j o p. rest-zero (t .names) slot held (t .count - 1) (omega arith) (λ i n u. x .rest i (omega arith) (omega (arith, x .room))) j o (omega (arith, x .room));
         };
         below = r .below;
-        more = r .more;
-        old = λ j o. value-kept (t .names) slot v j (λ q. omega arith) ∙ r .old j o;
-        new = λ j o p q. two j o p q (eqb j slot) refl;
+        more = omega arith;
+        old = λ j o. entry-before (t .names) slot held j (omega arith) ∙ r .old j o;
+        new = λ j o p q.
+            let f = from j p in
+            subst (λ (y : Entry). (s .at < y .word) × (s .at < word-at (t .words) (y .word) 3)) (sym (f .3)) (r .new (f .0) (omega (arith, f .2)) (f .1) (ap (λ (y : Entry). y .kind) (sym (f .3)) ∙ q));
+        grown = subst (λ (n : ℕ). variables-in (s .names) (s .count) ≤ n) (sym (as-many (t .count - 1) (omega arith) (omega arith) ∙ ap (variables-in (t .names)) (omega arith))) (r .grown);
+        shut = λ j o p q.
+            let f = from j p in
+            absurd (f .5 (r .shut (f .0) (omega (arith, f .2)) (f .1) (ap (λ (y : Entry). y .kind) (sym (f .3)) ∙ q)));
       }
     where
-      e : Entry
-      e = entry-at (t .names) slot
+      x : Sound input text t
+      x = r .sound
 
-      now : Entry
-      now = entry-at (with-value (t .names) slot v) slot
+      held : 4 * slot + 4 ≤ length (t .names)
+      held = omega (arith, x .room, x .most)
 
-      start-kept : now .start ≡ e .start
-      start-kept = getD-set-other (t .names) (4 * slot + 3) (4 * slot) v 0 (λ q. absurd (omega arith))
+      -- as many variables stand before a name that moves down
+      as-many : (j : ℕ) → slot ≤ j → j < t .count → variables-in (without-entry (t .names) slot) j ≡ variables-in (t .names) (j + 1)
+      as-many j p o =
+          let e : slot + (j - slot) ≡ j = omega arith in
+          subst (λ (n : ℕ). variables-in (without-entry (t .names) slot) n ≡ variables-in (t .names) (n + 1)) e
+          (variables-without (t .names) slot (λ z. absurd (omega (arith, k))) (j - slot) (omega (arith, x .room, x .most)))
 
-      len-kept : now .len ≡ e .len
-      len-kept = getD-set-other (t .names) (4 * slot + 3) (4 * slot + 1) v 0 (λ q. absurd (omega arith))
-
-      kind-kept : now .kind ≡ e .kind
-      kind-kept = getD-set-other (t .names) (4 * slot + 3) (4 * slot + 2) v 0 (λ q. absurd (omega arith))
-
-      it : Entered input text (t .words) (t .at) (t .noted .number) e
-      it = r .sound .entries slot m
-
-      fresh : Entered input text (t .words) (t .at) (t .noted .number) now
-      fresh = record {
-        some-kind = omega (arith, k, kind-kept);
-        a-kind = omega (arith, k, kind-kept);
-        small = λ q. absurd (omega (arith, k, kind-kept));
-        before = λ q. absurd (omega (arith, k, kind-kept));
-        listed = λ z q. absurd (omega (arith, k, kind-kept));
-        token = it .token;
-        inside = it .inside;
-        a-name = it .a-name;
-        start-is = start-kept ∙ it .start-is;
-        len-is = len-kept ∙ it .len-is;
-      }
-
-      one : (j : ℕ) → j < t .count → (b : Bool) → eqb j slot ≡ b → Entered input text (t .words) (t .at) (t .noted .number) (entry-at (with-value (t .names) slot v) j)
-      one j o true q = subst (λ (y : ℕ). Entered input text (t .words) (t .at) (t .noted .number) (entry-at (with-value (t .names) slot v) y)) (sym (eqb-true j slot q)) fresh
-      one j o false q = subst (λ (y : Entry). Entered input text (t .words) (t .at) (t .noted .number) y) (sym (value-kept (t .names) slot v j (eqb-false j slot q))) (r .sound .entries j o)
-
-      Behind : Entry → Type 0
-      Behind y = (s .at < y .word) × (s .at < word-at (t .words) (y .word) 3)
-
-      two : (j : ℕ) → s .count ≤ j → j < t .count → entry-at (with-value (t .names) slot v) j .kind ≡ name-kind .array → (b : Bool) → eqb j slot ≡ b → Behind (entry-at (with-value (t .names) slot v) j)
-      two j o p q true c = let f : entry-at (with-value (t .names) slot v) j .kind ≡ now .kind = ap (λ (y : ℕ). entry-at (with-value (t .names) slot v) y .kind) (eqb-true j slot c) in absurd (omega (arith, k, kind-kept))
-      two j o p q false c =
-          let f = value-kept (t .names) slot v j (eqb-false j slot c) in
-          subst Behind (sym f) (r .new j o p (ap (λ (y : Entry). y .kind) (sym f) ∙ q))
+      -- the other slot that a name stood in, with as many variables before it
+      from : (j : ℕ) → j < t .count - 1 → (i : ℕ) × (i < t .count) × (j ≤ i) × (entry-at (without-entry (t .names) slot) j ≡ entry-at (t .names) i) × (variables-in (without-entry (t .names) slot) j ≡ variables-in (t .names) i) × (i ≡ slot → ⊥)
+      from j o = by (ltb j slot) refl
+        where
+          by : (b : Bool) → ltb j slot ≡ b → (i : ℕ) × (i < t .count) × (j ≤ i) × (entry-at (without-entry (t .names) slot) j ≡ entry-at (t .names) i) × (variables-in (without-entry (t .names) slot) j ≡ variables-in (t .names) i) × (i ≡ slot → ⊥)
+          by true q =
+              let p = ltb-true j slot q in (
+                j,
+                omega arith,
+                le-refl j,
+                entry-before (t .names) slot held j p,
+                variables-kept (t .names) (without-entry (t .names) slot) j (λ i n. ap (λ (y : Entry). y .kind) (entry-before (t .names) slot held i (omega arith))),
+                λ z. absurd (omega arith),
+              )
+          by false q =
+              let p = ltb-false j slot q in (
+                j + 1,
+                omega arith,
+                omega arith,
+                entry-behind (t .names) slot held j p (omega (arith, x .room, x .most)),
+                as-many j p (omega arith),
+                λ z. absurd (omega arith),
+              )
 
 -- a complaint that is noted stays
 pub still-noted : (c : Complaint) (n p : ℕ) → 0 < n → first-of c (complaint n p) .number ≡ 0 → ⊥
@@ -229,11 +259,15 @@ note-it {input} {text} {s} {t} r k p l =
         spans = r .sound .spans;
         ahead = r .sound .ahead;
         entries = λ slot m. entered-kept (r .sound .entries slot m) (le-refl (t .at)) (λ q. absurd (z q)) (λ q l w o. refl);
+        numbered = r .sound .numbered;
+        rest = r .sound .rest;
       };
       below = r .below;
       more = r .more;
       old = r .old;
       new = r .new;
+      grown = r .grown;
+      shut = r .shut;
     }
   where
     z : first-of (t .noted) (complaint k p) .number ≡ 0 → ⊥

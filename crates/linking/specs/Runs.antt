@@ -15,7 +15,7 @@ use Rattle.value.specs.Worked.{decode-of}
 use Rattle.token.specs.Kind.{kind}
 use Rattle.token.specs.Bytes.{same}
 use Rattle.names.specs.declared.Entry.{Entry}
-use Rattle.names.specs.Names.{name-kind, entry-at, with-entry, with-value, letters}
+use Rattle.names.specs.Names.{name-kind, entry-at, with-entry, with-value, variables-in, letters}
 use Rattle.program.specs.Table.{word-at, with-word}
 use Rattle.grammar.specs.Reader.{Input, State}
 use Rattle.linking.specs.Steps.{advanced, written}
@@ -76,10 +76,13 @@ pub record Sound (input : Input) (text : List ℕ) (s : State) : Type 0 where
   pub spans : (i : ℕ) → span-at (s .words) i ≡ span-at text i
   pub ahead : (j : ℕ) → 4 * s .at ≤ j → getD (s .words) j 0 ≡ getD text j 0
   pub entries : (slot : ℕ) → slot < s .count → Entered input text (s .words) (s .at) (s .noted .number) (entry-at (s .names) slot)
+  -- a variable's number is how many variables stand before it, and behind the names are zeros
+  pub numbered : (slot : ℕ) → slot < s .count → entry-at (s .names) slot .kind ≡ name-kind .variable → entry-at (s .names) slot .word ≡ variables-in (s .names) slot
+  pub rest : (j : ℕ) → 4 * s .count ≤ j → j < 1024 → getD (s .names) j 0 ≡ 0
 
 -- reading went from one state to another: it wrote nothing before the first, and kept the names. An array constant declared meanwhile
--- has its name and its list behind the first token
-pub record Run (input : Input) (text : List ℕ) (s t : State) : Type 0 where
+-- has its name and its list behind the first token. Of the names declared meanwhile only that in one slot may be an index
+pub record RunBut (input : Input) (text : List ℕ) (s t : State) (held : ℕ) : Type 0 where
   pub on : s .at ≤ t .at
   pub clear : t .noted .number ≡ 0 → s .noted .number ≡ 0
   pub sound : Sound input text t
@@ -88,6 +91,14 @@ pub record Run (input : Input) (text : List ℕ) (s t : State) : Type 0 where
   pub old : (slot : ℕ) → slot < s .count → entry-at (t .names) slot ≡ entry-at (s .names) slot
   pub new : (slot : ℕ) → s .count ≤ slot → slot < t .count → entry-at (t .names) slot .kind ≡ name-kind .array
       → (s .at < entry-at (t .names) slot .word) × (s .at < word-at (t .words) (entry-at (t .names) slot .word) 3)
+  -- no variable was taken out
+  pub grown : variables-in (s .names) (s .count) ≤ variables-in (t .names) (t .count)
+  -- every other loop that began has ended
+  pub shut : (slot : ℕ) → s .count ≤ slot → slot < t .count → entry-at (t .names) slot .kind ≡ name-kind .index → slot ≡ held
+
+-- no loop that began is open: there is no slot 256
+abbrev pub Run : Input → List ℕ → State → State → Type 0
+Run input text s t = RunBut input text s t 256
 
 -- ---- words after a write
 
@@ -124,6 +135,15 @@ pub entry-kept : (names : List ℕ) (c : ℕ) (e : Entry) (slot : ℕ) → (slot
 entry-kept names c e slot d =
     entry-other _ (4 * c + 3) (e .word) slot c (omega arith) (omega arith) d ∙ entry-other _ (4 * c + 2) (e .kind) slot c (omega arith) (omega arith) d
     ∙ entry-other _ (4 * c + 1) (e .len) slot c (omega arith) (omega arith) d ∙ entry-other names (4 * c) (e .start) slot c (omega arith) (omega arith) d
+
+-- the words behind it
+pub words-behind : (names : List ℕ) (c : ℕ) (e : Entry) (j : ℕ) → 4 * c + 4 ≤ j → getD (with-entry names c e) j 0 ≡ getD names j 0
+words-behind names c e j l =
+    let n₀ = set names (4 * c) (e .start) in
+    let n₁ = set n₀ (4 * c + 1) (e .len) in
+    let n₂ = set n₁ (4 * c + 2) (e .kind) in
+    getD-set-other n₂ (4 * c + 3) j (e .word) 0 (λ q. absurd (omega arith)) ∙ getD-set-other n₁ (4 * c + 2) j (e .kind) 0 (λ q. absurd (omega arith))
+    ∙ getD-set-other n₀ (4 * c + 1) j (e .len) 0 (λ q. absurd (omega arith)) ∙ getD-set-other names (4 * c) j (e .start) 0 (λ q. absurd (omega arith))
 
 pub value-kept : (names : List ℕ) (c v slot : ℕ) → (slot ≡ c → ⊥) → entry-at (with-value names c v) slot ≡ entry-at names slot
 value-kept names c v slot d = entry-other names (4 * c + 3) v slot c (omega arith) (omega arith) d
@@ -190,10 +210,25 @@ module _ {input : Input} {text words : List ℕ} {at noted : ℕ} {e : Entry} wh
 
 module _ {input : Input} {text : List ℕ} where
   pub stay : {s : State} → Sound input text s → Run input text s s
-  stay {s} x = record { on = le-refl (s .at); clear = λ z. z; sound = x; below = λ j l. refl; more = le-refl (s .count); old = λ slot l. refl; new = λ slot l m k. absurd (omega arith) }
+  stay {s} x = record { on = le-refl (s .at); clear = λ z. z; sound = x; below = λ j l. refl; more = le-refl (s .count); old = λ slot l. refl; new = λ slot l m k. absurd (omega arith); grown = le-refl _; shut = λ slot l m k. absurd (omega arith) }
 
-  pub join : {s t u : State} → Run input text s t → Run input text t u → Run input text s u
-  join {s} {t} {u} a b =
+  -- the same where a loop may be open
+  pub but : {s t : State} → Run input text s t → (held : ℕ) → RunBut input text s t held
+  but r held =
+      record {
+        on = r .on;
+        clear = r .clear;
+        sound = r .sound;
+        below = r .below;
+        more = r .more;
+        old = r .old;
+        new = r .new;
+        grown = r .grown;
+        shut = λ slot l m k. absurd (omega (arith, r .shut slot l m k, r .sound .most));
+      }
+
+  pub join : {s t u : State} {held : ℕ} → RunBut input text s t held → RunBut input text t u held → RunBut input text s u held
+  join {s} {t} {u} {held} a b =
       record {
         on = omega (arith, a .on, b .on);
         clear = λ z. a .clear (b .clear z);
@@ -202,8 +237,14 @@ module _ {input : Input} {text : List ℕ} where
         more = omega (arith, a .more, b .more);
         old = λ slot l. b .old slot (omega (arith, a .more)) ∙ a .old slot l;
         new = λ slot l m k. by slot l m k (ltb slot (t .count)) refl;
+        grown = omega (arith, a .grown, b .grown);
+        shut = λ slot l m k. one slot l m k (ltb slot (t .count)) refl;
       }
     where
+      one : (slot : ℕ) → s .count ≤ slot → slot < u .count → entry-at (u .names) slot .kind ≡ name-kind .index → (x : Bool) → ltb slot (t .count) ≡ x → slot ≡ held
+      one slot l m k true q = let h = ltb-true slot (t .count) q in a .shut slot l h (ap (λ (y : Entry). y .kind) (sym (b .old slot h)) ∙ k)
+      one slot l m k false q = b .shut slot (ltb-false slot (t .count) q) m k
+
       by : (slot : ℕ) → s .count ≤ slot → slot < u .count → entry-at (u .names) slot .kind ≡ name-kind .array → (x : Bool) → ltb slot (t .count) ≡ x
           → (s .at < entry-at (u .names) slot .word) × (s .at < word-at (u .words) (entry-at (u .names) slot .word) 3)
       by slot l m k true q =
@@ -231,11 +272,15 @@ module _ {input : Input} {text : List ℕ} where
           spans = x .spans;
           ahead = λ j m. x .ahead j (omega arith);
           entries = λ slot m. entered-kept (x .entries slot m) (omega arith) (λ z. z) (λ q r w o. refl);
+          numbered = x .numbered;
+          rest = x .rest;
         };
         below = λ j m. refl;
         more = le-refl (s .count);
         old = λ slot m. refl;
         new = λ slot m o k. absurd (omega arith);
+        grown = le-refl _;
+        shut = λ slot m o k. absurd (omega arith);
       }
 
   -- words 2 and 3 of a token that is read may be written, if it is no array constant's name that was declared meanwhile
@@ -254,11 +299,15 @@ module _ {input : Input} {text : List ℕ} where
           spans = λ k. other (4 * k + 1) (λ q. absurd (omega arith)) ∙ r .sound .spans k;
           ahead = λ j m. other j (λ q. absurd (omega arith)) ∙ r .sound .ahead j m;
           entries = λ slot m. entered-kept (r .sound .entries slot m) (le-refl (t .at)) (λ z. z) (λ q l u o. other (4 * entry-at (t .names) slot .word + u) (λ p. away slot m q (omega arith)));
+          numbered = r .sound .numbered;
+          rest = r .sound .rest;
         };
         below = λ j m. other j (λ q. absurd (omega arith)) ∙ r .below j m;
         more = r .more;
         old = r .old;
         new = λ slot l m k. (r .new slot l m k .0, rw (other (4 * entry-at (t .names) slot .word + 3) (λ p. away slot m k (omega arith))) (r .new slot l m k .1));
+        grown = r .grown;
+        shut = r .shut;
       }
     where
       other : (j : ℕ) → (j ≡ 4 * i + w → ⊥) → getD (set (t .words) (4 * i + w) v) j 0 ≡ getD (t .words) j 0

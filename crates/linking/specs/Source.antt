@@ -92,10 +92,10 @@ module _ {input : Input} {text : List ℕ} (T : Text input text) where
     bare-piece : {t : State} → Piece input text s t → Bare s₀ t
     bare-piece {t} p = record { run = join (b .run) (p .run); none = λ slot l m k. b .none slot l (omega (arith, p .same)) (ap (λ (e : Entry). e .kind) (sym (p .run .old slot (omega (arith, p .same)))) ∙ k) }
 
-    bare-named : (i k v : ℕ) → i < tokens input → head-at text i ≡ kind .name → s .count < 256 → 2 < k → k < 7 → Bare s₀ (named input s i k v)
-    bare-named i k v l name few k₂ k₇ =
+    bare-named : (i k v : ℕ) → i < tokens input → head-at text i ≡ kind .name → s .count < 256 → 2 < k → k < 7 → (k ≡ name-kind .variable → ⊥) → (k ≡ name-kind .index → ⊥) → Bare s₀ (named input s i k v)
+    bare-named i k v l name few k₂ k₇ k₄ k₅ =
         record {
-          run = name-it (b .run) i k v l name few (omega arith) k₇ (λ e. absurd (omega arith)) (λ e. absurd (omega arith));
+          run = name-it (b .run) i k v l name few (omega arith) k₇ (λ e. absurd (omega arith)) (λ e. absurd (omega arith)) (λ e. absurd (k₄ e)) (λ e. absurd (k₅ e));
           none = λ slot m o q. by slot m o q (eqb slot (s .count)) refl;
         }
       where
@@ -146,9 +146,9 @@ module _ {input : Input} {text : List ℕ} (T : Text input text) where
   kept : {s₀ : State} {got : List Range} {s t : State} → Fields s₀ got s → Run input text s t → (k : ℕ) → k < length got → range-at (t .words) (s₀ .at + k) ≡ getD got k no-range
   kept {s₀} f r k l = ap₂ (λ (a b : ℕ). range (decode-of a) (decode-of b)) (r .below _ (omega (arith, f .long))) (r .below _ (omega (arith, f .long))) ∙ f .ranges k l
 
-  names-gives : {s₀ : State} (k : ℕ) → 2 < k → k < 7 → (n : ℕ) (s : State) → Names s₀ n s → Gives input (repeat turns (field-turn k) n) s (λ m t. Names s₀ m t × Run input text s t × (n ≤ m))
+  names-gives : {s₀ : State} (k : ℕ) → 2 < k → k < 7 → (k ≡ name-kind .variable → ⊥) → (k ≡ name-kind .index → ⊥) → (n : ℕ) (s : State) → Names s₀ n s → Gives input (repeat turns (field-turn k) n) s (λ m t. Names s₀ m t × Run input text s t × (n ≤ m))
   unfolding field-turn
-  names-gives {s₀} k k₂ k₇ n s h = repeated (field-turn k) turn turns n s h
+  names-gives {s₀} k k₂ k₇ k₄ k₅ n s h = repeated (field-turn k) turn turns n s h
     where
       turn : (n : ℕ) (s : State) → Names s₀ n s → Gives input (field-turn k n) s (Turned (Names s₀) (λ n s m t. Names s₀ m t × Run input text s t × (n ≤ m)) n s)
       turn n s h =
@@ -157,8 +157,8 @@ module _ {input : Input} {text : List ℕ} (T : Text input text) where
           let more : n < 8 = not-eight n free in
           let b₁ : Bare s₀ (advanced s) = bare-piece (h .bare) (one-token (h .bare .run .sound) l) in
           named-it _ _ _ _
-          (let b₂ : Bare s₀ (named input (advanced s) (s .at) k n) = bare-named b₁ (s .at) k n l name few k₂ k₇ in
-          let r₂ : Run input text s (named input (advanced s) (s .at) k n) = name-it (go-on (h .bare .run .sound) l) (s .at) k n l name few (omega arith) k₇ (λ e. absurd (omega arith)) (λ e. absurd (omega arith)) in
+          (let b₂ : Bare s₀ (named input (advanced s) (s .at) k n) = bare-named b₁ (s .at) k n l name few k₂ k₇ k₄ k₅ in
+          let r₂ : Run input text s (named input (advanced s) (s .at) k n) = name-it (go-on (h .bare .run .sound) l) (s .at) k n l name few (omega arith) k₇ (λ e. absurd (omega arith)) (λ e. absurd (omega arith)) (λ e. absurd (k₄ e)) (λ e. absurd (k₅ e)) in
           forbidden (kind .bracket) 6
           (λ _.
           at-token _
@@ -212,10 +212,10 @@ module _ {input : Input} {text : List ℕ} (T : Text input text) where
           ∙ ranged-at (t .words) (s₀ .at + length got) n r (signable-decoded (r .low) low) (signable-decoded (r .high) high) (omega (arith, b .run .sound .size, b .run .sound .within, T .few)) j (omega arith)
           ∙ sym (ap (λ (z : ℕ). getD (got ++ replicate n r) z no-range) (sym e′) ∙ getD-append-add got (replicate n r) j no-range ∙ getD-replicate n j r no-range (omega arith))
 
-  group-gives : {s₀ : State} → Sound input text s₀ → (got : List Range) (k : ℕ) → 2 < k → k < 7 → {s t : State} → Fields s₀ got s → Run input text s t → Bare s₀ t → Gives input (read-group (s₀ .at) got k) t (Fields s₀)
+  group-gives : {s₀ : State} → Sound input text s₀ → (got : List Range) (k : ℕ) → 2 < k → k < 7 → (k ≡ name-kind .variable → ⊥) → (k ≡ name-kind .index → ⊥) → {s t : State} → Fields s₀ got s → Run input text s t → Bare s₀ t → Gives input (read-group (s₀ .at) got k) t (Fields s₀)
   unfolding read-group
-  group-gives {s₀} x got k k₂ k₇ {s} {t} f run b =
-      bind (names-gives k k₂ k₇ (length got) t (record { bare = b; long = omega (arith, f .long, run .on); most = f .most }))
+  group-gives {s₀} x got k k₂ k₇ k₄ k₅ {s} {t} f run b =
+      bind (names-gives k k₂ k₇ k₄ k₅ (length got) t (record { bare = b; long = omega (arith, f .long, run .on); most = f .most }))
       (λ n u h.
       bind (range-gives T 4294967296 (h .0 .bare .run .sound))
       (λ r v g.
@@ -239,8 +239,8 @@ module _ {input : Input} {text : List ℕ} (T : Text input text) where
           choose (is-kind (token-of input s (s .at)) (kind .const-word))
           (λ q.
           let p = one-token y (of-kind y (s .at) (kind .const-word) (omega arith) q) in
-          made again (over (group-gives x got (name-kind .const-field) (omega arith) (omega arith) f (p .run) (bare-piece (f .bare) p))) (λ all t h. (h, λ r u z. z)))
-          (λ _. made again (group-gives x got (name-kind .field) (omega arith) (omega arith) f (stay y) (f .bare)) (λ all t h. (h, λ r u z. z)))))
+          made again (over (group-gives x got (name-kind .const-field) (omega arith) (omega arith) (λ e. absurd (omega arith)) (λ e. absurd (omega arith)) f (p .run) (bare-piece (f .bare) p))) (λ all t h. (h, λ r u z. z)))
+          (λ _. made again (group-gives x got (name-kind .field) (omega arith) (omega arith) (λ e. absurd (omega arith)) (λ e. absurd (omega arith)) f (stay y) (f .bare)) (λ all t h. (h, λ r u z. z)))))
 
   -- the cell declaration: the `of` behind `dimensions` stands two tokens on
   pub record CellRead (s : State) (d : Declared) (t : State) : Type 0 where

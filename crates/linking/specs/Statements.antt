@@ -19,9 +19,9 @@ use Rattle.grammar.specs.Expressions.{Cell}
 use Rattle.grammar.specs.Statements.{read-forall, read-exit, Parts, put-after, statement-turn, read-block}
 use Rattle.semantics.specs.Stands.{Table, table-of, word-in, linked, begins, Stands}
 use Rattle.semantics.specs.Written.{written-in-block}
-use Rattle.linking.specs.Steps.{advanced, written, named, revalued, Gives, gave, refused, bind, made, given-as, choose, at-position, at-token, over, wrote, wrote-both, named-it, revalued-it, expected, opened, Turned, repeated}
-use Rattle.linking.specs.Runs.{tokens, head-at, Text, Sound, Run, stay, join, go-on, write-first, word-put, both-2, both-3, entry-new}
-use Rattle.linking.specs.Naming.{of-kind, name-it, revalue-it}
+use Rattle.linking.specs.Steps.{advanced, written, named, released, Gives, gave, refused, bind, made, given-as, choose, at-position, at-token, over, wrote, wrote-both, named-it, released-it, expected, opened, Turned, repeated}
+use Rattle.linking.specs.Runs.{tokens, head-at, Text, Sound, RunBut, Run, but, stay, join, go-on, write-first, word-put, both-2, both-3, entry-new}
+use Rattle.linking.specs.Naming.{of-kind, name-it, release-it}
 use Rattle.linking.specs.Constants.{signable-decoded, Piece, one-token, join-pieces, past-token, write-piece, range-gives, fresh-it, Declares, declaration-gives}
 use Rattle.linking.specs.Tables.{View, Claim, first-part, second-part, view-word, view-kind, link-to}
 use Rattle.linking.specs.Adding.{plain-kind, plain-of, Adds, all-of, adds-none, adds-both, then-none, adds-plain, adds-constant, adds-loop}
@@ -43,19 +43,19 @@ module _ {input : Input} {text : List ℕ} (T : Text input text) (cell : Cell) (
 
     -- the state in which the body is read: the range is noted at the index's name, and the index is open
     abbrev opened-loop : State → Range → State
-    opened-loop p r = named input (written (written p (s .at + 1) 2 (encode-of (r .low))) (s .at + 1) 3 (encode-of (r .high))) (s .at + 1) (name-kind .index) (depth + 1)
+    opened-loop p r = named input (written (written p (s .at + 1) 2 (encode-of (r .low))) (s .at + 1) 3 (encode-of (r .high))) (s .at + 1) (name-kind .index) depth
 
     module _ {p : State} (r : Range) (f : Piece input text (advanced s) p) (name-in : s .at + 1 < tokens input) (a-name : head-at text (s .at + 1) ≡ kind .name) (few : p .count < 256) where
-      open-run : Run input text (advanced s) (opened-loop p r)
+      open-run : RunBut input text (advanced s) (opened-loop p r) (p .count)
       open-run =
           name-it
           (write-piece (first .sound) (write-piece (first .sound) f (s .at + 1) 2 (encode-of (r .low)) (le-refl _) (f .far) (omega arith) (omega arith)) (s .at + 1) 3 (encode-of (r .high)) (le-refl _) (f .far) (omega arith) (omega arith) .run)
-          (s .at + 1) (name-kind .index) (depth + 1) name-in a-name few (omega arith) (omega arith) (λ e. absurd (omega arith)) (λ e. absurd (omega arith))
+          (s .at + 1) (name-kind .index) depth name-in a-name few (omega arith) (omega arith) (λ e. absurd (omega arith)) (λ e. absurd (omega arith)) (λ e. absurd (omega arith)) (λ _. refl)
 
-      -- behind the loop its index is closed
-      close-run : {t : State} → Run input text (opened-loop p r) t → Run input text (advanced s) (revalued t (p .count) 0)
+      -- behind the loop its index's record is free again
+      close-run : {t : State} → Run input text (opened-loop p r) t → Run input text (advanced s) (released t (p .count))
       close-run {t} b =
-          revalue-it (join open-run b) (p .count) 0 (omega (arith, f .same)) (omega (arith, b .more))
+          release-it (p .count) (join open-run (but b (p .count))) (omega (arith, f .same)) (omega (arith, b .more))
           (ap (λ (e : Entry). e .kind) (b .old (p .count) (omega arith) ∙ entry-new (p .names) (p .count) _ (omega (arith, f .run .sound .room))))
 
       -- the range, in a later table
@@ -96,9 +96,9 @@ module _ {input : Input} {text : List ℕ} (T : Text input text) (cell : Cell) (
         (λ n.
         let last : Run input text t (advanced t) = go-on (b .0 .sound) (of-kind (b .0 .sound) (t .at) (kind .end-word) (omega arith) n) in
         let inner : Run input text (opened-loop p r) (advanced t) = join (b .0) last in
-        let whole : Run input text s (revalued (advanced t) (p .count) 0) = join first (close-run r f name-in a-name few₁ inner) in
+        let whole : Run input text s (released (advanced t) (p .count)) = join first (close-run r f name-in a-name few₁ inner) in
         let far : s .at < t .at + 1 = omega (arith, f .far, b .0 .on) in
-        revalued-it _ _
+        released-it _
         (at-position _
         (wrote-both _ _ _
         (gave (loop r body)

@@ -1,5 +1,5 @@
 -- What holds of every accepted end of a reading, and the laws for putting readers together.
-use Prim.Native.Nat.{ℕ, zero, suc, _+_}
+use Prim.Native.Nat.{ℕ, zero, suc, _+_, _-_}
 use native.Mathlib.Omega.{arith}
 use mathlib.Core.Path.{_≡_, refl, ap, _∙_, subst}
 use mathlib.Core.Bool.{Bool, true, false}
@@ -9,10 +9,10 @@ use Rattle.value.specs.Choice.{if_then_else_}
 use Rattle.token.specs.declared.Token.{Token}
 use Rattle.token.specs.Scanning.{kind-in}
 use Rattle.names.specs.declared.Entry.{Entry}
-use Rattle.names.specs.Names.{entry-at, with-entry, with-value, find-name}
+use Rattle.names.specs.Names.{entry-at, with-entry, without-entry, find-name}
 use Rattle.program.specs.Table.{with-word}
 use Rattle.grammar.specs.Complaint.{complaint, first-of}
-use Rattle.grammar.specs.Reader.{Input, State, Result, ok, fail, Reader, and-then, _>>=_, _>>_, _▷_, return, unit, nothing, Turn, again, done, turned, get-state, token-of, refuse, refuse-last, note, repeat, next-token, kind-after, position, advance, put, put-both, expect-or, forbid, opening, on-slot, by-name, entry-in, declare, revalue}
+use Rattle.grammar.specs.Reader.{Input, State, Result, ok, fail, Reader, and-then, _>>=_, _>>_, _▷_, return, unit, nothing, Turn, again, done, turned, get-state, token-of, refuse, refuse-last, note, repeat, next-token, kind-after, position, advance, put, put-both, expect-or, forbid, opening, on-slot, by-name, entry-in, declare, release}
 
 -- ---- states
 
@@ -32,8 +32,8 @@ named input s i k v =
       words = s .words;
     }
 
-abbrev pub revalued : State → ℕ → ℕ → State
-revalued s slot v = record { at = s .at; noted = s .noted; count = s .count; names = with-value (s .names) slot v; words = s .words }
+abbrev pub released : State → ℕ → State
+released s slot = record { at = s .at; noted = s .noted; count = s .count - 1; names = without-entry (s .names) slot; words = s .words }
 
 abbrev pub noting : State → ℕ → ℕ → State
 noting s k p = record { at = s .at; noted = first-of (s .noted) (complaint k p); count = s .count; names = s .names; words = s .words }
@@ -135,9 +135,9 @@ module _ {A : Type 0} {input : Input} {s : State} {Q : A → State → Type 0} w
   unfolding declare _>>=_
   named-it i k v h x = record { is = x .is }
 
-  pub revalued-it : (slot v : ℕ) {h : Reader A} → Gives input h (revalued s slot v) Q → Gives input (revalue slot v >> h) s Q
-  unfolding revalue _>>=_
-  revalued-it slot v x = record { is = x .is }
+  pub released-it : (slot : ℕ) {h : Reader A} → Gives input h (released s slot) Q → Gives input (release slot >> h) s Q
+  unfolding release _>>=_
+  released-it slot x = record { is = x .is }
 
   -- with the name that is found, or without one
   pub by-found : (t : Token) (fields : Bool) {found : ℕ → Reader A} {missing : Reader A} → ((slot : ℕ) → find-name (input .source) (s .names) (s .count) fields (t .start) (t .len) ≡ some slot → Gives input (found slot) s Q) → Gives input missing s Q → Gives input (by-name t fields found missing) s Q
@@ -187,11 +187,6 @@ module _ {A : Type 0} {input : Input} {s : State} {Q : A → State → Type 0} w
 pub wrote-last : {input : Input} {s : State} {Q : Unit {0} → State → Type 0} (i w v : ℕ) → Q unit (written s i w v) → Gives input (put i w v) s Q
 unfolding put return
 wrote-last {input} i w v h = record { is = gave {input = input} unit h .is }
-
--- a declaration is the last step
-pub named-last : {input : Input} {s : State} {Q : ℕ → State → Type 0} (i k v : ℕ) → Q (s .count) (named input s i k v) → Gives input (declare i k v) s Q
-unfolding declare return
-named-last {input} {s} i k v h = record { is = gave {input = input} (s .count) h .is }
 
 -- ---- turns
 

@@ -18,7 +18,7 @@ use Rattle.grammar.specs.Reader.{Input, State, token-of}
 use Rattle.grammar.specs.Expressions.{values-from, array-values}
 use Rattle.semantics.specs.Stands.{word-in, linked, Table, table-of, values-in, array-in}
 use Rattle.linking.specs.Steps.{advanced, written}
-use Rattle.linking.specs.Runs.{tokens, head-at, span-at, Sound, Run, word-other}
+use Rattle.linking.specs.Runs.{tokens, head-at, span-at, Sound, RunBut, Run, word-other}
 use Rattle.linking.specs.Naming.{kind-at, token-kind, token-start}
 
 -- ---- words of a table
@@ -71,7 +71,7 @@ Known table s = (slot : ℕ) → slot < s .count → entry-at (s .names) slot .k
 
 -- ---- array constants in a later table
 
-module _ {input : Input} {text : List ℕ} (dims : ℕ) {s t : State} (x : Sound input text s) (r : Run input text s t) (c : t .noted .number ≡ 0) (wf : List ℕ) where
+module _ {input : Input} {text : List ℕ} (dims : ℕ) {s t : State} {held : ℕ} (x : Sound input text s) (r : RunBut input text s t held) (c : t .noted .number ≡ 0) (wf : List ℕ) where
   -- one that is old, and one that was declared meanwhile
   old-array : (slot : ℕ) → slot < s .count → entry-at (s .names) slot .kind ≡ name-kind .array → array-values (t .words) (entry-at (s .names) slot .word) ≡ array-values (s .words) (entry-at (s .names) slot .word)
   old-array slot l k =
@@ -167,7 +167,7 @@ module _ {input : Input} {text : List ℕ} {dims : ℕ} {wf : List ℕ} where
   pub first-part : {s t u : State} → View input text dims wf s u → Run input text t u → View input text dims wf s t
   first-part {s} {t} {u} v r = record { final = v .final; later = λ j l m. v .later j l (omega (arith, r .on)) ∙ r .below j m; known = v .known; clear = r .clear (v .clear) }
 
-  pub second-part : {s t u : State} → Sound input text s → View input text dims wf s u → Run input text s t → Run input text t u → View input text dims wf t u
+  pub second-part : {s t u : State} {held : ℕ} → Sound input text s → View input text dims wf s u → RunBut input text s t held → Run input text t u → View input text dims wf t u
   second-part {s} {t} {u} x v q r =
       record {
         final = v .final;

@@ -1,3 +1,4 @@
 -- What the proofs of several functions use.
 pub mod Spelling
 pub mod Searching
+pub mod Removing

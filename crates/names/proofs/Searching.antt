@@ -10,7 +10,7 @@ use lib.Dec.{eqb}
 use borrow.Author.Tests.{ne-eqb}
 use Rattle.value.specs.Choice.{if_then_else_}
 use Rattle.token.specs.Bytes.{same}
-use Rattle.names.specs.Names.{entry-at, entries-from, is-field, is-visible, in-space, letters, find, find-name}
+use Rattle.names.specs.Names.{entry-at, entries-from, is-field, in-space, letters, find, find-name}
 use Rattle.names.specs.Finding.{match-of, Matches, found-of, Finds}
 use Rattle.names.specs.declared.Entry.{Entry}
 use Rattle.names.specs.declared.Found.the-variants.{At, Missing}
@@ -27,27 +27,14 @@ module _ (e : Entry) where
   unfolding is-field
   field-const d = simp (ne-eqb _ _ d)
 
-  module _ {f : Bool} (p : f ≡ is-field e) where
-    pub visible-field : f ≡ true → false ≡ is-visible e
-    unfolding is-visible
-    visible-field h = rw (← p, h)
-
-    pub visible-index : f ≡ false → e .kind ≡ 5 → not (eqb (e .word) 0) ≡ is-visible e
-    unfolding is-visible
-    visible-index h k = rw (← p, h, k)
-
-    pub visible-other : f ≡ false → (e .kind ≡ 5 → ⊥) → true ≡ is-visible e
-    unfolding is-visible
-    visible-other h d = rw (← p, h, ne-eqb _ _ d)
-
   module _ {fields r : Bool} where
     pub space-fields : fields ≡ true → r ≡ is-field e → r ≡ in-space fields e
     unfolding in-space
     space-fields h q = rw h q
 
-    pub space-visible : fields ≡ false → r ≡ is-visible e → r ≡ in-space fields e
+    pub space-other : fields ≡ false → {f : Bool} → f ≡ is-field e → r ≡ not f → r ≡ in-space fields e
     unfolding in-space
-    space-visible h q = rw h q
+    space-other h p q = q ∙ rw (h, p)
 
 -- ---- one name
 
@@ -109,4 +96,4 @@ module _ (source names : List ℕ) (count : ℕ) (fields : Bool) (start n : ℕ)
       seek-found u = let q : find-name source names count fields start n ≡ some i = h .left ∙ step ∙ rw u in record { is = sym (ap found-of q); below = l }
 
 pub ruleset Searches =
-    (field-plain, field-const, visible-field, visible-index, visible-other, space-fields, space-visible, match-length, match-space, match-letters, seek-start, seek-none, seek-differs, seek-found)
+    (field-plain, field-const, space-fields, space-other, match-length, match-space, match-letters, seek-start, seek-none, seek-differs, seek-found)

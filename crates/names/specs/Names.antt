@@ -1,9 +1,13 @@
--- The name list as flat words: four words a name (start, length, kind, value), one name for each declaration, in order of declaration.
+-- The name list as flat words: four words a name (start, length, kind, value), one name for each declaration that holds, in order of
+-- declaration: a loop's index has a record only while its loop is open.
+--
+-- While a source is read, the value of a variable is its number among the variables, that of an index its loop's depth, and that of an
+-- array constant the position of its declaring name: what the word table notes where the name is used.
 use mathlib.Core.Bool.{Bool, not, _&&_, _||_}
-use mathlib.Core.List.{List, [], _∷_}
+use mathlib.Core.List.{List, [], _∷_, _++_}
 use mathlib.Core.Option.{Option, none, some}
 use Prim.Native.Nat.{ℕ, zero, suc, _+_, _*_}
-use lib.ListN.{getD, set}
+use lib.ListN.{getD, set, take, drop, replicate}
 use lib.Dec.{eqb}
 use Rattle.value.specs.Choice.{if_then_else_}
 use Rattle.token.specs.Bytes.{fold, same}
@@ -39,6 +43,9 @@ entry-at names slot =
       word = getD names (4 * slot + 3) 0;
     }
 
+abbrev pub is : Entry → ℕ → Bool
+is e k = eqb (e .kind) k
+
 -- so many names from a slot on
 unfoldable pub entries-from : List ℕ → ℕ → ℕ → List Entry
 entries-from names slot zero = []
@@ -53,22 +60,24 @@ with-entry names slot e =
 abbrev pub with-value : List ℕ → ℕ → ℕ → List ℕ
 with-value names slot v = set names (4 * slot + 3) v
 
--- ---- which names are seen
+-- the words without the name in a slot: those behind it move down by one, and the last slot is zero
+abbrev pub without-entry : List ℕ → ℕ → List ℕ
+without-entry names slot = take (4 * slot) names ++ drop (4 * slot + 4) names ++ replicate 4 0
 
-abbrev pub is : Entry → ℕ → Bool
-is e k = eqb (e .kind) k
+-- how many of the first n names are variables
+unfoldable pub variables-in : List ℕ → ℕ → ℕ
+variables-in names zero = 0
+variables-in names (suc n) = if is (entry-at names n) (name-kind .variable) then variables-in names n + 1 else variables-in names n
+
+-- ---- which names are seen
 
 -- fields, const fields too, have a name space of their own
 unfoldable pub is-field : Entry → Bool
 is-field e = is e (name-kind .field) || is e (name-kind .const-field)
 
--- what an expression or a left side can name: no field, and an index only while its loop is open (its value is then not 0)
-unfoldable pub is-visible : Entry → Bool
-is-visible e = not (is-field e) && not (is e (name-kind .index) && eqb (e .word) 0)
-
--- a name space: that of fields, or that of all other visible names
+-- a name space: that of fields, or that of all other names
 unfoldable pub in-space : Bool → Entry → Bool
-in-space fields e = if fields then is-field e else is-visible e
+in-space fields e = if fields then is-field e else not (is-field e)
 
 -- ---- spelling
 

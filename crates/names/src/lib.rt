@@ -3,7 +3,7 @@ ghost use mathlib.Core.Path.{_≡_};
 ghost use Prim.Native.Nat.{_<_, _≤_};
 ghost use lib.ListN.{length, getD};
 ghost use Rattle.token.specs.Bytes.{fold, same};
-ghost use Rattle.names.specs.Names.{most-names, name-words, entry-at, with-entry, with-value, is-field, is-visible, in-space, letters};
+ghost use Rattle.names.specs.Names.{most-names, name-words, entry-at, with-entry, with-value, without-entry, variables-in, is-field, in-space, letters};
 ghost use Rattle.names.specs.Finding.{Matches, Finds};
 
 pub mod kind;
@@ -56,6 +56,40 @@ pub fn write_value(names: &mut [u32], slot: usize, v: u32)
     names[4 * slot + 3] = v;
 }
 
+// Takes the name in a slot out: those behind it move down by one, and the last slot is zero.
+pub fn remove_entry(names: &mut [u32], slot: usize)
+    requires { ⌜ (slot < most-names) × (length (now names) ≡ name-words) ⌝ }
+    ensures { λ _. ⌜ now (names .exit) ≡ without-entry (now (names .entry)) slot ⌝ }
+{
+    let from = 4 * slot;
+    let many = 1020 - from;
+    let mut k: usize = 0;
+    while k < many {
+        names[from + k] = names[from + k + 4];
+        k += 1;
+    }
+    names[1020] = 0;
+    names[1021] = 0;
+    names[1022] = 0;
+    names[1023] = 0;
+}
+
+// How many of the first n names are variables.
+pub fn count_variables(names: &[u32], n: usize) -> u32
+    requires { ⌜ (n ≤ most-names) × (length (now names) ≡ name-words) ⌝ }
+    ensures { λ r. ⌜ r ≡ variables-in (now (names .entry)) n ⌝ }
+{
+    let mut k: u32 = 0;
+    let mut i: usize = 0;
+    while i < n {
+        if names[4 * i + 2] == kind::VARIABLE {
+            k += 1;
+        }
+        i += 1;
+    }
+    k
+}
+
 // ---- which names are seen
 
 // Whether a name is a field's.
@@ -68,27 +102,14 @@ pub fn is_field(e: Entry) -> bool
     e.kind == kind::CONST_FIELD
 }
 
-// Whether an expression or a left side can name it: no field, and an index only while its loop is open.
-pub fn is_visible(e: Entry) -> bool
-    ensures { λ r. ⌜ r ≡ is-visible e ⌝ }
-{
-    if is_field(e) {
-        return false;
-    }
-    if e.kind == kind::INDEX {
-        return e.word != 0;
-    }
-    true
-}
-
-// Whether a name is of a name space: that of fields, or that of all other visible names.
+// Whether a name is of a name space: that of fields, or that of all other names.
 pub fn in_space(fields: bool, e: Entry) -> bool
     ensures { λ r. ⌜ r ≡ in-space fields e ⌝ }
 {
     if fields {
         return is_field(e);
     }
-    is_visible(e)
+    !is_field(e)
 }
 
 // ---- spelling

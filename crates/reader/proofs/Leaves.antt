@@ -11,8 +11,8 @@ use Rattle.token.specs.declared.Token.{Token}
 use Rattle.names.specs.declared.Entry.{Entry}
 use Rattle.program.specs.Standing.{Stands}
 use Rattle.grammar.specs.Complaint.{Complaint, complaint, rank, first-number, before, first-of, broken}
-use Rattle.grammar.specs.Reader.{expect-or, forbid, opening, is-name, reference}
-use Rattle.reader.specs.Reading.{anything, noted-in, Passes, first-refused, refusal, Moved, note-of, noted-of, Noted, Named}
+use Rattle.grammar.specs.Reader.{expect-or, forbid, opening, is-name}
+use Rattle.reader.specs.Reading.{anything, noted-in, Passes, first-refused, refusal, Moved, Released, note-of, noted-of, Noted, Named}
 use Rattle.reader.specs.declared.Reading.{Reading}
 use Rattle.reader.specs.declared.Read.{Read}
 use Rattle.reader.specs.declared.Read.the-variants.{Next, Refused}
@@ -133,22 +133,15 @@ module _ (t : Token) where
   unfolding is-name
   named-4 u v = record { is = simp (ne-eqb _ _ u, ne-eqb _ _ v); kind = λ e. omega (arith, eqb-true (t .kind) 4 e) }
 
-module _ (slot : ℕ) (e : Entry) where
-  pub refers-variable : e .kind ≡ 4 → slot ≡ reference slot e
-  unfolding reference
-  refers-variable k = simp k
-
-  pub refers-closed : e .kind ≡ 5 → e .word ≡ 0 → 0 ≡ reference slot e
-  unfolding reference
-  refers-closed k z = simp (k, z)
-
-  pub refers-index : e .kind ≡ 5 → e .word - 1 ≡ reference slot e
-  unfolding reference
-  refers-index k = simp k
-
-  pub refers-other : (e .kind ≡ 4 → ⊥) → (e .kind ≡ 5 → ⊥) → e .word ≡ reference slot e
-  unfolding reference
-  refers-other u v = simp (ne-eqb _ _ u, ne-eqb _ _ v)
+-- no name less where there is none
+pub released-none : (s : Reading) → s .count ≤ 0 → Released s s
+released-none s h =
+    let e : s .count ≡ s .count - 1 = omega arith in
+    record {
+      is = ap (λ (n : ℕ). record { at = s .at; noted = s .noted; place = s .place; count = n; word = s .word; low = s .low }) e;
+      at = refl;
+      count = e;
+    }
 
 pub ruleset Leaves =
-    (first-new, first-place, first-before, first-rank, first-lower, rank-within, rank-above, rank-below, lower-stop, lower-rule, lower-token, refused-as, noted-as, expected, unexpected, forbidden, allowed, opened, unopened, named-1, named-3, named-4, refers-variable, refers-closed, refers-index, refers-other)
+    (first-new, first-place, first-before, first-rank, first-lower, rank-within, rank-above, rank-below, lower-stop, lower-rule, lower-token, refused-as, noted-as, expected, unexpected, forbidden, allowed, opened, unopened, named-1, named-3, named-4)

@@ -12,12 +12,12 @@ use Rattle.token.specs.Scanning.{kind-in}
 use Rattle.names.specs.declared.Entry.{Entry}
 use Rattle.names.specs.declared.Found.{Found}
 use Rattle.names.specs.declared.Found.the-variants.{At, Missing}
-use Rattle.names.specs.Names.{entry-at, with-value, find-name}
+use Rattle.names.specs.Names.{entry-at, without-entry, find-name}
 use Rattle.names.specs.Finding.{found-of, Below, Finds}
 use Rattle.program.specs.Table.{with-word}
 use Rattle.program.specs.Standing.{Stands}
-use Rattle.grammar.specs.Reader.{Result, ok, fail, Input, State, Reader, and-then, _>>=_, _▷_, return, unit, get-state, refuse, refuse-last, note, next-token, kind-after, position, advance, put, on-slot, by-name, entry-in, declare, revalue, reference, use-name}
-use Rattle.reader.specs.Reading.{input, state, exactly, anything, word, only, Told, Gives, refusal, moved-of, Moved, Carries, Noted, declared-of, Declares, Uses}
+use Rattle.grammar.specs.Reader.{Result, ok, fail, Input, State, Reader, and-then, _>>=_, _▷_, return, unit, get-state, refuse, refuse-last, note, next-token, kind-after, position, advance, put, on-slot, by-name, entry-in, declare, release, use-name}
+use Rattle.reader.specs.Reading.{input, state, exactly, anything, word, only, Told, Gives, refusal, moved-of, Moved, Carries, Noted, released-of, Released, declared-of, Declares, Uses}
 use Rattle.reader.specs.declared.Reading.{Reading}
 use Rattle.reader.specs.declared.Read.{Read}
 use Rattle.reader.specs.declared.Read.the-variants.{Next, Refused}
@@ -210,19 +210,19 @@ module _ {source : List ℕ} {sc : Scan} {s : Reading} {ns ws : List ℕ} where
         );
       }
 
-  pub revalued : (slot v : ℕ) {ns₁ : List ℕ} → ns₁ ≡ with-value ns slot v → Gives anything (revalue slot v) source sc s ns ws (Next s) ns₁ ws
-  unfolding revalue
-  revalued slot v e = record { is = (unit, tt, ap (λ (x : List ℕ). ok (unit, state s x ws)) (sym e)) }
+  pub released : (slot : ℕ) {r : Reading} {ns₁ : List ℕ} → Released s r → ns₁ ≡ without-entry ns slot → Gives anything (release slot) source sc s ns ws (Next r) ns₁ ws
+  unfolding release
+  released slot {r} {ns₁} d e = record { is = (unit, tt, ap (λ (x : List ℕ). ok (unit, state (released-of s) x ws)) (sym e) ∙ sym (ap (λ (z : Reading). ok (unit, state z ns₁ ws)) (d .is))) }
 
   -- a name in use, whose entry was looked up
-  pub used : (slot : ℕ) {e : Entry} {r : Reading} {ws₁ : List ℕ} → e ≡ entry-at ns slot → Uses slot e s ws r ws₁ → Gives (only e) (use-name slot) source sc s ns ws (Next r) ns ws₁
+  pub used : (slot : ℕ) {e : Entry} {r : Reading} {ws₁ : List ℕ} → e ≡ entry-at ns slot → Uses e s ws r ws₁ → Gives (only e) (use-name slot) source sc s ns ws (Next r) ns ws₁
   unfolding use-name entry-in position put advance return _>>=_
   used slot {e} {r} {ws₁} q u =
       record {
         is = (
           e,
           refl,
-          ap (λ (f : Entry). ok (f, state (moved-of s) ns (with-word (with-word ws (s .at) 2 (f .kind)) (s .at) 3 (reference slot f)))) (sym q)
+          ap (λ (f : Entry). ok (f, state (moved-of s) ns (with-word (with-word ws (s .at) 2 (f .kind)) (s .at) 3 (f .word)))) (sym q)
               ∙ ap (λ (x : List ℕ). ok (e, state (moved-of s) ns x)) (sym (u .words))
               ∙ sym (ap (λ (z : Reading). ok (e, state z ns ws₁)) (u .is)),
         );

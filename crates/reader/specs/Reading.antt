@@ -16,7 +16,7 @@ use Rattle.program.specs.Syntax as syntax
 use Rattle.program.specs.Syntax.{Range}
 use Rattle.program.specs.Table.{with-word}
 use Rattle.grammar.specs.Complaint.{Complaint, complaint, first-of, broken}
-use Rattle.grammar.specs.Reader.{Input, State, Result, ok, fail, Reader, Turn, again, done, is-name, reference}
+use Rattle.grammar.specs.Reader.{Input, State, Result, ok, fail, Reader, Turn, again, done, is-name}
 use Rattle.reader.specs.declared.Reading.{Reading}
 use Rattle.reader.specs.declared.Read.{Read}
 use Rattle.reader.specs.declared.Read.the-variants.{Next, Refused}
@@ -121,6 +121,10 @@ first-refused a b = Refused (first-of a b .number) (first-of a b .place)
 abbrev pub refusal : List ℕ → Scan → Reading → ℕ → ℕ → Read
 refusal ws scan s i n = first-refused (noted-in s) (broken n (token-in ws scan i))
 
+-- one name less
+abbrev pub released-of : Reading → Reading
+released-of s = record { at = s .at; noted = s .noted; place = s .place; count = s .count - 1; word = s .word; low = s .low }
+
 abbrev pub moved-of : Reading → Reading
 moved-of s = record { at = s .at + 1; noted = s .noted; place = s .place; count = s .count; word = s .word; low = s .low }
 
@@ -171,8 +175,13 @@ pub record Declares (i k v : ℕ) (scan : Scan) (s : Reading) (ns ws : List ℕ)
   pub word : r .word ≡ s .count
 
 -- a name in use is passed over: its kind and what the table notes of it are written
-pub record Uses (slot : ℕ) (e : Entry) (s : Reading) (ws : List ℕ) (r : Reading) (ws′ : List ℕ) : Type 0 where
-  pub words : ws′ ≡ with-word (with-word ws (s .at) 2 (e .kind)) (s .at) 3 (reference slot e)
+pub record Released (s r : Reading) : Type 0 where
+  pub is : r ≡ released-of s
+  pub at : r .at ≡ s .at
+  pub count : r .count ≡ s .count - 1
+
+pub record Uses (e : Entry) (s : Reading) (ws : List ℕ) (r : Reading) (ws′ : List ℕ) : Type 0 where
+  pub words : ws′ ≡ with-word (with-word ws (s .at) 2 (e .kind)) (s .at) 3 (e .word)
   pub is : r ≡ moved-of s
   pub at : r .at ≡ s .at + 1
   pub count : r .count ≡ s .count

@@ -5,8 +5,8 @@ ghost use lib.ListN.{length};
 ghost use Rattle.token.specs.Scanning.{most-tokens, table-words};
 ghost use Rattle.names.specs.Names.{most-names, name-words};
 ghost use Rattle.grammar.specs.Complaint.{complaint, rank, broken};
-ghost use Rattle.grammar.specs.Reader.{expect-or, forbid, opening, fresh, reference};
-ghost use Rattle.reader.specs.Reading.{anything, passed, Ready, Reads, Passes, first-refused, refusal, Moved, Carries, Noted, Named, Declares, Uses};
+ghost use Rattle.grammar.specs.Reader.{expect-or, forbid, opening, fresh};
+ghost use Rattle.reader.specs.Reading.{anything, passed, Ready, Reads, Passes, first-refused, refusal, Moved, Carries, Noted, Named, Declares, Released, Uses};
 use names::Entry;
 use names::Found;
 use names::find_name;
@@ -242,30 +242,25 @@ pub fn declare(
     r
 }
 
-// What the table notes of the name in a slot where it is used.
-pub fn reference(slot: usize, e: Entry) -> u32
-    requires { ⌜ slot < most-names ⌝ }
-    ensures { λ r. ⌜ r ≡ reference slot e ⌝ }
+// The place of reading with one name less, if there is one.
+pub fn released(s: Reading) -> Reading
+    ensures { λ r. ⌜ Released s r ⌝ }
 {
-    if e.kind == names::kind::VARIABLE {
-        return slot as u32;
+    let mut t = s;
+    if 0 < s.count {
+        t.count = s.count - 1;
+        return t;
     }
-    if e.kind == names::kind::INDEX {
-        if e.word == 0 {
-            return 0;
-        }
-        return e.word - 1;
-    }
-    e.word
+    t
 }
 
-// Over the name in a slot in use, whose entry is e.
-pub fn use_name(words: &mut [u32], s: Reading, slot: usize, e: Entry) -> Reading
-    requires { ⌜ (length (now words) ≡ table-words) × (s .at < most-tokens) × (slot < most-names) ⌝ }
-    ensures { λ r. ⌜ Uses slot e s (now (words .entry)) r (now (words .exit)) ⌝ }
+// Over a name in use, whose entry is e.
+pub fn use_name(words: &mut [u32], s: Reading, e: Entry) -> Reading
+    requires { ⌜ (length (now words) ≡ table-words) × (s .at < most-tokens) ⌝ }
+    ensures { λ r. ⌜ Uses e s (now (words .entry)) r (now (words .exit)) ⌝ }
 {
     let at = s.at;
     put_word(words, at, 2, e.kind);
-    put_word(words, at, 3, reference(slot, e));
+    put_word(words, at, 3, e.word);
     moved(s)
 }

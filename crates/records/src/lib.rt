@@ -1,4 +1,5 @@
-// The names of a source as a row of records: made of the flat words of a name list, stored, and looked up.
+// The names of a source as a row of records: made of the flat words of a name list, stored, and looked up. After acceptance no index variable is
+// among them: an index has a record only while its loop is open.
 
 pub mod lookup;
 pub mod rows;

@@ -17,9 +17,9 @@ use Rattle.grammar.specs.Expressions.{Cell, plain, field-name, dot-field, field
 use Rattle.grammar.specs.Statements.{old-variable, new-variable, named-target, field-target, read-target, when-clause, clause-end, clause-turn, read-assignment, Arm, arm-end, arm-turn, read-if, read-forall, read-exit, Parts, statement-turn, read-block}
 use Rattle.grammar.specs.Source.{field-turn, read-group, group-turn, read-dims, read-fields, read-cell}
 use Rattle.refusals.specs.Numbers.{is-refusal}
-use Rattle.refusals.specs.Steps.{Fine, bind, returned, choose, found, looked, looked-behind, placed, stated, entered, advanced, named, revalued, wrote, ranged, refused, refused-last, noting, repeated}
+use Rattle.refusals.specs.Steps.{Fine, bind, returned, choose, found, looked, looked-behind, placed, stated, entered, advanced, named, released, wrote, ranged, refused, refused-last, noting, repeated}
 
-ruleset Steps = (bind, returned, choose, found, looked, looked-behind, placed, stated, entered, advanced, named, revalued, wrote, ranged, refused, refused-last, noting, repeated)
+ruleset Steps = (bind, returned, choose, found, looked, looked-behind, placed, stated, entered, advanced, named, released, wrote, ranged, refused, refused-last, noting, repeated)
 
 -- ---- tokens and names
 

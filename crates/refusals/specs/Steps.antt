@@ -19,7 +19,7 @@ use Rattle.names.specs.Names.{find-name}
 use Rattle.program.specs.Syntax.{Range}
 use Rattle.program.specs.Table.{with-word}
 use Rattle.grammar.specs.Complaint.{Complaint, complaint, rank, first-number, before, first-of, broken}
-use Rattle.grammar.specs.Reader.{State, Result, ok, fail, Reader, and-then, _>>=_, return, Turn, again, done, turned, get-state, token-of, refuse, refuse-last, note, repeat, next-token, kind-after, position, advance, put, on-slot, by-name, entry-in, declare, revalue}
+use Rattle.grammar.specs.Reader.{State, Result, ok, fail, Reader, and-then, _>>=_, return, Turn, again, done, turned, get-state, token-of, refuse, refuse-last, note, repeat, next-token, kind-after, position, advance, put, on-slot, by-name, entry-in, declare, release}
 use Rattle.grammar.specs.Source.{input-of, with-ranges, put-ranges}
 use Rattle.linking.specs.Runs.{tokens, head-at, span-at}
 use Rattle.linking.specs.Linking.{at, start-of}
@@ -127,9 +127,9 @@ module _ {source : List ℕ} where
   unfolding declare
   named i k v = record { is = λ s h. record { heads = h .heads; spans = h .spans; noted = h .noted } }
 
-  pub revalued : (slot v : ℕ) → Fine source (revalue slot v)
-  unfolding revalue
-  revalued slot v = record { is = λ s h. record { heads = h .heads; spans = h .spans; noted = h .noted } }
+  pub released : (slot : ℕ) → Fine source (release slot)
+  unfolding release
+  released slot = record { is = λ s h. record { heads = h .heads; spans = h .spans; noted = h .noted } }
 
   -- words 2 and 3 of a token may be written
   pub wrote : (i w v : ℕ) → (leb 2 w && leb w 3) ≡ true → Fine source (put i w v)

@@ -81,32 +81,32 @@ unfolding same-report Listed.list-of Step.first-fault Step.how-many Step.any-of 
     Bytes.member Bytes.same Bytes.kind-of Bytes.fold Kind.level-of Lexeme.find-kind Lexeme.starts Lexeme.in-name
     Lexeme.in-literal Lexeme.extent Lexeme.decimal Lexeme.word Lexeme.digits Lexeme.punctuation Lexeme.read-token
     Scanning.blanks Scanning.stop-number Scanning.scan-from Scanning.scan Scanning.token-words Scanning.scanned-words
-    Scanning.token-in Scanning.kind-in Names.entry-at Names.entries-from Names.is-field Names.is-visible Names.in-space
+    Scanning.token-in Scanning.kind-in Names.entry-at Names.entries-from Names.variables-in Names.is-field Names.in-space
     Names.letters Names.find Names.find-name Complaint.rank Complaint.first-number Complaint.before Complaint.first-of
     Complaint.broken Reader._>>=_ Reader.return Reader.get-state Reader.refuse Reader.refuse-last Reader.note Reader.repeat
     Reader.next-token Reader.kind-after Reader.position Reader.advance Reader.put Reader.expect-or Reader.forbid
-    Reader.opening Reader.is-name Reader.by-name Reader.entry-in Reader.declare Reader.revalue Reader.fresh Reader.reference
-    Reader.use-name Constants.is-sign Constants.named-constant Constants.read-constant Constants.read-signed
-    Constants.range-rule Constants.read-range Constants.value-turn Constants.read-values Constants.read-size
-    Constants.array-head Constants.array-constant Constants.simple-constant Constants.constant-value
-    Constants.read-declaration Constants.constants-turn Constants.read-constants Expressions.plain Expressions.field-name
-    Expressions.dot-field Expressions.field-number Expressions.read-field Expressions.put-field Expressions.named-index
-    Expressions.fixed-index Expressions.read-index Expressions.index-turn Expressions.read-indices Expressions.read-neighbour
-    Expressions.read-own Expressions.values-from Expressions.array-values Expressions.read-bracket Expressions.read-element
-    Expressions.array-use Expressions.name-use Expressions.read-primary Expressions.read-operand Expressions.read-right
-    Expressions.operator-turn Expressions.climb Expressions.operand-in Statements.old-variable Statements.new-variable
-    Statements.named-target Statements.field-target Statements.read-target Statements.when-clause Statements.clause-end
-    Statements.clause-turn Statements.read-assignment Statements.choices Statements.arm-end Statements.arm-turn
-    Statements.read-if Statements.read-forall Statements.read-exit Statements.statement-turn Statements.read-block
-    Source.field-turn Source.with-ranges Source.put-ranges Source.read-group Source.group-turn Source.read-dims
-    Source.is-unnamed Source.read-fields Source.read-cell Source.has-kind Source.sized Source.finish Source.read-program
-    Source.parse Checking.rooms-fit Checking.read-source Checking.check Checking.words-after Checking.names-after
-    Operators.apply-unary Operators.compare Operators.apply-binary Evaluation.offsets Evaluation.element-at Evaluation.eval
-    Evaluation.store Evaluation.assign-first Evaluation.each Evaluation.exec Evaluation.evaluate Written.written-in-index
-    Written.written-in-expr Written.written-in-condition Written.written-in-clauses Written.written-in-block
-    Written.written-in Reach.widened Reach.reach Reach.running Admission.all-between Admission.good-sizes
-    Admission.good-rooms Admission.good-times Admission.too-far Admission.out-of-field Admission.admission Report.report-of
-    Report.run Services.run-source Services.room-after
+    Reader.opening Reader.is-name Reader.by-name Reader.entry-in Reader.declare Reader.release Reader.fresh Reader.use-name
+    Constants.is-sign Constants.named-constant Constants.read-constant Constants.read-signed Constants.range-rule
+    Constants.read-range Constants.value-turn Constants.read-values Constants.read-size Constants.array-head
+    Constants.array-constant Constants.simple-constant Constants.constant-value Constants.read-declaration
+    Constants.constants-turn Constants.read-constants Expressions.plain Expressions.field-name Expressions.dot-field
+    Expressions.field-number Expressions.read-field Expressions.put-field Expressions.named-index Expressions.fixed-index
+    Expressions.read-index Expressions.index-turn Expressions.read-indices Expressions.read-neighbour Expressions.read-own
+    Expressions.values-from Expressions.array-values Expressions.read-bracket Expressions.read-element Expressions.array-use
+    Expressions.name-use Expressions.read-primary Expressions.read-operand Expressions.read-right Expressions.operator-turn
+    Expressions.climb Expressions.operand-in Statements.old-variable Statements.new-variable Statements.named-target
+    Statements.field-target Statements.read-target Statements.when-clause Statements.clause-end Statements.clause-turn
+    Statements.read-assignment Statements.choices Statements.arm-end Statements.arm-turn Statements.read-if
+    Statements.read-forall Statements.read-exit Statements.statement-turn Statements.read-block Source.field-turn
+    Source.with-ranges Source.put-ranges Source.read-group Source.group-turn Source.read-dims Source.is-unnamed
+    Source.read-fields Source.read-cell Source.has-kind Source.settled-value Source.settled Source.finish Source.read-program
+    Source.parse Checking.rooms-fit Checking.lent-fit Checking.read-source Checking.check Checking.words-after
+    Checking.names-after Operators.apply-unary Operators.compare Operators.apply-binary Evaluation.offsets
+    Evaluation.element-at Evaluation.eval Evaluation.store Evaluation.assign-first Evaluation.each Evaluation.exec
+    Evaluation.evaluate Written.written-in-index Written.written-in-expr Written.written-in-condition
+    Written.written-in-clauses Written.written-in-block Written.written-in Reach.widened Reach.reach Reach.running
+    Admission.all-between Admission.good-sizes Admission.good-rooms Admission.good-times Admission.too-far
+    Admission.out-of-field Admission.admission Report.report-of Report.run Services.run-source Services.room-after
 holds (checks l n place) =
     let c = check (fit l) (l .source) in
     eqb (c .number) n && eqb (c .place) place

@@ -52,7 +52,7 @@ range-apart name k i s =
     ∙ same-after (put-both name (encode-of (r .low)) (encode-of (r .high))) i u _ _ (λ _ v. return-on r k i v)))
 
 -- a loop's index and range, and what follows
-head-apart : {A : Type 0} (depth : ℕ) (k : Range × ℕ → Reader A) (i : Input) (s : State) → (loop-head depth >>= k) i s ≡ (fresh-name >>= λ name. expect-or (kind .colon) 6 >>= λ _. read-range 4096 >>= λ r. put-both name (encode-of (r .low)) (encode-of (r .high)) >>= λ _. declare name (name-kind .index) (depth + 1) >>= λ slot. k (r, slot)) i s
+head-apart : {A : Type 0} (depth : ℕ) (k : Range × ℕ → Reader A) (i : Input) (s : State) → (loop-head depth >>= k) i s ≡ (fresh-name >>= λ name. expect-or (kind .colon) 6 >>= λ _. read-range 4096 >>= λ r. put-both name (encode-of (r .low)) (encode-of (r .high)) >>= λ _. declare name (name-kind .index) depth >>= λ slot. k (r, slot)) i s
 unfolding loop-head
 head-apart depth k i s =
     regroup fresh-name i s _ k
@@ -62,8 +62,8 @@ head-apart depth k i s =
     ∙ same-after (expect-or (kind .colon) 6) i t _ _ (λ _ u.
     same-after (read-range 4096) i u _ _ (λ r v.
     same-after (put-both name (encode-of (r .low)) (encode-of (r .high))) i v _ _ (λ _ w.
-    regroup (declare name (name-kind .index) (depth + 1)) i w _ k
-    ∙ same-after (declare name (name-kind .index) (depth + 1)) i w _ _ (λ slot x. return-on (r, slot) k i x)))))
+    regroup (declare name (name-kind .index) depth) i w _ k
+    ∙ same-after (declare name (name-kind .index) depth) i w _ _ (λ slot x. return-on (r, slot) k i x)))))
 
 -- an open loop: its head, its body and its end
 abbrev forall-body : ℕ → Reader Block → Reader (Block → Block)

@@ -11,7 +11,7 @@ use Rattle.token.specs.declared.Scan.{Scan}
 use Rattle.token.specs.Kind.{kind}
 use Rattle.names.specs.Names.{most-names, name-kind}
 use Rattle.program.specs.Syntax.{Range, Expr, Target, Clause, Block}
-use Rattle.grammar.specs.Reader.{Reader, _>>=_, _>>_, return, Turn, again, done, refuse, position, put-both, expect, expect-or, declare, revalue, fresh-name}
+use Rattle.grammar.specs.Reader.{Reader, _>>=_, _>>_, return, Turn, again, done, refuse, position, put-both, expect, expect-or, declare, release, fresh-name}
 use Rattle.grammar.specs.Constants.{read-range}
 use Rattle.grammar.specs.Expressions as grammar
 use Rattle.grammar.specs.Expressions.{read-expression}
@@ -89,7 +89,7 @@ unfoldable pub loop-head : ℕ → Reader (Range × ℕ)
 loop-head depth = do
   name ← fresh-name
   r ← loop-range name
-  slot ← declare name (name-kind .index) (depth + 1)
+  slot ← declare name (name-kind .index) depth
   return (r, slot)
 
 -- the slot of a loop's index, in `word`
@@ -100,7 +100,7 @@ index-in h t = (h .1 ≡ t .word) × (t .word < most-names)
 unfoldable pub loop-end : ℕ → ℕ → ℕ → (Block → Block) → Reader (Block → Block)
 loop-end i inner slot statement = do
   expect (kind .end-word)
-  revalue slot 0
+  release slot
   past ← position
   put-both i inner past
   return statement

@@ -19,9 +19,10 @@ use expressions::Cell;
 use expressions::dot_field;
 use expressions::read_expression;
 use names::Found;
+use names::count_variables;
 use names::entry_in;
 use names::find_name;
-use names::write_value;
+use names::remove_entry;
 use program::put_word;
 use program::token_at;
 use reader::Read;
@@ -34,13 +35,14 @@ use reader::fresh;
 use reader::is_name;
 use reader::moved;
 use reader::refuse;
+use reader::released;
 use token::Scan;
 use token::Token;
 use token::kind;
 
 // ---- left sides
 
-// Over the name t on a left side, an old variable or a new one; its slot.
+// Over the name t on a left side, an old variable or a new one; its number among the variables.
 fn variable_target(
     source: &[u8],
     names: &mut [u32],
@@ -58,11 +60,13 @@ fn variable_target(
         let Read::Next(a) = r else {
             return r;
         };
-        return Read::Next(declare(names, words, scan, a, a.at - 1, names::kind::VARIABLE, 0));
+        let k = count_variables(names, a.count);
+        let b = declare(names, words, scan, a, a.at - 1, names::kind::VARIABLE, k);
+        return Read::Next(carrying(b, k, 0));
     };
     let e = entry_in(names, slot);
     if e.kind == names::kind::VARIABLE {
-        return Read::Next(carrying(moved(s), slot as u32, 0));
+        return Read::Next(carrying(moved(s), e.word, 0));
     }
     refuse(words, scan, s, s.at, 9)
 }
@@ -328,7 +332,7 @@ fn loop_range(
     Read::Next(b)
 }
 
-// A loop's index and range. The index's record holds its loop's depth plus 1, while the loop is open; its slot is carried on.
+// A loop's index and range. The index's record holds its loop's depth; its slot is carried on.
 fn loop_head(
     source: &[u8],
     names: &mut [u32],
@@ -349,10 +353,10 @@ fn loop_head(
     let Read::Next(b) = q else {
         return q;
     };
-    Read::Next(declare(names, words, scan, b, i, names::kind::INDEX, depth + 1))
+    Read::Next(declare(names, words, scan, b, i, names::kind::INDEX, depth))
 }
 
-// The end of a loop: its index is seen no more, and its body's position and the position past it are noted at its `forall`, at position i.
+// The end of a loop: its index's record is free again, and its body's position and the position past it are noted at its `forall`, at position i.
 fn loop_end(
     names: &mut [u32],
     words: &mut [u32],
@@ -369,10 +373,10 @@ fn loop_end(
     let Read::Next(a) = r else {
         return r;
     };
-    write_value(names, slot, 0);
+    remove_entry(names, slot);
     put_word(words, i, 2, inner);
     put_word(words, i, 3, a.at as u32);
-    Read::Next(a)
+    Read::Next(released(a))
 }
 
 // Over an `exit`, with the position past it noted at it.

@@ -113,23 +113,33 @@ impl Reader<'_> {
 
     fn named_primary(&mut self) -> Read<Expression> {
         let spelling = self.spelling();
+        let first = self.at;
         if spelling == b"cell" {
             self.advance();
-            if self.named {
-                return Ok(Expression::Own(self.field_reference(false)?));
-            }
-            self.plain_name_end()?;
-            return Ok(Expression::Own(0));
+            let field = if self.named {
+                self.field_reference(false)?
+            } else {
+                self.plain_name_end()?;
+                0
+            };
+            self.put(first, field as u32, self.at as u32);
+            return Ok(Expression::Own(field));
         }
         if spelling == b"time" {
             self.advance();
             self.plain_name_end()?;
             return Ok(Expression::Time);
         }
-        let Some(Entry { record, slot, .. }) = self.names.find(&spelling) else {
+        let Some(entry) = self.names.find(&spelling) else {
             return self.complain(8);
         };
-        let (record, slot) = (*record, *slot);
+        let Entry {
+            record,
+            slot,
+            noted,
+            ..
+        } = *entry;
+        self.put(first, record.kind, noted);
         self.advance();
         match record.kind {
             ARRAY if self.is_symbol(Symbol::OpenBracket) => {
@@ -157,6 +167,7 @@ impl Reader<'_> {
     }
 
     fn relative_index(&mut self) -> Read<Expression> {
+        let first = self.at;
         self.open()?;
         let mut offsets = Vec::new();
         loop {
@@ -180,6 +191,7 @@ impl Reader<'_> {
             self.no_field_here()?;
             0
         };
+        self.put(first, field as u32, self.at as u32);
         Ok(Expression::Near(offsets.into_boxed_slice(), field))
     }
 
@@ -188,6 +200,7 @@ impl Reader<'_> {
     /// `[` and `.` are 7 there.
     fn offset(&mut self, dimension: usize) -> Read<Offset> {
         let place = self.place();
+        let first = self.at;
         let sign = self.sign();
         let index = if self.is_name() && sign.is_none() {
             self.names
@@ -199,12 +212,15 @@ impl Reader<'_> {
         let (low, high, offset) = match index {
             Some(entry) => {
                 let found = (entry.low, entry.high, Offset::Slot(entry.slot));
+                let depth = entry.noted;
+                self.put(first, INDEX, depth);
                 self.advance();
                 found
             }
             None => {
                 let value = self.constant()?;
                 let value = if sign == Some(true) { -value } else { value };
+                self.table[first][3] = value as u32;
                 (value, value, Offset::Fixed(value))
             }
         };

@@ -99,7 +99,6 @@ use-name-requires c κs =
     let f = c .before .before .before .before .before .f in (
       pre .table,
       omega (arith, token-at .ensures .inside, is-name .ensures .kind (if2 .taken), pre .tokens),
-      omega (arith, below-slot (find-name .ensures .below) (f .given .1), pre .few),
     )
 
 carrying-requires-2 : tie.Need-carrying-requires-2

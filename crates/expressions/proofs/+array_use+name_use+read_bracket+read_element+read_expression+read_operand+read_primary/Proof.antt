@@ -233,7 +233,7 @@ name-use-entry-in-requires t c κs =
 name-use-use-name-requires : (t : ℕ) → name-use-lts.Need-use-name-requires (name-use-calls t) (name-use-at t) name-use.Post
 name-use-use-name-requires t c κs =
     let pre = c .before .before .before .before .before .pre in
-    (pre .1 .0 .table, omega (arith, pre .1 .1, pre .1 .0 .tokens), omega (arith, pre .1 .2, pre .1 .0 .few))
+    (pre .1 .0 .table, omega (arith, pre .1 .1, pre .1 .0 .tokens))
 
 name-use-array-use-requires : (t : ℕ) → name-use-lts.Need-array-use-requires (name-use-calls t) (name-use-at t) name-use.Post
 name-use-array-use-requires t c κs =

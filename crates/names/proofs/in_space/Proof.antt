@@ -9,11 +9,11 @@ is-field-requires c κs = search needs
 returns : tie.Need-returns
 returns c = search Searches
 
-is-visible-requires : tie.Need-is-visible-requires
-is-visible-requires c κs = search needs
+is-field-requires-2 : tie.Need-is-field-requires-2
+is-field-requires-2 c κs = search needs
 
 returns-2 : tie.Need-returns-2
 returns-2 c = search Searches
 
 pub in-space-spec : {M : Type 1} → statement M
-in-space-spec = tie.close (tie.spec is-field-requires returns is-visible-requires returns-2)
+in-space-spec = tie.close (tie.spec is-field-requires returns is-field-requires-2 returns-2)

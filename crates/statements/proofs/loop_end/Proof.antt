@@ -1,4 +1,4 @@
-use Rattle.reader.proofs.Steps.{on, off, here, returned, put-in, revalued}
+use Rattle.reader.proofs.Steps.{on, off, here, returned, put-in, released}
 use Rattle.reader.proofs.Going.{nowhere, went, goes-on}
 use Rattle.statements.specs.Promises.{loop-end}
 use native.Mathlib.Omega.{arith}
@@ -26,8 +26,8 @@ returns c =
     let enum-told = c .enum-told in
     λ source. record { gives = λ _ _. off _ (expect .ensures .gives _ _) (enum-told .given .1); onward = nowhere (enum-told .given .1) }
 
-write-value-requires : tie.Need-write-value-requires
-write-value-requires c κs = search needs
+remove-entry-requires : tie.Need-remove-entry-requires
+remove-entry-requires c κs = search needs
 
 put-word-requires : tie.Need-put-word-requires
 put-word-requires c κs = search needs
@@ -42,6 +42,9 @@ cast-put-word c =
 put-word-requires-2 : tie.Need-put-word-requires-2
 put-word-requires-2 c κs = search needs
 
+released-requires : tie.Need-released-requires
+released-requires c κs = search needs
+
 same-length-2 : tie.Need-same-length-2
 same-length-2 c = search needs
 
@@ -51,12 +54,23 @@ same-length-3 c = search needs
 returns-2 : tie.Need-returns-2
 unfolding loop-end
 returns-2 c =
-    let expect = c .before .before .before .before .before .before .before .before .before .before .before .before .before .before .before .before .expect in
-    let r = c .before .before .before .before .before .before .before .before .before .before .before .before .before .before .r in
-    let write-value = c .before .before .before .before .before .before .before .before .before .before .before .write-value in
-    let put-word = c .before .before .before .before .before .before .before .put-word in
-    let put-word2 = c .before .before .put-word2 in
-    λ source. let w = went (expect .ensures .onward) (r .given .1) in record { gives = λ _ _. on _ (expect .ensures .gives _ _) (r .given .1) (λ _ _. on _ (revalued _ _ (write-value .ensures)) refl (λ _ _. here _ (on _ (on _ (put-in _ _ _ (put-word .ensures)) refl (λ _ _. put-in _ _ _ (put-word2 .ensures))) refl (λ _ _. returned _ tt)))); onward = goes-on (w .past) (w .within) (w .few) }
+    let expect = c .before .before .before .before .before .before .before .before .before .before .before .before .before .before .before .before .before .expect in
+    let r = c .before .before .before .before .before .before .before .before .before .before .before .before .before .before .before .r in
+    let remove-entry = c .before .before .before .before .before .before .before .before .before .before .before .before .remove-entry in
+    let put-word = c .before .before .before .before .before .before .before .before .put-word in
+    let put-word2 = c .before .before .before .put-word2 in
+    let e = c .released .ensures in
+    λ source.
+    let w = went (expect .ensures .onward) (r .given .1) in
+    record {
+      gives = λ _ _.
+          on _ (expect .ensures .gives _ _) (r .given .1)
+          (λ _ _. on _ (released _ e (remove-entry .ensures)) refl
+          (λ _ _. here _
+          (on _ (on _ (put-in _ _ _ (put-word .ensures)) refl (λ _ _. put-in _ _ _ (rw (e .at) (put-word2 .ensures)))) refl
+          (λ _ _. returned _ tt))));
+      onward = goes-on (omega (arith, w .past, e .at)) (omega (arith, w .within, e .at)) (omega (arith, w .few, e .count));
+    }
 
 pub loop-end-spec : {M : Type 1} → statement M
 loop-end-spec =
@@ -67,10 +81,11 @@ loop-end-spec =
     enum-told
     same-length
     returns
-    write-value-requires
+    remove-entry-requires
     put-word-requires
     cast-put-word
     put-word-requires-2
+    released-requires
     same-length-2
     same-length-3
     returns-2)

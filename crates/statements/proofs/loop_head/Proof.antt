@@ -63,11 +63,6 @@ returns-2 c =
     let enum-told2 = c .enum-told2 in
     record { gives = on-told _ (fresh .ensures .gives) (r .given .1) (off _ (loop-range .ensures .gives) (enum-told2 .given .1)); onward = nowhere (enum-told2 .given .1) }
 
-add-declare : tie.Need-add-declare
-add-declare c =
-    let pre = c .before .before .before .before .before .before .before .before .before .before .before .before .before .before .before .before .before .before .before .before .pre in
-    omega (arith, pre .1)
-
 declare-requires : tie.Need-declare-requires
 declare-requires c κs =
     let pre = c .before .before .before .before .before .before .before .before .before .before .before .before .before .before .before .before .before .before .before .before .pre in
@@ -119,7 +114,6 @@ loop-head-spec =
     same-length-3
     same-length-4
     returns-2
-    add-declare
     declare-requires
     same-length-5
     same-length-6

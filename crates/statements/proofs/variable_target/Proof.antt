@@ -1,7 +1,7 @@
-use Rattle.reader.proofs.Steps.{on, on-told, off, so, other, named, found-it, missed-it, below-slot, refused, carried, advanced, declared}
+use Rattle.reader.proofs.Steps.{on, on-told, off, so, other, stated, named, found-it, missed-it, below-slot, refused, carried, advanced, declared}
 use Rattle.reader.proofs.Going.{nowhere, went, goes-on}
 use native.Mathlib.Omega.{arith}
-use mathlib.Core.Path.{refl, sym}
+use mathlib.Core.Path.{refl, sym, _∙_}
 use borrow.Author.Tests.{eq-eqb, ne-eqb}
 use borrow.Author.Needs.{needs}
 use Rattle.grammar.specs.Statements.{old-variable, new-variable}
@@ -38,18 +38,28 @@ returns c =
     let enum-told2 = c .enum-told2 in
     record { gives = missed-it _ _ _ (find-name .ensures) (enum-told .given .1) (off _ (fresh .ensures .gives) (enum-told2 .given .1)); onward = nowhere (enum-told2 .given .1) }
 
+count-variables-requires : tie.Need-count-variables-requires
+count-variables-requires c κs =
+    let pre = c .before .before .before .before .before .before .before .before .before .before .before .before .before .pre in
+    let fresh = c .before .before .before .before .fresh in
+    let r = c .before .before .r in
+    let w = went (fresh .ensures .onward) (r .given .1) in (omega (arith, w .few, pre .0 .few), pre .0 .list)
+
 sub-declare : tie.Need-sub-declare
 sub-declare c =
-    let fresh = c .before .before .before .before .before .fresh in
-    let r = c .before .before .before .r in
+    let fresh = c .before .before .before .before .before .before .before .fresh in
+    let r = c .before .before .before .before .before .r in
     let w = went (fresh .ensures .onward) (r .given .1) in omega arith
 
 declare-requires : tie.Need-declare-requires
 declare-requires c κs =
-    let pre = c .before .before .before .before .before .before .before .before .before .before .before .before .before .before .pre in
-    let fresh = c .before .before .before .before .before .fresh in
-    let r = c .before .before .before .r in
+    let pre = c .before .before .before .before .before .before .before .before .before .before .before .before .before .before .before .before .pre in
+    let fresh = c .before .before .before .before .before .before .before .fresh in
+    let r = c .before .before .before .before .before .r in
     let p = pre .0 in let w = went (fresh .ensures .onward) (r .given .1) in (p .tokens, p .table, omega arith, p .list)
+
+carrying-requires : tie.Need-carrying-requires
+carrying-requires c κs = search needs
 
 same-length-2 : tie.Need-same-length-2
 same-length-2 c = search needs
@@ -57,16 +67,22 @@ same-length-2 c = search needs
 returns-2 : tie.Need-returns-2
 unfolding new-variable
 returns-2 c =
-    let find-name = c .before .before .before .before .before .before .before .before .before .before .before .before .find-name in
-    let enum-told = c .before .before .before .before .before .before .before .before .before .before .enum-told in
-    let fresh = c .before .before .before .before .before .before .before .before .fresh in
-    let r = c .before .before .before .before .before .before .r in
-    let declare = c .before .before .declare in
+    let find-name = c .before .before .before .before .before .before .before .before .before .before .before .before .before .before .before .find-name in
+    let enum-told = c .before .before .before .before .before .before .before .before .before .before .before .before .before .enum-told in
+    let fresh = c .before .before .before .before .before .before .before .before .before .before .before .fresh in
+    let r = c .before .before .before .before .before .before .before .before .before .r in
+    let count = c .before .before .before .before .before .before .count-variables .ensures in
+    let declare = c .before .before .before .declare in
+    let k = c .carrying .ensures in
     let w = went (fresh .ensures .onward) (r .given .1) in
     let d = declare .ensures in
     record {
-      gives = missed-it _ _ _ (find-name .ensures) (enum-told .given .1) (on-told _ (fresh .ensures .gives) (r .given .1) (declared _ _ _ d));
-      onward = goes-on (omega (arith, w .past, d .at)) (omega (arith, w .within, d .at)) (omega (arith, w .few, d .count));
+      gives =
+          missed-it _ _ _ (find-name .ensures) (enum-told .given .1)
+          (on-told _ (fresh .ensures .gives) (r .given .1)
+          (stated _ (on _ (declared _ _ _ (rw count at d)) refl
+          (λ _ _. carried _ k (sym (k .word ∙ count))))));
+      onward = goes-on (omega (arith, w .past, d .at, k .at)) (omega (arith, w .within, d .at, k .at)) (omega (arith, w .few, d .count, k .count));
     }
 
 entry-in-requires : tie.Need-entry-in-requires
@@ -79,15 +95,8 @@ entry-in-requires c κs =
 moved-requires : tie.Need-moved-requires
 moved-requires c κs = search needs
 
-cast-carrying : tie.Need-cast-carrying
-cast-carrying c =
-    let pre = c .before .before .before .before .before .before .before .before .before .before .before .before .before .pre in
-    let find-name = c .before .before .before .before .before .before .before .before .find-name in
-    let f = c .before .before .before .before .before .before .f in
-    let p = pre .0 in let b = below-slot (find-name .ensures .below) (f .given .1) in omega (arith, b, p .few)
-
-carrying-requires : tie.Need-carrying-requires
-carrying-requires c κs = search needs
+carrying-requires-2 : tie.Need-carrying-requires-2
+carrying-requires-2 c κs = search needs
 
 same-length-3 : tie.Need-same-length-3
 same-length-3 c = search needs
@@ -101,7 +110,7 @@ returns-3 c =
     let entry-in = c .before .before .before .before .entry-in in
     let if1 = c .before .before .if1 in
     let moved = c .before .moved in
-    let carrying = c .carrying in
+    let carrying = c .carrying2 in
     let p = pre in
     let m = moved .ensures in
     let k = carrying .ensures in
@@ -139,14 +148,15 @@ variable-target-spec =
     enum-told-2
     same-length
     returns
+    count-variables-requires
     sub-declare
     declare-requires
+    carrying-requires
     same-length-2
     returns-2
     entry-in-requires
     moved-requires
-    cast-carrying
-    carrying-requires
+    carrying-requires-2
     same-length-3
     returns-3
     refuse-requires

@@ -20,8 +20,8 @@ read-program-requires c κs = search needs
 enum-known-r : tie.Need-enum-known-r
 enum-known-r c = search needs
 
-size-arrays-requires : tie.Need-size-arrays-requires
-size-arrays-requires c κs =
+settle-values-requires : tie.Need-settle-values-requires
+settle-values-requires c κs =
     let pre = c .before .before .before .before .before .before .before .before .before .before .before .before .before .before .before .before .before .before .before .before .before .before .before .pre in
     let scan-source = c .before .before .before .before .before .before .before .before .before .before .before .before .before .before .before .before .before .before .scan-source in
     let clear = c .before .before .before .before .before .before .before .before .before .before .before .before .before .before .clear in
@@ -71,9 +71,9 @@ returns c =
     let clear = c .before .before .before .before .before .before .before .before .before .before .before .before .before .before .before .before .before .before .before .before .clear in
     let read-program = c .before .before .before .before .before .before .before .before .before .before .before .before .before .before .before .read-program in
     let r = c .before .before .before .before .before .before .before .before .before .r in
-    let size-arrays = c .before .before .before .before .before .size-arrays in
+    let settle-values = c .before .before .before .before .before .settle-values in
     let has-kind = c .has-kind in
-    accepted-with _ _ _ (pre .0) (pre .1) (pre .2) (scan-source .ensures) (clear .ensures ∙ ap (λ (n : ℕ). replicate n 0) (pre .1)) (read-program .ensures) (r .given .1) (size-arrays .ensures)
+    accepted-with _ _ _ (pre .0) (pre .1) (pre .2) (scan-source .ensures) (clear .ensures ∙ ap (λ (n : ℕ). replicate n 0) (pre .1)) (read-program .ensures) (r .given .1) (settle-values .ensures)
     _ refl refl refl refl refl refl (has-kind .ensures)
 
 same-length-3 : tie.Need-same-length-3
@@ -107,7 +107,7 @@ load-into-spec =
     clear-requires
     read-program-requires
     enum-known-r
-    size-arrays-requires
+    settle-values-requires
     cast-t26
     has-kind-requires
     enum-known-r-2
