@@ -1,5 +1,5 @@
 /*
- * Checking and running correction rules written in Cellang.
+ * Checking and running correction rules written in Cellang, and comparing grids.
  *
  * Link libcellang.a (x86-64 Linux). It needs memset and nothing else, allocates nothing and keeps
  * nothing between calls; calls on different memory may run at the same time. A run takes about
@@ -207,6 +207,42 @@ uint32_t cellang_run_quiet(
     uint8_t *marks, size_t marks_length,
     int64_t start, int64_t steps,
     uint64_t *report, size_t report_length);
+
+/* ---- comparing */
+
+#define CELLANG_MOST_COMPARED 2147483647 /* entries of a grid to compare */
+
+/* The entries that tell a comparison. Where fewer are lent, the first ones are told; any others stay. */
+enum cellang_comparison_entry {
+    CELLANG_COMPARISON_NUMBER = 0, /* the reply's number */
+    CELLANG_COMPARISON_TOTAL = 1,  /* how many entries differ, at 0; else 0 */
+    CELLANG_COMPARISON_LENGTH = 2  /* entries in all */
+};
+
+/* The numbers of a difference; difference n has numbers 3n to 3n+2 of the room. */
+enum cellang_difference_number {
+    CELLANG_DIFFERENCE_ENTRY = 0, /* the number of the entry that differs, from 0 */
+    CELLANG_DIFFERENCE_LEFT = 1,  /* its value in the left grid */
+    CELLANG_DIFFERENCE_RIGHT = 2, /* its value in the right grid */
+    CELLANG_DIFFERENCE_LENGTH = 3 /* numbers in all */
+};
+
+/*
+ * Compares two grids, without a source, and lists the entries in which they differ, in rising order. Gives 0 or
+ * CELLANG_LENT_LENGTH.
+ *
+ * The grids have equally many entries, at most 2147483647, of any value; the room has 3k numbers. At 0 the first
+ * k differences stand in the room, or all where there are fewer; the remaining room stays, and the total counts
+ * them all. k may be 0. Where the grids are of unlike length or have more entries, or the room has another
+ * length, the reply is 21, the total 0, and nothing is written to the room. Swapping the grids swaps the two
+ * values of each difference and nothing else. left and right may overlap.
+ */
+uint32_t cellang_compare(
+    const int32_t *left, size_t left_length,
+    const int32_t *right, size_t right_length,
+    size_t k,
+    int32_t *room, size_t room_length,
+    uint32_t *reply, size_t reply_length);
 
 #ifdef __cplusplus
 }

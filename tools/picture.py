@@ -1,12 +1,14 @@
 #!/usr/bin/env python3
-"""Turns a PGM picture into a grid file for run_rule, and a grid file into a PGM picture.
+"""Turns a PGM picture into a grid file for run_rule, a grid file into a PGM picture, and the differences of two grid files into one.
 
     picture.py grid IN.pgm OUT.grid [--fields A,B,..]
     picture.py image IN.grid OUT.pgm --width W [--field K --fields N --max M]
+    picture.py difference LEFT.grid RIGHT.grid OUT.pgm --width W [--field K --fields N]
 
 A grid file has the entries of a grid in the order of its cells, the fields of a cell together, as whole numbers with blanks and line breaks
 between them. `grid` writes one line for each row of the picture; with --fields each cell gets further fields with these values. `image`
-takes field K (from 0) of N and writes it as a plain PGM of W columns with the greatest grey value M (255 if not given).
+takes field K (from 0) of N and writes it as a plain PGM of W columns with the greatest grey value M (255 if not given). `difference` writes
+a plain PGM that is white (255) where field K of the two grids differs, or any of the N fields if K is not given, and black (0) elsewhere.
 `-` stands for standard input or output.
 """
 
@@ -126,26 +128,60 @@ def grid_of(data, fields):
     return ("\n".join(lines) + "\n").encode()
 
 
-def image_of(text, width, field, fields, most):
-    """The picture of a field of a grid file."""
+def check_layout(width, field, fields):
+    """Whether there can be rows of so many cells, and such a field."""
     if width < 1:
         raise Damaged("the width %d is not at least 1" % width)
     if not 0 <= field < fields:
         raise Damaged("there is no field %d of %d" % (field, fields))
-    if not 1 <= most <= LARGEST:
-        raise Damaged("the greatest value %d is not from 1 to %d" % (most, LARGEST))
+
+
+def read_cells(text, width, fields):
+    """The entries of a grid file, in whole rows of cells."""
     entries = read_grid(text)
     if not entries or len(entries) % (width * fields) != 0:
         raise Damaged("%d entries do not make rows of %d cells with %d fields" % (len(entries), width, fields))
-    pixels = entries[field::fields]
-    for number, pixel in enumerate(pixels):
-        if not 0 <= pixel <= most:
-            raise Damaged("cell %d has %d, which is not from 0 to %d" % (number, pixel, most))
+    return entries
+
+
+def write_plain(pixels, width, most):
+    """The P2 picture of some pixels."""
     height = len(pixels) // width
     lines = ["P2", "%d %d" % (width, height), "%d" % most]
     for row in range(height):
         lines.append(" ".join(str(pixel) for pixel in pixels[row * width : (row + 1) * width]))
     return ("\n".join(lines) + "\n").encode()
+
+
+def image_of(text, width, field, fields, most):
+    """The picture of a field of a grid file."""
+    check_layout(width, field, fields)
+    if not 1 <= most <= LARGEST:
+        raise Damaged("the greatest value %d is not from 1 to %d" % (most, LARGEST))
+    pixels = read_cells(text, width, fields)[field::fields]
+    for number, pixel in enumerate(pixels):
+        if not 0 <= pixel <= most:
+            raise Damaged("cell %d has %d, which is not from 0 to %d" % (number, pixel, most))
+    return write_plain(pixels, width, most)
+
+
+def difference_of(left, right, width, field, fields):
+    """The picture of where two grid files differ: in a field, or in any where it is None."""
+    check_layout(width, field or 0, fields)
+    grids = []
+    for name, text in (("left", left), ("right", right)):
+        try:
+            grids.append(read_cells(text, width, fields))
+        except Damaged as wrong:
+            raise Damaged("%s grid: %s" % (name, wrong))
+    if len(grids[0]) != len(grids[1]):
+        raise Damaged("the grids have %d and %d entries" % (len(grids[0]), len(grids[1])))
+    differs = [one != other for one, other in zip(*grids)]
+    chosen = range(fields) if field is None else [field]
+    pixels = []
+    for cell in range(0, len(differs), fields):
+        pixels.append(255 if any(differs[cell + number] for number in chosen) else 0)
+    return write_plain(pixels, width, 255)
 
 
 def numbers(text):
@@ -157,7 +193,7 @@ def numbers(text):
 
 
 def arguments(words):
-    parser = argparse.ArgumentParser(prog="picture.py", description="turns a PGM picture into a grid file, and back")
+    parser = argparse.ArgumentParser(prog="picture.py", description="turns a PGM picture into a grid file, and back, and shows differences")
     ways = parser.add_subparsers(dest="way", required=True)
     grid = ways.add_parser("grid", help="a picture into a grid file")
     grid.add_argument("input", metavar="IN.pgm")
@@ -170,6 +206,13 @@ def arguments(words):
     image.add_argument("--field", type=int, default=0, help="the field that is the grey value, from 0")
     image.add_argument("--fields", type=int, default=1, help="how many fields a cell has")
     image.add_argument("--max", type=int, default=255, help="the greatest grey value")
+    difference = ways.add_parser("difference", help="the differences of two grid files into a picture")
+    difference.add_argument("input", metavar="LEFT.grid")
+    difference.add_argument("other", metavar="RIGHT.grid")
+    difference.add_argument("output", metavar="OUT.pgm")
+    difference.add_argument("--width", type=int, required=True, help="how many columns the picture has")
+    difference.add_argument("--field", type=int, help="the field that is compared, from 0; all if it is not given")
+    difference.add_argument("--fields", type=int, default=1, help="how many fields a cell has")
     return parser.parse_args(words)
 
 
@@ -188,19 +231,27 @@ def write(name, data):
         file.write(data)
 
 
+def made(asked):
+    """What is asked for."""
+    if asked.way == "grid":
+        return grid_of(read(asked.input), asked.fields)
+    if asked.way == "image":
+        return image_of(read(asked.input), asked.width, asked.field, asked.fields, asked.max)
+    if asked.input == "-" and asked.other == "-":
+        raise Damaged("both grids cannot be standard input")
+    return difference_of(read(asked.input), read(asked.other), asked.width, asked.field, asked.fields)
+
+
 def main(words):
     asked = arguments(words)
     try:
-        data = read(asked.input)
-        if asked.way == "grid":
-            out = grid_of(data, asked.fields)
-        else:
-            out = image_of(data, asked.width, asked.field, asked.fields, asked.max)
+        out = made(asked)
     except Damaged as wrong:
-        print("picture.py: %s: %s" % (asked.input, wrong), file=sys.stderr)
+        names = [asked.input] + ([asked.other] if asked.way == "difference" else [])
+        print("picture.py: %s: %s" % (", ".join(names), wrong), file=sys.stderr)
         return 1
     except OSError as wrong:
-        print("picture.py: %s: %s" % (asked.input, wrong.strerror), file=sys.stderr)
+        print("picture.py: %s: %s" % (wrong.filename or asked.input, wrong.strerror), file=sys.stderr)
         return 1
     try:
         write(asked.output, out)

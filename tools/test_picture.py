@@ -6,7 +6,7 @@ import unittest
 
 sys.path.insert(0, os.path.dirname(os.path.abspath(__file__)))
 
-from picture import Damaged, grid_of, image_of, read_grid, read_pgm  # noqa: E402
+from picture import Damaged, difference_of, grid_of, image_of, read_grid, read_pgm  # noqa: E402
 
 
 class Pictures(unittest.TestCase):
@@ -80,6 +80,41 @@ class Grids(unittest.TestCase):
             with self.subTest(text=text):
                 with self.assertRaisesRegex(Damaged, says):
                     image_of(text, width, field, fields, most)
+
+
+class Differences(unittest.TestCase):
+    def test_none(self):
+        self.assertEqual(difference_of(b"1 -2\n3 4", b"1 -2 3\n4", 2, None, 1), b"P2\n2 2\n255\n0 0\n0 0\n")
+
+    def test_some(self):
+        self.assertEqual(difference_of(b"1 2 3 4", b"1 -2 3 5", 2, None, 1), b"P2\n2 2\n255\n0 255\n0 255\n")
+
+    def test_a_field(self):
+        left, right = b"1 0 0 2 0 0 3 0 0", b"9 0 0 2 7 0 3 0 7"
+        self.assertEqual(difference_of(left, right, 3, 0, 3), b"P2\n3 1\n255\n255 0 0\n")
+        self.assertEqual(difference_of(left, right, 3, 1, 3), b"P2\n3 1\n255\n0 255 0\n")
+
+    def test_any_field(self):
+        left, right = b"1 0 0 2 0 0 3 0 0", b"9 0 0 2 0 0 3 0 7"
+        self.assertEqual(difference_of(left, right, 3, None, 3), b"P2\n3 1\n255\n255 0 255\n")
+
+    def test_swapped(self):
+        left, right = b"1 2 3 4 5 6", b"1 5 3 4 0 6"
+        self.assertEqual(difference_of(left, right, 3, None, 1), difference_of(right, left, 3, None, 1))
+
+    def test_damaged(self):
+        for left, right, width, field, fields, says in [
+            (b"1 2", b"1 2 3 4", 2, None, 1, "have 2 and 4 entries"),
+            (b"1 2 3", b"1 2 3", 2, None, 1, "left grid: 3 entries do not make rows of 2"),
+            (b"1 2", b"1 x", 2, None, 1, "right grid: line 1: 'x' is no whole number"),
+            (b"", b"", 1, None, 1, "left grid: 0 entries"),
+            (b"1 2", b"1 2", 0, None, 1, "width 0"),
+            (b"1 2", b"1 2", 1, 2, 2, "no field 2 of 2"),
+            (b"1 2", b"1 2", 1, -1, 2, "no field -1 of 2"),
+        ]:
+            with self.subTest(left=left, right=right):
+                with self.assertRaisesRegex(Damaged, says):
+                    difference_of(left, right, width, field, fields)
 
 
 if __name__ == "__main__":

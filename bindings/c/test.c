@@ -1,8 +1,12 @@
-/* Calls the library from C: the marked examples M1 to M13, spellings, and what the lent memory holds afterwards. */
+/* Calls the library from C: the marked examples M1 to M13, spellings, comparisons of grids, and what the lent memory holds afterwards. */
+#ifndef _DEFAULT_SOURCE
+#define _DEFAULT_SOURCE /* for mmap of memory without a file */
+#endif
 #include "cellang.h"
 
 #include <stdio.h>
 #include <string.h>
+#include <sys/mman.h>
 
 #define S "1 dimensions of 0..1 "
 #define MOST_CELLS 8
@@ -219,12 +223,63 @@ static void name_list(void) {
     expect(all_bytes(names + told, sizeof names - sizeof expected, 0), "zero behind the names");
 }
 
+#define MOST_LISTED 3
+
+/* Compares two grids in a room of nines, of which `written` numbers are to be as in `listed`. */
+static void expect_compare(const char *what, const int32_t *left, size_t left_length, const int32_t *right,
+                           size_t right_length, size_t k, size_t room_length, uint32_t number, uint32_t total,
+                           const int32_t *listed, size_t written) {
+    int32_t room[3 * MOST_LISTED + 1];
+    uint32_t reply[CELLANG_COMPARISON_LENGTH];
+    uint32_t given;
+    size_t i;
+    for (i = 0; i < 3 * MOST_LISTED + 1; i++) {
+        room[i] = 9;
+    }
+    given = cellang_compare(left, left_length, right, right_length, k, room, room_length, reply, CELLANG_COMPARISON_LENGTH);
+    expect(given == number, what);
+    expect(reply[CELLANG_COMPARISON_NUMBER] == number && reply[CELLANG_COMPARISON_TOTAL] == total, what);
+    for (i = 0; i < 3 * MOST_LISTED + 1; i++) {
+        expect(room[i] == (i < written ? listed[i] : 9), what);
+    }
+}
+
+static void comparisons(void) {
+    const int32_t a[] = {1, 2, 3}, b[] = {1, 5, 4}, edges[] = {INT32_MIN, INT32_MAX}, turned[] = {INT32_MAX, INT32_MIN};
+    const int32_t a_b[] = {1, 2, 5, 2, 3, 4}, b_a[] = {1, 5, 2, 2, 4, 3};
+    const int32_t extremes[] = {0, INT32_MIN, INT32_MAX, 1, INT32_MAX, INT32_MIN};
+    const size_t too_many = (size_t)CELLANG_MOST_COMPARED + 1;
+    uint32_t reply[2] = {UNTOUCHED, UNTOUCHED};
+    int32_t room[3];
+    void *far;
+    expect_compare("equal grids", a, 3, a, 3, 1, 3, CELLANG_DONE, 0, NULL, 0);
+    expect_compare("the total for k = 0", a, 3, b, 3, 0, 0, CELLANG_DONE, 2, NULL, 0);
+    expect_compare("the first difference", a, 3, b, 3, 1, 3, CELLANG_DONE, 2, a_b, 3);
+    expect_compare("the remaining room stays", a, 3, b, 3, 3, 9, CELLANG_DONE, 2, a_b, 6);
+    expect_compare("swapped grids", b, 3, a, 3, 3, 9, CELLANG_DONE, 2, b_a, 6);
+    expect_compare("least and greatest values", edges, 2, turned, 2, 2, 6, CELLANG_DONE, 2, extremes, 6);
+    expect_compare("empty grids", NULL, 0, NULL, 0, 1, 3, CELLANG_DONE, 0, NULL, 0);
+    expect_compare("unlike lengths", a, 3, b, 2, 1, 3, CELLANG_LENT_LENGTH, 0, NULL, 0);
+    expect_compare("a room too short", a, 3, b, 3, 1, 2, CELLANG_LENT_LENGTH, 0, NULL, 0);
+    expect_compare("a room too long", a, 3, b, 3, 1, 6, CELLANG_LENT_LENGTH, 0, NULL, 0);
+    expect_compare("3k out of 64 bits", a, 3, b, 3, (size_t)0xAAAAAAAAAAAAAAAB, 1, CELLANG_LENT_LENGTH, 0, NULL, 0);
+    expect(cellang_compare(a, 3, b, 3, 1, room, 3, reply, 1) == CELLANG_DONE && reply[0] == 0 && reply[1] == UNTOUCHED,
+           "one entry of a comparison is told");
+    /* memory that cannot be read: grids that are too long are refused by their length */
+    far = mmap(NULL, too_many * sizeof(int32_t), PROT_NONE, MAP_PRIVATE | MAP_ANONYMOUS | MAP_NORESERVE, -1, 0);
+    expect(far != MAP_FAILED, "memory for grids that are too long");
+    expect_compare("too many entries", (const int32_t *)far, too_many, (const int32_t *)far, too_many, 1, 3,
+                   CELLANG_LENT_LENGTH, 0, NULL, 0);
+    munmap(far, too_many * sizeof(int32_t));
+}
+
 int main(void) {
     marked_examples();
     spellings();
     another_list();
     lengths();
     name_list();
+    comparisons();
     printf("%d passed, %d failed\n", passed, failed);
     return failed != 0;
 }

@@ -2,6 +2,7 @@
 //! full or quiet, and makes test cases with their replies.
 
 pub mod case;
+pub mod compare;
 pub mod damage;
 pub mod generate;
 pub mod interpret;
@@ -10,6 +11,7 @@ pub mod lex;
 pub mod limits;
 pub mod names;
 pub mod open;
+pub mod pairs;
 pub mod parse;
 pub mod random;
 pub mod runs;

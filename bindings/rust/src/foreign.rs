@@ -14,6 +14,9 @@ pub const IN_SOURCE: u32 = 1;
 /// The spelling stands in the built-in list.
 pub const IN_LIST: u32 = 2;
 
+/// How many entries tell a comparison: number and total.
+pub const COMPARISON: usize = 2;
+
 /// A function that runs a source.
 pub type RunCall = unsafe extern "C" fn(
     source: *const u8,
@@ -96,6 +99,18 @@ extern "C" {
         steps: i64,
         report: *mut u64,
         report_length: usize,
+    ) -> u32;
+
+    pub fn cellang_compare(
+        left: *const i32,
+        left_length: usize,
+        right: *const i32,
+        right_length: usize,
+        k: usize,
+        room: *mut i32,
+        room_length: usize,
+        reply: *mut u32,
+        reply_length: usize,
     ) -> u32;
 }
 

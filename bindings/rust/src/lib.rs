@@ -1,6 +1,6 @@
 //! Checks sources written in Cellang, a small language for cellular automata,
-//! and runs them on grids, by a library that is proved to do what the rules
-//! say.
+//! runs them on grids, and compares grids, by a library that is proved to do
+//! what the rules say.
 //!
 //! ```
 //! use cellang::{check, run, Cell, Fault, FaultKind, Mode, Place, Rooms, Stop};
@@ -46,12 +46,14 @@
 #![warn(missing_docs)]
 
 mod calls;
+mod comparing;
 mod foreign;
 mod names;
 mod replies;
 mod rooms;
 
 pub use calls::{check, check_in, run, run_in, Lent, Mode, BUILT_IN};
+pub use comparing::{compare, compare_flat, Difference, NotCompared};
 pub use names::{Kind, Name, Names};
 pub use replies::{
     Cell, Done, Entry, Fault, FaultKind, Objection, Outcome, Place, Reason, Refusal, Stop,

@@ -14,7 +14,8 @@ pub struct Place(pub u32);
 pub struct Cell(pub u32);
 
 /// The number of an entry of a grid, from 0: a field of a cell.
-#[derive(Clone, Copy, PartialEq, Eq, PartialOrd, Ord, Hash, Debug)]
+#[repr(transparent)]
+#[derive(Clone, Copy, PartialEq, Eq, PartialOrd, Ord, Hash, Debug, Default)]
 pub struct Entry(pub u32);
 
 impl Place {

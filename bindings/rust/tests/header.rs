@@ -1,7 +1,10 @@
 //! The C header names the same replies and kinds.
 
-use cellang::{Entry, FaultKind, Kind, Objection, Place, Reason, BUILT_IN, NAME_WORDS, WORDS};
+use cellang::{
+    Difference, Entry, FaultKind, Kind, NotCompared, Objection, Place, Reason, BUILT_IN, NAME_WORDS, WORDS,
+};
 use std::fmt::Debug;
+use std::mem::size_of;
 
 const HEADER: &str = include_str!("../../../include/cellang.h");
 
@@ -103,4 +106,11 @@ fn kinds_and_lengths() {
     assert!(HEADER.lines().any(|line| line == list));
     let length = named("CELLANG_BUILT_IN_LENGTH");
     assert_eq!(length, Some(BUILT_IN.len() as u32));
+}
+
+#[test]
+fn comparisons() {
+    assert_eq!(named("CELLANG_LENT_LENGTH"), Some(NotCompared.number()));
+    let numbers = size_of::<Difference>() / size_of::<i32>();
+    assert_eq!(named("CELLANG_DIFFERENCE_LENGTH"), Some(numbers as u32));
 }

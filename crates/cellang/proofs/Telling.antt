@@ -1,7 +1,7 @@
 -- What the calls tell.
 use mathlib.Core.Path.{_≡_, ap, _∙_, subst}
 use mathlib.Core.Bool.{Bool}
-use mathlib.Core.List.{List, _∷_}
+use mathlib.Core.List.{List, [], _∷_}
 use Prim.Native.Nat.{ℕ}
 use lib.IntN.{ℤ}
 use mir.Syntax.{w64}
@@ -17,7 +17,9 @@ use Rattle.iteration.specs.declared.Report.{Report}
 use Rattle.runner.specs.Sourcewise.{RunLeaves}
 use Rattle.runner.proofs.RunLaws.{left-report, read-times}
 use Rattle.entries.specs.Over.{over}
-use Rattle.cellang.specs.Told.{reply-entries, TellsCheck, report-entries, TellsRun}
+use Rattle.comparison.specs.declared.Comparison.{Comparison}
+use Rattle.comparison.specs.Contracts.Comparing.{Compares}
+use Rattle.cellang.specs.Told.{reply-entries, TellsCheck, report-entries, TellsRun, comparison-entries, TellsComparison}
 
 -- ---- a check
 
@@ -43,4 +45,15 @@ tells-run {counting} {source} {list} {sizes} {m} {m′} {start} {steps} {entries
       told = e ∙ ap (λ (l : List ℕ). over (said .number ∷ said .place ∷ said .cell ∷ said .steps ∷ said .count ∷ l) entries) p
           ∙ ap (λ (x : report.Report). over (report-entries source x) entries) (left-report k);
       memory = ap (λ x. x .memory) (k .is);
+    }
+
+-- ---- a comparison
+
+pub tells-comparison : {left right : List ℤ} {k : ℕ} {room : List ℤ} {reply : List ℕ} {said : Comparison} {room′ : List ℤ} {reply′ : List ℕ} → Compares left right k room said room′ → reply′ ≡ over (comparison-entries said) reply
+    → TellsComparison left right k room reply (said .number) room′ reply′
+tells-comparison {reply = reply} h e =
+    record {
+      number = ap (λ (c : Comparison). c .number) (h .answer);
+      entries = e ∙ ap (λ (c : Comparison). over (comparison-entries c) reply) (h .answer);
+      room-is = h .room-is;
     }

@@ -1,8 +1,9 @@
 -- What the calls tell: the number that is given back, every entry of the slice for a call's numbers, and the rest of the memory that is lent.
 use mathlib.Core.Path.{_≡_}
 use mathlib.Core.Bool.{Bool}
-use mathlib.Core.List.{List, _∷_}
+use mathlib.Core.List.{List, [], _∷_}
 use Prim.Native.Nat.{ℕ}
+use lib.IntN.{ℤ}
 use Rattle.spelling.specs.Spelling.{part-at, part-entries}
 use Rattle.grammar.specs.Complaint.{Complaint}
 use Rattle.grammar.specs.Checking.{check}
@@ -10,6 +11,8 @@ use Rattle.stepper.specs.Report.{Counting, Report}
 use Rattle.services.specs.Calls.{flat-names, Memory, Lent, run-report, run-left}
 use Rattle.checker.specs.Promises.{Checks}
 use Rattle.entries.specs.Over.{over}
+use Rattle.comparison.specs.declared.Comparison.{Comparison}
+use Rattle.comparison.specs.Differences.{compared, compared-room}
 
 -- ---- a check
 
@@ -33,3 +36,14 @@ pub record TellsRun (counting : Counting) (l : Lent ℕ) (entries : List ℕ) (r
   pub number : r ≡ run-report flat-names counting l .number
   pub told : entries′ ≡ over (report-entries (l .source) (run-report flat-names counting l)) entries
   pub memory : m ≡ run-left flat-names counting l .memory
+
+-- ---- a comparison
+
+-- the entries that tell a comparison
+abbrev pub comparison-entries : Comparison → List ℕ
+comparison-entries c = c .number ∷ c .total ∷ []
+
+pub record TellsComparison (left right : List ℤ) (k : ℕ) (room : List ℤ) (reply : List ℕ) (r : ℕ) (room′ : List ℤ) (reply′ : List ℕ) : Type 0 where
+  pub number : r ≡ compared left right k room .number
+  pub entries : reply′ ≡ over (comparison-entries (compared left right k room)) reply
+  pub room-is : room′ ≡ compared-room left right k room

@@ -1,4 +1,5 @@
-// Rules in Cellang, checked and run: with the names of a source as a row of records, and for programs in other languages.
+// Rules in Cellang, checked and run: with the names of a source as a row of records, and for programs in other languages. And two grids
+// compared.
 
 mod checking;
 mod exports;
@@ -6,7 +7,10 @@ mod rows;
 mod running;
 
 pub use checking::check;
+pub use comparison::Comparison;
+pub use comparison::compare;
 pub use exports::cellang_check;
+pub use exports::cellang_compare;
 pub use exports::cellang_run_full;
 pub use exports::cellang_run_quiet;
 pub use records::Name;

@@ -16,12 +16,18 @@ const MANY: u8 = 2;
 
 const FILE: u8 = 3;
 
+// What was read of a grid: so many entries, or it cannot be taken.
+pub enum Grid {
+    Taken(usize),
+    Refused,
+}
+
 // A grid as far as it is read: the entries, the number that is being read, the line it stands in, and why the grid cannot be taken.
-pub struct Filling {
-    pub count: usize,
-    pub number: Number,
-    pub line: u64,
-    pub fault: u8,
+struct Filling {
+    count: usize,
+    number: Number,
+    line: u64,
+    fault: u8,
 }
 
 // What a part of a file leaves: the grid as far as it is read, and whether there may be more.
@@ -116,11 +122,11 @@ fn take_part(text: &[u8], grid: &mut [i32], f: Filling) -> Filling {
 }
 
 // Reads a part of a file.
-fn read_part(file: i32, grid: &mut [i32], f: Filling) -> Part {
+fn read_part(file: i32, name: &[u8], grid: &mut [i32], f: Filling) -> Part {
     let mut buffer = io::buffer();
     let got = libc::read(file, &mut buffer);
     if got < 0 {
-        os::fail(b"GRID");
+        os::fail(name);
         return Part {
             filling: faulty(f, FILE),
             more: false,
@@ -136,7 +142,7 @@ fn read_part(file: i32, grid: &mut [i32], f: Filling) -> Part {
 
 // Reads the parts of a file. A proved loop has to end, and nothing says that a file does: the turns are counted down from a number that no
 // file uses up.
-fn read_parts(file: i32, grid: &mut [i32]) -> Filling {
+fn read_parts(file: i32, name: &[u8], grid: &mut [i32]) -> Filling {
     let mut part = Part {
         filling: Filling {
             count: 0,
@@ -149,15 +155,15 @@ fn read_parts(file: i32, grid: &mut [i32]) -> Filling {
     let mut turns = u64::MAX;
     while turns > 0 && part.more {
         let f = part.filling;
-        part = read_part(file, grid, f);
+        part = read_part(file, name, grid, f);
         turns -= 1;
     }
     part.filling
 }
 
-// Reads the grid that the sixth argument names. If its file cannot be opened or read, that is said.
-pub fn read_grid(grid: &mut [i32]) -> Filling {
-    let file = open_input(6);
+// Reads the grid of the file that an argument names. If the file cannot be opened or read, that is said.
+fn read_grid(i: usize, name: &[u8], grid: &mut [i32]) -> Filling {
+    let file = open_input(i);
     if file < 0 {
         return Filling {
             count: 0,
@@ -166,7 +172,7 @@ pub fn read_grid(grid: &mut [i32]) -> Filling {
             fault: FILE,
         };
     }
-    let f = read_parts(file, grid);
+    let f = read_parts(file, name, grid);
     libc::close(file);
     if f.fault != NONE {
         return f;
@@ -174,17 +180,35 @@ pub fn read_grid(grid: &mut [i32]) -> Filling {
     ended(f, grid)
 }
 
+// Says what is wrong in a line of a grid.
+fn complain_line(name: &[u8], line: u64, wrong: &[u8]) {
+    complain(name);
+    complain(b", line ");
+    complain_number(line);
+    complain(wrong);
+}
+
 // Whether a grid cannot be taken. If an entry is the reason, that is said.
-pub fn refused(f: Filling) -> bool {
+fn refused(f: Filling, name: &[u8]) -> bool {
     if f.fault == NUMBER {
-        complain(b"run_rule: GRID, line ");
-        complain_number(f.line);
-        complain(b": an entry is not a whole number from -2147483648 to 2147483647\n");
+        complain_line(
+            name,
+            f.line,
+            b": an entry is not a whole number from -2147483648 to 2147483647\n",
+        );
     }
     if f.fault == MANY {
-        complain(b"run_rule: GRID, line ");
-        complain_number(f.line);
-        complain(b": more than 786432 entries\n");
+        complain_line(name, f.line, b": more than 786432 entries\n");
     }
     f.fault != NONE
+}
+
+// Puts the entries of the grid that an argument names at the start of a row; how many there are. If it cannot be taken, that is said, with
+// the argument's name.
+pub fn grid_argument(i: usize, name: &[u8], grid: &mut [i32]) -> Grid {
+    let f = read_grid(i, name, grid);
+    if refused(f, name) {
+        return Grid::Refused;
+    }
+    Grid::Taken(f.count)
 }

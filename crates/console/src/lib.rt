@@ -1,4 +1,4 @@
-// What the program run_rule reads and says: arguments, files of rules and grids, places, and replies in words.
+// What the programs run_rule and compare_grids read and say: arguments, files of rules and grids, places, and replies in words.
 
 pub mod arguments;
 pub mod grids;

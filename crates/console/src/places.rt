@@ -81,7 +81,8 @@ fn coordinate(cell: u32, sizes: &[u32], dimension: usize) -> u32 {
     at
 }
 
-fn wide(n: u32) -> u64 {
+// A number in 64 bits.
+pub fn wide(n: u32) -> u64 {
     n as u64
 }
 
@@ -102,4 +103,12 @@ pub fn say_cell(cell: u32, sizes: &[u32]) {
         i += 1;
     }
     say(b"]");
+}
+
+// Writes the cell and the field of an entry.
+pub fn say_field(entry: u32, sizes: &[u32], fields: u32) {
+    say(b", cell ");
+    say_cell(quotient(entry, fields), sizes);
+    say(b", field ");
+    say_number(wide(remainder(entry, fields)));
 }

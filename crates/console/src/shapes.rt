@@ -76,16 +76,17 @@ fn read_sizes(text: &[u8], sizes: &mut [u32]) -> usize {
     if last.good { last.dims } else { 0 }
 }
 
-// Puts the sizes of the shape that the second argument names at the start of a row; how many there are. If it names no shape, that is said,
-// and there are 0.
-pub fn shape_argument(sizes: &mut [u32]) -> usize
+// Puts the sizes of the shape that an argument names at the start of a row; how many there are. If it names no shape, that is said, with
+// the argument's name, and there are 0.
+pub fn shape_argument(i: usize, name: &[u8], sizes: &mut [u32]) -> usize
     ensures { λ r. ⌜ Kept r (now (sizes .exit)) ⌝ }
 {
     let mut text = [0u8; 64];
-    let n = argument(2, &mut text);
+    let n = argument(i, &mut text);
     let dims = read_sizes(&text[..n], sizes);
     if dims == 0 {
-        complain(b"run_rule: SHAPE is not one to three sizes joined by x, as 8x8 or 5 or 2x3x4\n");
+        complain(name);
+        complain(b" is not one to three sizes joined by x, as 8x8 or 5 or 2x3x4\n");
     }
     of_words(dims, sizes)
 }

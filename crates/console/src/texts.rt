@@ -55,7 +55,7 @@ pub fn argument(i: usize, buffer: &mut [u8]) -> usize
 // Whether a name is there. If not, that is said.
 fn is_named(length: usize) -> bool {
     if length == 0 {
-        complain(b"run_rule: the name of a file is empty or too long\n");
+        complain(b"the name of a file is empty or too long\n");
     }
     length > 0
 }

@@ -56,3 +56,11 @@ pub fn put_report(
     put_number(entries, 6, start as u64);
     put_number(entries, 7, len as u64);
 }
+
+// Tells a comparison in the first entries.
+pub fn put_comparison(entries: &mut [u32], number: u32, total: u32)
+    ensures { λ _. ⌜ now (entries .exit) ≡ over (number ∷ total ∷ []) (now (entries .entry)) ⌝ }
+{
+    put_word(entries, 0, number);
+    put_word(entries, 1, total);
+}

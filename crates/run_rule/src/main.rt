@@ -12,6 +12,7 @@ use console::arguments;
 use console::arguments::Order;
 use console::arguments::Orders;
 use console::grids;
+use console::grids::Grid;
 use console::rooms;
 use console::shapes;
 use console::texts;
@@ -74,11 +75,10 @@ fn run_and_tell(
 // Reads the grid, and runs a source on it.
 fn run_on_grid(source: &[u8], sizes: &[u32], cells: usize, order: Order) {
     let mut grid = rooms::numbers_room();
-    let filling = grids::read_grid(&mut grid);
-    if grids::refused(filling) {
+    let Grid::Taken(count) = grids::grid_argument(6, b"run_rule: GRID", &mut grid) else {
         return;
-    }
-    let entries = rooms::of_numbers(filling.count, &grid);
+    };
+    let entries = rooms::of_numbers(count, &grid);
     let mut scratch = rooms::numbers_room();
     let mut marks = rooms::bytes_room();
     run_and_tell(
@@ -116,7 +116,7 @@ fn main() {
         return;
     }
     let mut sizes = [0u32; 3];
-    let dims = shapes::shape_argument(&mut sizes);
+    let dims = shapes::shape_argument(2, b"run_rule: SHAPE", &mut sizes);
     if dims > 0 {
         run_in_shape(&sizes[..dims]);
     }

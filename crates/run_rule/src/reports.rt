@@ -1,17 +1,13 @@
 // The report of a run in words.
 use console::places::position_of;
-use console::places::quotient;
-use console::places::remainder;
 use console::places::say_cell;
+use console::places::say_field;
+use console::places::wide;
 use console::replies::say_meaning;
 use console::shapes::fields_of;
 use console::texts::say;
 use console::texts::say_number;
 use iteration::Report;
-
-fn wide(n: u32) -> u64 {
-    n as u64
-}
 
 // Whether a reply has a place in the source.
 fn has_place(number: u32) -> bool {
@@ -31,14 +27,6 @@ fn say_place(source: &[u8], place: u32) {
     say(b", column ");
     say_number(p.column);
     say(b"\n");
-}
-
-// Writes the cell and the field of an entry.
-fn say_field(entry: u32, sizes: &[u32], fields: u32) {
-    say(b", cell ");
-    say_cell(quotient(entry, fields), sizes);
-    say(b", field ");
-    say_number(wide(remainder(entry, fields)));
 }
 
 // Writes an entry of the grid: its number, its cell and its field.

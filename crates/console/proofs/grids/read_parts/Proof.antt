@@ -6,10 +6,10 @@ use Rattle.console.proofs.grids.read_parts.Statement.{statement}
 use Rattle.console.proofs.grids.read_parts.Tie as tie
 
 abbrev Inv-loop : tie.InvT-loop
-Inv-loop file grid₀ part₀ turns₀ grid part turns = length grid ≡ length grid₀
+Inv-loop file name grid₀ part₀ turns₀ grid part turns = length grid ≡ length grid₀
 
 abbrev μ-loop : tie.MeasureT-loop
-μ-loop file grid₀ part₀ turns₀ grid part turns = turns
+μ-loop file name grid₀ part₀ turns₀ grid part turns = turns
 
 before-requires : tie.Need-before-requires Inv-loop μ-loop
 before-requires c κs = search needs

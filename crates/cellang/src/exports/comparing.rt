@@ -1,0 +1,20 @@
+// Comparing two grids.
+ghost use Rattle.cellang.specs.Told.{TellsComparison};
+use comparison::compare;
+use entries::put_comparison;
+
+// Lists the entries in which two grids differ, as `compare` does, and gives the reply's number. `reply` is told number and total.
+#[no_mangle]
+pub extern "C" fn cellang_compare(
+    left: &[i32],
+    right: &[i32],
+    k: usize,
+    room: &mut [i32],
+    reply: &mut [u32],
+) -> u32
+    ensures { λ r. ⌜ TellsComparison (now (left .entry)) (now (right .entry)) k (now (room .entry)) (now (reply .entry)) r (now (room .exit)) (now (reply .exit)) ⌝ }
+{
+    let told = compare(left, right, k, room);
+    put_comparison(reply, told.number, told.total);
+    told.number
+}
