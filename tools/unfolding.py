@@ -15,7 +15,7 @@ DEFINITIONS = [
     ("token", ["Bytes", "Kind", "Lexeme", "Scanning"]),
     ("names", ["Names"]),
     ("grammar", ["Complaint", "Reader", "Constants", "Expressions", "Statements", "Source", "Checking"]),
-    ("semantics", ["Operators", "Evaluation", "Written"]),
+    ("semantics", ["Operators", "Evaluation", "Written", "Places"]),
     ("stepper", ["Reach", "Admission", "Report"]),
     ("services", ["Services"]),
 ]

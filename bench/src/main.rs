@@ -32,6 +32,9 @@ n := [-1,-1] + [-1,0] + [-1,1] + [0,-1] + [0,1] + [1,-1] + [1,0] + [1,1]
 cell := 1 - cell when n >= 0
 ";
 
+/// Reads two cells that lie far apart, so that its places are fewer than the box of a hundred.
+const CORNER: &str = "2 dimensions of 0..1 cell := ([0,9] + [9,0]) = 2";
+
 type Step = fn(&[i32], &mut [i32], usize);
 
 struct Rule {
@@ -220,6 +223,15 @@ fn step_times(times: usize, source: &str, grid: &[i32], quiet: i64, full: i64) -
     ]
 }
 
+/// How many cells one change opens under the rule that reads two cells far apart.
+fn opened_by_one_change() -> u64 {
+    let mut grid = vec![0; CELLS];
+    grid[500 * SIDE + 500] = 1;
+    let mut rooms = Rooms::new(CELLS, 1);
+    let done = proved::run(Mode::Quiet, CORNER, &SIZES, &mut grid, &mut rooms, 2);
+    done.count - CELLS as u64
+}
+
 fn quiet(times: usize) {
     let mut glider = vec![0; CELLS];
     for (row, column) in [(0, 1), (1, 2), (2, 0), (2, 1), (2, 2)] {
@@ -233,6 +245,7 @@ fn quiet(times: usize) {
         ("Life, one glider", LIFE, &glider, 1_001),
         ("Life, half filled, 20 steps", LIFE, &random, 21),
         ("every cell changes, 10 steps", FLIP, &random, 11),
+        ("[0,9] and [9,0], half filled", CORNER, &random, 21),
     ];
     for (name, source, grid, many) in table {
         let few = if many == 1_001 { 11 } else { many };
@@ -250,6 +263,7 @@ fn quiet(times: usize) {
             f / q
         );
     }
+    println!("a rule that reads [0,9] and [9,0]: one change opens {} cells", opened_by_one_change());
 }
 
 /// The seconds of a run of Life on a square grid of some side, for the three programs; so many runs that they evaluate as many cells as on the

@@ -13,6 +13,7 @@ pub mod names;
 pub mod open;
 pub mod pairs;
 pub mod parse;
+pub mod places;
 pub mod random;
 pub mod runs;
 pub mod soup;

@@ -1,6 +1,7 @@
 //! The program: `reference SUBCOMMAND ...`; see `USAGE`.
 
 use reference::case::{check_answer, check_line, put_check, put_run, run_case, run_lines};
+use reference::places::places;
 use reference::{check, json, vectors, Report};
 use std::io::{self, BufWriter, Read, Write};
 use std::path::Path;
@@ -232,12 +233,27 @@ fn count_replies(seed: u64, count: usize) -> io::Result<ExitCode> {
         checks[check(&source).reply.number as usize] += 1;
     }
     let mut quieter = 0;
+    let mut shorter = 0;
+    let mut many = 0;
     for case in vectors::runs(seed, count / 10, false) {
         let full = run_case(&case, false).report;
         let quiet = run_case(&case, true).report;
         runs[full.number as usize] += 1;
         if quiet.count < full.count {
             quieter += 1;
+        }
+        if full.number == 0 || full.number >= 30 {
+            let Some(program) = check(&case.source).program else {
+                continue;
+            };
+            let widths = program.bounds().into_iter();
+            let vectors: i64 = widths
+                .map(|bound| i64::from(bound.1) - i64::from(bound.0) + 1)
+                .product();
+            match places(&program) {
+                Some(list) => shorter += usize::from((list.len() as i64) < vectors),
+                None => many += 1,
+            }
         }
     }
     println!("number checks runs");
@@ -247,6 +263,8 @@ fn count_replies(seed: u64, count: usize) -> io::Result<ExitCode> {
         }
     }
     println!("runs whose quiet count is less than the full one: {quieter}");
+    println!("runs that begin, with fewer places than the box: {shorter}");
+    println!("runs that begin, with more than 256 places: {many}");
     let wanted = [0]
         .into_iter()
         .chain(2..=9)

@@ -3,18 +3,46 @@
 //! cells are counted.
 
 use crate::interpret::{admit, step, Lent, Report};
+use crate::places::{reach, Reach};
 
 /// For each cell, whether some cell in its reach is marked as changed.
-///
-/// The reach is a box, so that it is enough to go through the dimensions one
-/// after the other.
-pub fn open_cells(shape: &[u32], reach: &[(i32, i32)], changed: &[bool]) -> Vec<bool> {
+pub fn open_cells(shape: &[u32], reach: &Reach, changed: &[bool]) -> Vec<bool> {
+    match reach {
+        Reach::List(list) => open_in_list(shape, list, changed),
+        Reach::Box(bounds) => open_in_box(shape, bounds, changed),
+    }
+}
+
+/// The cell at an index vector from a cell, wrapped at the edges.
+fn cell_at(shape: &[u32], cell: usize, vector: &[i32]) -> usize {
+    let (mut rest, mut stride, mut at) = (cell, 1, 0);
+    for (&size, &offset) in shape.iter().zip(vector).rev() {
+        let own = (rest % size as usize) as i64;
+        rest /= size as usize;
+        at += (own + i64::from(offset)).rem_euclid(i64::from(size)) as usize * stride;
+        stride *= size as usize;
+    }
+    at
+}
+
+/// By the listed index vectors.
+fn open_in_list(shape: &[u32], list: &[Vec<i32>], changed: &[bool]) -> Vec<bool> {
+    (0..changed.len())
+        .map(|cell| {
+            list.iter()
+                .any(|vector| changed[cell_at(shape, cell, vector)])
+        })
+        .collect()
+}
+
+/// By a box: it is enough to go through the dimensions one after the other.
+fn open_in_box(shape: &[u32], bounds: &[(i32, i32)], changed: &[bool]) -> Vec<bool> {
     let mut marked = changed.to_vec();
     let mut stride = marked.len();
     for (dimension, &size) in shape.iter().enumerate() {
         let size = size as usize;
         stride /= size;
-        let (low, high) = reach[dimension];
+        let (low, high) = bounds[dimension];
         let width = (i64::from(high) - i64::from(low) + 1).min(size as i64) as usize;
         let first = i64::from(low).rem_euclid(size as i64) as usize;
         let before = marked.clone();
@@ -42,7 +70,7 @@ pub fn run_quiet(lent: &Lent, grid: &mut [i32], scratch: &mut [i32], marks: &mut
         Ok(program) => program,
         Err(report) => return report,
     };
-    let reach = program.reach();
+    let reach = reach(&program);
     let fields = program.fields.len();
     let mut open = vec![true; marks.len()];
     let mut report = Report::default();

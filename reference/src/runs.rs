@@ -163,10 +163,118 @@ fn disturb(random: &mut Random, case: &mut RunCase) {
     }
 }
 
+/// An element of a relative index: a number, or the variable of an open loop.
+fn offset(random: &mut Random, open: usize, far: i64) -> String {
+    if open > 0 && random.chance(60) {
+        return "ijk"[random.below(open)..][..1].to_string();
+    }
+    if random.chance(40) {
+        return "0".to_string();
+    }
+    random.between(-far, far).to_string()
+}
+
+/// One relative index read, somewhere.
+fn reading(random: &mut Random, dimensions: usize, open: usize, far: i64) -> String {
+    let index: Vec<String> = (0..dimensions).map(|_| offset(random, open, far)).collect();
+    let index = format!("[{}]", index.join(","));
+    match random.below(12) {
+        0 => format!("if 0 then s := s + {index} end "),
+        1 => format!("s := s when {index} > 9 "),
+        2 => format!("s := s + none[{index} - {index}] "),
+        3 => format!("if {index} = 7 then s := 0 end "),
+        4 => format!("if s > 99 then elsif {index} then s := s + 1 else s := s + {index} end "),
+        _ => format!("s := s + {index} "),
+    }
+}
+
+/// A rule that reads some places, with the sizes that it asks for. About one
+/// in eight has close to 256 places, or more.
+fn reader(random: &mut Random) -> (String, Vec<u32>) {
+    let dimensions = 1 + random.below(3);
+    let many = random.chance(12);
+    let (far, wide) = match (many, dimensions) {
+        (true, 1) => (128, 128),
+        (true, 2) => (9, 8),
+        (true, _) => (4, 3),
+        (false, 1) => (6, 4),
+        (false, _) => (3, 2),
+    };
+    let loops = if many { dimensions } else { random.below(4) };
+    let mut text = format!("{dimensions} dimensions of 0..3 const none[] for 1 := 0 s := 0 ");
+    let mut open = 0;
+    for name in ["i", "j", "k"].iter().take(loops) {
+        let low = if many {
+            -wide
+        } else {
+            -random.between(0, wide)
+        };
+        let high = if many {
+            wide - random.between(0, 2).min(wide)
+        } else {
+            random.between(0, wide)
+        };
+        let (low, high) = if random.chance(10) {
+            (1, wide)
+        } else {
+            (low, high.max(low))
+        };
+        text += &format!("forall {name} : {low}..{high} ");
+        open += 1;
+        if random.chance(50) {
+            text += &reading(random, dimensions, open, far);
+        }
+        if random.chance(5) {
+            text += "exit ";
+        }
+    }
+    if many {
+        let all = &["i", "j", "k"][..dimensions];
+        text += &format!("s := s + [{}] ", all.join(","));
+    }
+    while open > 0 {
+        text += &reading(random, dimensions, open, far);
+        text += "end ";
+        open -= 1;
+    }
+    while random.chance(60) {
+        text += &reading(random, dimensions, 0, far);
+    }
+    text += match random.below(3) {
+        0 => "cell := s % 4",
+        1 => "cell := 1 when s = 1 := 0 otherwise",
+        _ => "cell := cell when s > 2 := s otherwise",
+    };
+    let shape = (0..dimensions)
+        .map(|_| far as u32 + random.below(if many { 2 } else { 4 }) as u32)
+        .collect();
+    (text, shape)
+}
+
+/// A grid in which few cells are not 0.
+fn quiet_grid(random: &mut Random, cells: usize) -> Vec<i32> {
+    let share = [3, 10, 50][random.below(3)];
+    (0..cells)
+        .map(|_| {
+            if random.chance(share) {
+                random.between(1, 3) as i32
+            } else {
+                0
+            }
+        })
+        .collect()
+}
+
 /// A run. In `small` ones the grids have at most 24 entries, and there are at
 /// most 6 steps.
 pub fn any(random: &mut Random, small: bool, most: usize) -> RunCase {
     let most = if small { 24 } else { most };
+    if !small && random.chance(25) {
+        let (text, shape) = reader(random);
+        let grid = quiet_grid(random, cells_of(&shape));
+        let (start, steps) = (random.between(0, 9), random.between(1, 5));
+        return RunCase::new(text.into_bytes(), &shape, grid, start, steps);
+    }
     loop {
         let source = if random.chance(30) {
             let number = random.between(1, 3).to_string();

@@ -102,14 +102,14 @@ pub struct Program {
 }
 
 impl Program {
-    /// Lowest and highest index written in each dimension, 0 included.
-    pub fn reach(&self) -> Vec<(i32, i32)> {
-        let mut reach = vec![(0, 0); self.dimensions];
+    /// The box: the lowest and highest index written in each dimension, 0 included.
+    pub fn bounds(&self) -> Vec<(i32, i32)> {
+        let mut bounds = vec![(0, 0); self.dimensions];
         for written in &self.written {
-            let bounds = &mut reach[written.dimension];
-            bounds.0 = bounds.0.min(written.low);
-            bounds.1 = bounds.1.max(written.high);
+            let bound = &mut bounds[written.dimension];
+            bound.0 = bound.0.min(written.low);
+            bound.1 = bound.1.max(written.high);
         }
-        reach
+        bounds
     }
 }

@@ -456,5 +456,131 @@ pub fn runs() -> Vec<RunCase> {
         case.marks = marks;
         row.push(case);
     }
+    row.extend(places());
+    row
+}
+
+/// One cell that changes in the first step, so that the second opens as many
+/// cells as have it in their reach.
+fn opening(rest: &str, shape: &[u32]) -> RunCase {
+    let cells: u32 = shape.iter().product();
+    let mut grid = vec![0; cells as usize];
+    grid[0] = 1;
+    let text = format!("{} dimensions of 0..9 {rest}", shape.len());
+    RunCase::new(text.into_bytes(), shape, grid, 0, 3)
+}
+
+/// Lists of places: equal and unequal to the box, both sides of 256, and a
+/// relative index in every position.
+fn places() -> Vec<RunCase> {
+    let mut row = Vec::new();
+    let plane = [
+        "cell := 0",
+        "cell := 0 * [0,1] * [1,0]",
+        "cell := 0 * [0,1] * [0,1]",
+        "forall i : -1..1 cell := 0 * [i,i] end",
+        "forall i : -1..1 forall j : -1..1 cell := 0 * [i,j] end end",
+        "forall i : -1..1 forall j : 0..1 cell := 0 * [0,j] end end",
+        "if 0 then cell := [2,2] end cell := 0",
+        "cell := 0 * [0,1] * [0,-2]",
+        "cell := 0 * [3,0] * [-3,3]",
+        "forall i : -1..1 cell := 0 * [i,0] * [0,i] end",
+        "forall i : 1..2 x := [i,0] end forall i : 3..3 x := [0,i] end cell := 0",
+        "forall i : 1..2 x := [i,0] forall j : 0..1 x := [j,i] + [j,j] end end cell := 0",
+        "forall i : 0..1 exit x := [i,-2] end cell := 0",
+        "cell := 0 when [1,2] >= 0 := [2,1] otherwise",
+        "const a[] for 1 := 0 cell := a[[1,1] - [1,1] + 0 * [-1,-2]]",
+        "if [1,0] > 9 then elsif [0,-1] > 9 then else x := [-2,2] end cell := 0",
+        "cell := 0 * -[1,1] * !([1,-1])",
+        "cell := 0 * [0,0] * cell",
+    ];
+    for rest in plane {
+        row.push(opening(rest, &[3, 3]));
+        row.push(opening(rest, &[4, 7]));
+    }
+    // A size of 1, and an index as large as its dimension.
+    row.push(opening("cell := 0 * [1,1] * [0,1]", &[1, 2]));
+    row.push(opening("cell := 0 * [-1,2]", &[1, 2]));
+    row.push(opening("cell := 0 * [9,0] * [0,9]", &[10, 10]));
+    for rest in [
+        "cell := 0 * [1] * [-4]",
+        "cell := 0 * [2] * [4] * [-3]",
+        "forall i : -2..2 cell := 0 * [i] end",
+        "cell := 0 * [5] * [-5]",
+    ] {
+        row.push(opening(rest, &[5]));
+    }
+    for rest in [
+        "cell := 0 * [1,0,0] * [0,1,0] * [0,0,1]",
+        "forall i : -1..1 cell := 0 * [i,i,i] end",
+        "forall i : -1..1 forall j : 0..1 cell := 0 * [i,j,i] end end",
+        "forall i : 0..1 forall j : 0..1 forall k : -1..0 cell := 0 * [k,j,i] end end end",
+    ] {
+        row.push(opening(rest, &[2, 3, 4]));
+    }
+    // The limit: 256 places and 257, with the own cell among the values and
+    // without it, where the list is the box and where it is not.
+    for range in [
+        "-127..128",
+        "-128..128",
+        "1..255",
+        "1..256",
+        "0..255",
+        "0..256",
+    ] {
+        row.push(opening(
+            &format!("forall i : {range} cell := 0 * [i] end"),
+            &[300],
+        ));
+    }
+    for last in [264, 265] {
+        let text =
+            format!("forall i : 1..150 x := [i] end forall i : 160..{last} x := [i] end cell := 0");
+        row.push(opening(&text, &[300]));
+    }
+    for more in ["x := [-104]", "x := [-103]"] {
+        let fixed = "x := [-100] + [-101] + [-102] + [-103]";
+        let text = format!("forall i : 1..200 x := [i] end forall i : -200..-150 x := [i] end {fixed} {more} cell := 0");
+        row.push(opening(&text, &[500]));
+    }
+    for (first, second) in [
+        ("-7..8", "-7..8"),
+        ("-8..8", "-7..8"),
+        ("1..16", "1..16"),
+        ("1..15", "1..17"),
+    ] {
+        let text = format!("forall i : {first} forall j : {second} cell := 0 * [i,j] end end");
+        row.push(opening(&text, &[20, 18]));
+    }
+    for more in ["[7,7]", "[9,0]"] {
+        let square = "forall i : -7..7 forall j : -7..7 x := [i,j] end end";
+        let line = "forall i : -15..15 x := [8,i] end";
+        row.push(opening(
+            &format!("{square} {line} x := {more} cell := 0"),
+            &[32, 33],
+        ));
+    }
+    for more in ["[3,3,3]", "[0,0,5]"] {
+        let cube = "forall i : -2..3 forall j : -2..3 forall k : -3..3 x := [i,j,k] end end end";
+        let fixed = "x := [4,0,0] + [0,4,0] + [5,0,0] + [0,5,0]";
+        row.push(opening(
+            &format!("{cube} {fixed} + {more} cell := 0"),
+            &[8, 9, 10],
+        ));
+    }
+    for range in ["-3..2", "-3..3"] {
+        let text = format!(
+            "forall i : {range} forall j : {range} forall k : {range} cell := 0 * [i,j,k] end end end"
+        );
+        row.push(opening(&text, &[6, 6, 7]));
+    }
+    // Many indices that come to 256 places, and to 257.
+    for last in [15, 16] {
+        let mut text = String::new();
+        for at in 0..=last {
+            text += &format!("forall i : 0..14 x := [{at},i] end ");
+        }
+        row.push(opening(&(text + "x := [16,15] cell := 0"), &[16, 16]));
+    }
     row
 }

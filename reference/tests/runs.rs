@@ -3,6 +3,7 @@
 use reference::case::{put_run, run_case, RunCase};
 use reference::generate::{program, Wish};
 use reference::open::open_cells;
+use reference::places::{places, Reach};
 use reference::random::Random;
 use reference::text::{any_style, write};
 use reference::{check, json, vectors};
@@ -168,10 +169,46 @@ fn open_cells_by_definition() {
         let cells: u32 = shape.iter().product();
         let changed: Vec<bool> = (0..cells).map(|_| random.chance(15)).collect();
         assert_eq!(
-            open_cells(&shape, &reach, &changed),
+            open_cells(&shape, &Reach::Box(reach.clone()), &changed),
             open_by_definition(&shape, &reach, &changed)
         );
     }
+}
+
+/// How many places a source has, and how many index vectors its box; none: more than 256.
+fn counts(rest: &str) -> (Option<usize>, i64) {
+    let program = check(rest.as_bytes()).program.expect(rest);
+    let bounds = program.bounds();
+    let vectors = bounds
+        .iter()
+        .map(|bound| i64::from(bound.1 - bound.0 + 1))
+        .product();
+    (places(&program).map(|list| list.len()), vectors)
+}
+
+#[test]
+fn places_are_counted() {
+    let plane = |rest: &str| counts(&format!("2 dimensions of 0..9 {rest}"));
+    assert_eq!(plane("cell := 0"), (Some(1), 1));
+    assert_eq!(plane("cell := [0,9] + [9,0]"), (Some(3), 100));
+    assert_eq!(plane("cell := 0 * [0,1] * [0,1]"), (Some(2), 2));
+    assert_eq!(
+        plane("forall i : -1..1 cell := 0 * [i,i] end"),
+        (Some(3), 9)
+    );
+    let both = "forall i : -1..1 forall j : -1..1 cell := 0 * [i,j] end end";
+    assert_eq!(plane(both), (Some(9), 9));
+    let apart = "forall i : -1..1 cell := 0 * [i,0] * [0,i] end";
+    assert_eq!(plane(apart), (Some(5), 9));
+    let unused = "forall i : -1..1 forall j : 0..1 cell := 0 * [0,j] end end";
+    assert_eq!(plane(unused), (Some(2), 2));
+    let again = "forall i : 1..2 cell := [i,0] end forall i : 3..3 cell := [0,i] end";
+    assert_eq!(plane(again), (Some(4), 12));
+    // The own cell is counted: 256 are listed, 257 are not.
+    assert_eq!(plane("forall i : -127..128 cell := [i,i] end").0, Some(256));
+    assert_eq!(plane("forall i : -128..128 cell := [i,i] end").0, None);
+    assert_eq!(plane("forall i : 1..255 cell := [i,i] end").0, Some(256));
+    assert_eq!(plane("forall i : 1..256 cell := [i,i] end").0, None);
 }
 
 #[test]

@@ -5,6 +5,7 @@ use native.Mathlib.Omega.{arith}
 use mathlib.Core.Path.{_≡_, refl, sym, ap, _∙_, subst₂}
 use mathlib.Core.Bool.{Bool, true, false, not, _||_}
 use mathlib.Core.List.{List, [], _∷_}
+use mathlib.Core.Option.{some}
 use lib.ListN.{length, getD, set, replicate}
 use lib.Dec.{eqb, ltb}
 use lib.IntN.{ℤ, pos, negsuc, natAbs}
@@ -19,9 +20,10 @@ use Rattle.automaton.specs.Shape.{Bound}
 use Rattle.program.specs.Syntax.{Range, Program}
 use Rattle.semantics.specs.declared.Rule.{Rule}
 use Rattle.semantics.specs.Stands.{Holds}
-use Rattle.semantics.specs.Written.{Written, written-in}
-use Rattle.stepper.specs.declared.Reach.{Reach}
-use Rattle.stepper.specs.Reach.{below, above, own-only, widen, widened, reach}
+use Rattle.semantics.specs.Written.{Relative, relatives-in, Written, written-of, written-in}
+use Rattle.semantics.specs.Places.{own-place, add-relatives, places}
+use Rattle.stepper.specs.declared.Bounds.{Bounds}
+use Rattle.stepper.specs.Reach.{below, above, own-only, widen, widened, box}
 use Rattle.stepper.specs.Admission.{Request, Refusal, refusal, good-sizes, good-rooms, good-times, too-far, out-of-field, admission}
 use Rattle.stepper.specs.Fitting.{Sized, held-fields, Shaped, bound-at, bounds-of, Near}
 use Rattle.indices.specs.declared.Survey.{Survey}
@@ -112,7 +114,7 @@ none-within sizes (suc n) zero = omega arith
 none-within [] (suc n) (suc k) = none-within [] n k
 none-within (m ∷ sizes) (suc n) (suc k) = none-within sizes n k
 
-near-of : (sizes : List ℕ) (r : Reach) (dims : ℕ) (ws : List Written) → length sizes ≡ dims → too-far sizes ws .number ≡ 0 → bounds-of r dims ≡ widened (replicate dims own-only) ws → Near sizes r
+near-of : (sizes : List ℕ) (r : Bounds) (dims : ℕ) (ws : List Written) → length sizes ≡ dims → too-far sizes ws .number ≡ 0 → bounds-of r dims ≡ widened (replicate dims own-only) ws → Near sizes r
 near-of sizes r dims ws e z b k l =
     let w = widened-within sizes ws (replicate dims own-only) z (none-within sizes dims) k in
     let same : bound-at r k ≡ getD (widened (replicate dims own-only) ws) k own-only = sym (getD-list-of (bound-at r) dims k own-only (omega arith)) ∙ ap (λ (bs : List Bound). getD bs k own-only) b in
@@ -145,21 +147,23 @@ module _ {words : List ℕ} {rule : Rule} {sizes : List ℕ} (grid : List ℤ) {
         steps-is = λ k. absurd (never k);
         times = λ k. absurd (never k);
         reaches = λ k. absurd (never k);
+        lists = λ k. absurd (never k);
         near = λ k. absurd (never k);
       }
 
   module _ (none : n ≡ 0) {s : Survey} (surveyed : Surveyed words rule sizes s) where
-    far-number : (ws : List Written) → Lists words rule ws → s .number ≡ too-far sizes ws .number
-    far-number ws w = ap (λ (x : Refusal). x .number) (surveyed .far ws w)
+    far-number : (rs : List Relative) → Lists words rule rs → s .number ≡ too-far sizes (written-of rs) .number
+    far-number rs w = ap (λ (x : Refusal). x .number) (surveyed .far rs w)
 
     rest-is : (p : Program) → Holds words rule p → admission p (request-of sizes grid scratch marks start steps) ≡ (if not (eqb (too-far sizes (written-in p) .number) 0) then too-far sizes (written-in p) else out-of-field (p .fields) 0 grid)
     rest-is p h = admission-is p (request-of sizes grid scratch marks start steps) ∙ tried-rest (good-sizes p sizes) (good-rooms p (request-of sizes grid scratch marks start steps)) (good-times start steps) (too-far sizes (written-in p)) (out-of-field (p .fields) 0 grid) n (number-is p h) none
 
     pub far-refused : (s .number ≡ 0 → ⊥) → {r : Admitted} → (r .number ≡ s .number) × (r .place ≡ s .place) → Admits words rule sizes grid scratch marks start steps r
+    unfolding written-in
     far-refused z {r} e =
         let never : r .number ≡ 0 → ⊥ = λ k. z (sym (e .0) ∙ k) in
         record {
-          says = λ p h w. (λ i. refusal (e .0 i) (e .1 i)) ∙ surveyed .far (written-in p) w ∙ rest-far _ _ (s .number) (far-number (written-in p) w) z ∙ sym (rest-is p h);
+          says = λ p h w. (λ i. refusal (e .0 i) (e .1 i)) ∙ surveyed .far (relatives-in p) w ∙ rest-far _ _ (s .number) (far-number (relatives-in p) w) z ∙ sym (rest-is p h);
           shaped = λ k. absurd (never k);
           scratch-fits = λ k. absurd (never k);
           marks-fit = λ k. absurd (never k);
@@ -167,20 +171,22 @@ module _ {words : List ℕ} {rule : Rule} {sizes : List ℕ} (grid : List ℤ) {
           steps-is = λ k. absurd (never k);
           times = λ k. absurd (never k);
           reaches = λ k. absurd (never k);
+          lists = λ k. absurd (never k);
           near = λ k. absurd (never k);
         }
 
     pub admitted : s .number ≡ 0 → {f : declared.Refusal} → InFields words rule grid f → Admits words rule sizes grid scratch marks start steps (record { number = f .number; place = f .place; reach = s .reach })
-    unfolding reach
+    unfolding box written-in places
     admitted z {f} fields =
         record {
-          says = λ p h w. fields .says ∙ ap (λ (rs : List Range). out-of-field rs 0 grid) (sym (h .fields)) ∙ rest-out _ _ (s .number) (far-number (written-in p) w) z ∙ sym (rest-is p h);
+          says = λ p h w. fields .says ∙ ap (λ (rs : List Range). out-of-field rs 0 grid) (sym (h .fields)) ∙ rest-out _ _ (s .number) (far-number (relatives-in p) w) z ∙ sym (rest-is p h);
           shaped = λ _. asked .shaped none;
           scratch-fits = λ _. asked .scratch-fits none;
           marks-fit = λ _. asked .marks-fit none;
           start-is = λ _. asked .start-is none;
           steps-is = λ _. asked .steps-is none;
           times = λ _. asked .times none;
-          reaches = λ _ p h w. ap (λ (d : ℕ). widened (replicate d own-only) (written-in p)) (h .dims) ∙ sym (surveyed .bounds (written-in p) w);
-          near = λ _ ws w. near-of sizes (s .reach) (rule .dims) ws (asked .shaped none .dims) (sym (far-number ws w) ∙ z) (surveyed .bounds ws w);
+          reaches = λ _ p h w. ap (λ (d : ℕ). widened (replicate d own-only) (written-in p)) (h .dims) ∙ sym (surveyed .bounds (relatives-in p) w);
+          lists = λ _ p h w. ap (λ (d : ℕ). add-relatives d (some (own-place d ∷ [])) (relatives-in p)) (h .dims) ∙ sym (surveyed .places (relatives-in p) w);
+          near = λ _ rs w. near-of sizes (s .reach .bounds) (rule .dims) (written-of rs) (asked .shaped none .dims) (sym (far-number rs w) ∙ z) (surveyed .bounds rs w);
         }

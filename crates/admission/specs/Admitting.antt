@@ -11,11 +11,12 @@ use Rattle.automaton.specs.Shape.{product}
 use Rattle.program.specs.Syntax.{Program}
 use Rattle.semantics.specs.declared.Rule.{Rule}
 use Rattle.semantics.specs.Stands.{rule-table, ranges-in, Holds}
-use Rattle.semantics.specs.Written.{Written, written-in}
+use Rattle.semantics.specs.Written.{Relative, relatives-in}
 use Rattle.semantics.specs.Listing.{Writes}
+use Rattle.semantics.specs.Places.{places}
 use Rattle.stepper.specs.Admission.{Request, refusal, all-between, good-sizes, good-rooms, good-times, out-of-field, admission}
-use Rattle.stepper.specs.Reach.{reach}
-use Rattle.stepper.specs.Fitting.{Shaped, bounds-of, Near}
+use Rattle.stepper.specs.Reach.{box}
+use Rattle.stepper.specs.Fitting.{Shaped, bounds-of, Near, places-of}
 use Rattle.admission.specs.declared.admitting.Admitted.{Admitted}
 use Rattle.admission.specs.declared.Refusal as declared
 
@@ -59,13 +60,13 @@ pub record InFields (words : List ℕ) (rule : Rule) (grid : List ℤ) (r : decl
 abbrev pub request-of : List ℕ → List ℤ → ℕ → ℕ → ℤ → ℤ → Request
 request-of sizes grid scratch marks start steps = record { sizes = sizes; grid = grid; start = start; steps = steps; scratch = scratch; marks = marks }
 
--- the statements of a program, with these written indices, stand in the table
-abbrev pub Lists : List ℕ → Rule → List Written → Type 0
-Lists words rule ws = Writes (rule-table words rule) [] (rule .body) (rule .tokens) ws
+-- the statements of a program, with these relative indices, stand in the table
+abbrev pub Lists : List ℕ → Rule → List Relative → Type 0
+Lists words rule rs = Writes (rule-table words rule) [] (rule .body) (rule .tokens) rs
 
 -- the number and place are those of the definition, for every program that stands in the table
 pub record Admits (words : List ℕ) (rule : Rule) (sizes : List ℕ) (grid : List ℤ) (scratch marks : ℕ) (start steps : ℤ) (r : Admitted) : Type 0 where
-  pub says : (p : Program) → Holds words rule p → Lists words rule (written-in p)
+  pub says : (p : Program) → Holds words rule p → Lists words rule (relatives-in p)
       → refusal (r .number) (r .place) ≡ admission p (request-of sizes grid scratch marks start steps)
   -- what is known where the run is admitted
   pub shaped : r .number ≡ 0 → Shaped rule sizes (length grid)
@@ -74,5 +75,6 @@ pub record Admits (words : List ℕ) (rule : Rule) (sizes : List ℕ) (grid : Li
   pub start-is : r .number ≡ 0 → start ≡ pos (natAbs start)
   pub steps-is : r .number ≡ 0 → steps ≡ pos (natAbs steps)
   pub times : r .number ≡ 0 → natAbs start + natAbs steps ≤ 2147483647
-  pub reaches : r .number ≡ 0 → (p : Program) → Holds words rule p → Lists words rule (written-in p) → reach p ≡ bounds-of (r .reach) (rule .dims)
-  pub near : r .number ≡ 0 → (ws : List Written) → Lists words rule ws → Near sizes (r .reach)
+  pub reaches : r .number ≡ 0 → (p : Program) → Holds words rule p → Lists words rule (relatives-in p) → box p ≡ bounds-of (r .reach .bounds) (rule .dims)
+  pub lists : r .number ≡ 0 → (p : Program) → Holds words rule p → Lists words rule (relatives-in p) → places p ≡ places-of (r .reach) (rule .dims)
+  pub near : r .number ≡ 0 → (rs : List Relative) → Lists words rule rs → Near sizes (r .reach .bounds)

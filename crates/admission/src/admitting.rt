@@ -9,6 +9,7 @@ use crate::refused_request;
 use indices::surveying::survey;
 use semantics::Rule;
 use stepper::Reach;
+use stepper::own_only;
 
 // Whether a run is admitted: number 0, with the program's reach; else the refusal's number and place.
 pub struct Admitted {
@@ -24,14 +25,7 @@ fn turned_away(number: u32, place: u32) -> Admitted
     Admitted {
         number: number,
         place: place,
-        reach: Reach {
-            back0: 0,
-            ahead0: 0,
-            back1: 0,
-            ahead1: 0,
-            back2: 0,
-            ahead2: 0,
-        },
+        reach: own_only(),
     }
 }
 

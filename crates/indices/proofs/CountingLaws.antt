@@ -14,12 +14,13 @@ use Rattle.value.specs.Worked.{decode-of}
 use Rattle.automaton.specs.Listed.{length-list-of, getD-list-of}
 use Rattle.automaton.specs.Shape.{Bound}
 use Rattle.program.specs.Syntax.{Range}
-use Rattle.stepper.specs.declared.Reach.{Reach}
+use Rattle.stepper.specs.declared.Bounds.{Bounds}
 use Rattle.stepper.specs.Admission.{Refusal, refusal}
 use Rattle.stepper.specs.Reach.{below, above, own-only, widen}
 use Rattle.stepper.specs.Fitting.{bound-at, bounds-of}
-use Rattle.indices.specs.declared.Survey.{Survey}
-use Rattle.indices.specs.Surveying.{goes-past, tallied, tally-of, ends, Widens, Counts}
+use Rattle.places.specs.Vectors.{ends}
+use Rattle.indices.specs.declared.Count.{Count}
+use Rattle.indices.specs.Surveying.{goes-past, tallied, tally-of, Wider, Counts}
 
 -- ---- a word's value
 
@@ -59,82 +60,82 @@ module _ (low high size : ℕ) {a : Bool} (ea : a ≡ ltb size (natAbs (decode-o
   unfolding goes-past
   past-high h eb = eb ∙ sym (rw (← ea, h))
 
--- ---- one dimension of a reach
+-- ---- one dimension of a box
 
--- a reach by its numbers
-abbrev reach-of : ℕ → ℕ → ℕ → ℕ → ℕ → ℕ → Reach
-reach-of b₀ a₀ b₁ a₁ b₂ a₂ = record { back0 = b₀; ahead0 = a₀; back1 = b₁; ahead1 = a₁; back2 = b₂; ahead2 = a₂ }
+-- a box by its numbers
+abbrev box-of : ℕ → ℕ → ℕ → ℕ → ℕ → ℕ → Bounds
+box-of b₀ a₀ b₁ a₁ b₂ a₂ = record { back0 = b₀; ahead0 = a₀; back1 = b₁; ahead1 = a₁; back2 = b₂; ahead2 = a₂ }
 
-module _ (reach : Reach) {dim back ahead b a : ℕ} where
-  pub widens-first : dim ≡ 0 → b ≡ max (reach .back0) back → a ≡ max (reach .ahead0) ahead
-      → Widens reach dim back ahead (reach-of b a (reach .back1) (reach .ahead1) (reach .back2) (reach .ahead2))
+module _ (bounds : Bounds) {dim back ahead b a : ℕ} where
+  pub widens-first : dim ≡ 0 → b ≡ max (bounds .back0) back → a ≡ max (bounds .ahead0) ahead
+      → Wider bounds dim back ahead (box-of b a (bounds .back1) (bounds .ahead1) (bounds .back2) (bounds .ahead2))
   widens-first e eb ea = rw e (record { here = ap₂ (λ (x y : ℕ). record { back = x; ahead = y }) eb ea; others = others })
     where
-      others : (k : ℕ) → k < 3 → (k ≡ 0 → ⊥) → bound-at (reach-of b a (reach .back1) (reach .ahead1) (reach .back2) (reach .ahead2)) k ≡ bound-at reach k
+      others : (k : ℕ) → k < 3 → (k ≡ 0 → ⊥) → bound-at (box-of b a (bounds .back1) (bounds .ahead1) (bounds .back2) (bounds .ahead2)) k ≡ bound-at bounds k
       others zero l d = absurd (d refl)
       others (suc zero) l d = refl
       others (suc (suc k)) l d = refl
 
-  pub widens-second : dim ≡ 1 → b ≡ max (reach .back1) back → a ≡ max (reach .ahead1) ahead
-      → Widens reach dim back ahead (reach-of (reach .back0) (reach .ahead0) b a (reach .back2) (reach .ahead2))
+  pub widens-second : dim ≡ 1 → b ≡ max (bounds .back1) back → a ≡ max (bounds .ahead1) ahead
+      → Wider bounds dim back ahead (box-of (bounds .back0) (bounds .ahead0) b a (bounds .back2) (bounds .ahead2))
   widens-second e eb ea = rw e (record { here = ap₂ (λ (x y : ℕ). record { back = x; ahead = y }) eb ea; others = others })
     where
-      others : (k : ℕ) → k < 3 → (k ≡ 1 → ⊥) → bound-at (reach-of (reach .back0) (reach .ahead0) b a (reach .back2) (reach .ahead2)) k ≡ bound-at reach k
+      others : (k : ℕ) → k < 3 → (k ≡ 1 → ⊥) → bound-at (box-of (bounds .back0) (bounds .ahead0) b a (bounds .back2) (bounds .ahead2)) k ≡ bound-at bounds k
       others zero l d = refl
       others (suc zero) l d = absurd (d refl)
       others (suc (suc k)) l d = refl
 
-  pub widens-third : dim ≡ 2 → b ≡ max (reach .back2) back → a ≡ max (reach .ahead2) ahead
-      → Widens reach dim back ahead (reach-of (reach .back0) (reach .ahead0) (reach .back1) (reach .ahead1) b a)
+  pub widens-third : dim ≡ 2 → b ≡ max (bounds .back2) back → a ≡ max (bounds .ahead2) ahead
+      → Wider bounds dim back ahead (box-of (bounds .back0) (bounds .ahead0) (bounds .back1) (bounds .ahead1) b a)
   widens-third e eb ea = rw e (record { here = ap₂ (λ (x y : ℕ). record { back = x; ahead = y }) eb ea; others = others })
     where
-      others : (k : ℕ) → k < 3 → (k ≡ 2 → ⊥) → bound-at (reach-of (reach .back0) (reach .ahead0) (reach .back1) (reach .ahead1) b a) k ≡ bound-at reach k
+      others : (k : ℕ) → k < 3 → (k ≡ 2 → ⊥) → bound-at (box-of (bounds .back0) (bounds .ahead0) (bounds .back1) (bounds .ahead1) b a) k ≡ bound-at bounds k
       others zero l d = refl
       others (suc zero) l d = refl
       others (suc (suc k)) l d = absurd (d (omega arith))
 
 -- ---- one written index
 
-module _ (s : Survey) (size place low high : ℕ) {dim b a : ℕ} {reach : Reach} (w : Widens (s .reach) dim b a reach) (eb : b ≡ below (decode-of low))
+module _ (s : Count) (size place low high : ℕ) {dim b a : ℕ} {bounds : Bounds} (w : Wider (s .bounds) dim b a bounds) (eb : b ≡ below (decode-of low))
     (ea : a ≡ above (decode-of high)) where
-  wider : bound-at reach dim ≡ widen (bound-at (s .reach) dim) (ends low high)
-  wider = w .here ∙ ap₂ (λ (x y : ℕ). record { back = max (bound-at (s .reach) dim .back) x; ahead = max (bound-at (s .reach) dim .ahead) y }) eb ea
+  wider : bound-at bounds dim ≡ widen (bound-at (s .bounds) dim) (ends low high)
+  wider = w .here ∙ ap₂ (λ (x y : ℕ). record { back = max (bound-at (s .bounds) dim .back) x; ahead = max (bound-at (s .bounds) dim .ahead) y }) eb ea
 
   module _ {f : Bool} (ef : f ≡ goes-past size (ends low high)) where
-    pub counts-far : s .number ≡ 0 → f ≡ true → Counts s size place dim low high (record { number = 23; place = place; reach = reach })
+    pub counts-far : s .number ≡ 0 → f ≡ true → Counts s size place dim low high (record { number = 23; place = place; bounds = bounds })
     counts-far z h = record { far = sym (rw (z, ← ef, h)); here = wider; others = w .others }
 
-    pub counts-near : s .number ≡ 0 → f ≡ false → Counts s size place dim low high (record { number = s .number; place = s .place; reach = reach })
+    pub counts-near : s .number ≡ 0 → f ≡ false → Counts s size place dim low high (record { number = s .number; place = s .place; bounds = bounds })
     counts-near z h = record { far = sym (rw (← ef, h, eq-eqb (s .number) 0 z)); here = wider; others = w .others }
 
-  pub counts-after : (s .number ≡ 0 → ⊥) → Counts s size place dim low high (record { number = s .number; place = s .place; reach = reach })
+  pub counts-after : (s .number ≡ 0 → ⊥) → Counts s size place dim low high (record { number = s .number; place = s .place; bounds = bounds })
   counts-after z = record { far = sym (rw (ne-eqb (s .number) 0 z)); here = wider; others = w .others }
 
 -- in the count
-pub counts-tallied : (sizes : List ℕ) (dims : ℕ) {s r : Survey} {place dim low high : ℕ} {v : Range} → Counts s (getD sizes dim 0) place dim low high r → dim < dims → dims ≤ 3
+pub counts-tallied : (sizes : List ℕ) (dims : ℕ) {s r : Count} {place dim low high : ℕ} {v : Range} → Counts s (getD sizes dim 0) place dim low high r → dim < dims → dims ≤ 3
     → ends low high ≡ v → tally-of r dims ≡ tallied sizes (tally-of s dims) (record { place = place; dim = dim; values = v })
 unfolding tallied
 counts-tallied sizes dims {s} {r} {place} {dim} {low} {high} {v} c l m e =
     ap₂ (λ (x : Refusal) (y : List Bound). record { far = x; bounds = y })
     (c .far ∙ ap (λ (z : Range). if eqb (s .number) 0 && goes-past (getD sizes dim 0) z then refusal 23 place else refusal (s .number) (s .place)) e)
-    (ext-getD own-only (bounds-of (r .reach) dims) new same-length (λ k n. at k (omega (arith, n, length-list-of (bound-at (r .reach)) dims)) (eqb k dim) refl))
+    (ext-getD own-only (bounds-of (r .bounds) dims) new same-length (λ k n. at k (omega (arith, n, length-list-of (bound-at (r .bounds)) dims)) (eqb k dim) refl))
   where
     old : List Bound
-    old = bounds-of (s .reach) dims
+    old = bounds-of (s .bounds) dims
 
     new : List Bound
     new = set old dim (widen (getD old dim own-only) v)
 
-    same-length : length (bounds-of (r .reach) dims) ≡ length new
-    same-length = length-list-of (bound-at (r .reach)) dims ∙ sym (length-set old dim (widen (getD old dim own-only) v) ∙ length-list-of (bound-at (s .reach)) dims)
+    same-length : length (bounds-of (r .bounds) dims) ≡ length new
+    same-length = length-list-of (bound-at (r .bounds)) dims ∙ sym (length-set old dim (widen (getD old dim own-only) v) ∙ length-list-of (bound-at (s .bounds)) dims)
 
-    at : (k : ℕ) → k < dims → (b : Bool) → eqb k dim ≡ b → getD (bounds-of (r .reach) dims) k own-only ≡ getD new k own-only
+    at : (k : ℕ) → k < dims → (b : Bool) → eqb k dim ≡ b → getD (bounds-of (r .bounds) dims) k own-only ≡ getD new k own-only
     at k n true q =
         let i = eqb-true k dim q in
-        getD-list-of (bound-at (r .reach)) dims k own-only n ∙ ap (bound-at (r .reach)) i ∙ c .here
-        ∙ ap₂ widen (sym (getD-list-of (bound-at (s .reach)) dims dim own-only l)) e
-        ∙ sym (ap (λ (j : ℕ). getD new j own-only) i ∙ getD-set-same old dim _ own-only (omega (arith, length-list-of (bound-at (s .reach)) dims)))
+        getD-list-of (bound-at (r .bounds)) dims k own-only n ∙ ap (bound-at (r .bounds)) i ∙ c .here
+        ∙ ap₂ widen (sym (getD-list-of (bound-at (s .bounds)) dims dim own-only l)) e
+        ∙ sym (ap (λ (j : ℕ). getD new j own-only) i ∙ getD-set-same old dim _ own-only (omega (arith, length-list-of (bound-at (s .bounds)) dims)))
     at k n false q =
         let d = eqb-false k dim q in
-        getD-list-of (bound-at (r .reach)) dims k own-only n ∙ c .others k (omega arith) d
-        ∙ sym (getD-set-other old dim k _ own-only d ∙ getD-list-of (bound-at (s .reach)) dims k own-only n)
+        getD-list-of (bound-at (r .bounds)) dims k own-only n ∙ c .others k (omega arith) d
+        ∙ sym (getD-set-other old dim k _ own-only d ∙ getD-list-of (bound-at (s .bounds)) dims k own-only n)

@@ -3,47 +3,50 @@ use Prim.Native.Nat.{ℕ, suc, _+_, _-_, _*_, _<_, _≤_}
 use native.Mathlib.Omega.{arith}
 use mathlib.Core.Path.{_≡_, refl, sym, ap, ap₂, _∙_}
 use mathlib.Core.Bool.{Bool, true, false, _&&_}
-use mathlib.Core.List.{List, [], _∷_, _++_}
-use lib.Dec.{eqb}
+use mathlib.Core.List.{List, [], _∷_, _++_, append-nil}
+use mathlib.Core.Option.{Option, none, some}
+use lib.Dec.{eqb, ltb}
+use lib.IntN.{ℤ, pos}
 use lib.ListN.{getD, List·getD-eq-default}
-use borrow.Author.Tests.{eq-eqb, ne-eqb}
+use borrow.Author.Tests.{ltb-true, ltb-false}
 use Rattle.value.specs.Choice.{if_then_else_}
 use Rattle.value.specs.Worked.{decode-of}
 use Rattle.automaton.specs.Listed.{list-of, length-list-of, getD-list-of, list-of-ext}
-use Rattle.program.specs.Syntax.{Range, no-range, fixed, moving}
-use Rattle.semantics.specs.Written.{values-of, place-of, written-in-index}
-use Rattle.semantics.specs.Stands.{Table, index-in, next-index, indices-in}
+use Rattle.program.specs.Syntax.{Range, range, no-range, Index, fixed, moving}
+use Rattle.semantics.specs.Evaluation.{entry, offset}
+use Rattle.semantics.specs.declared.Rule.{Rule}
+use Rattle.semantics.specs.Written.{Relative, values-of, place-of, written-in-index, written-of}
+use Rattle.semantics.specs.Stands.{Table, rule-table, index-in, next-index, indices-in}
+use Rattle.semantics.specs.Places.{most-places, used-ranges, choices, vectors-of, add-places, add-relative, add-relatives}
+use Rattle.stepper.specs.declared.Bounds.{Bounds}
+use Rattle.stepper.specs.declared.Reach.{Reach}
+use Rattle.stepper.specs.Admission.{refusal}
+use Rattle.stepper.specs.Fitting.{bounds-of, places-of}
+use Rattle.places.specs.Vectors.{values-in, ends, loops-of, index-places, relative-at, IndexReach}
+use Rattle.places.specs.Widening.{joined, Widens}
+use Rattle.indices.specs.declared.Count.{Count}
 use Rattle.indices.specs.declared.Survey.{Survey}
-use Rattle.indices.specs.Surveying.{tallied, tally, tally-of, ends, loops-of, Counts, Opened}
+use Rattle.indices.specs.Surveying.{Tally, tallied, tally, tally-of, found, found-of, Counts, Opened}
 use Rattle.indices.proofs.CountingLaws.{counts-tallied}
 
 -- ---- the values of an element
 
-module _ (t : Table) (lows highs : List ℕ) (depth at : ℕ) {k x : ℕ} (ek : k ≡ t .kind at) (ex : x ≡ t .word3 at) where
-  module _ {w : ℕ} (e : k ≡ 1) (ew : w ≡ t .word2 at) (f : w ≡ 5) where
-    moves : values-of (loops-of lows highs depth) (index-in t at) ≡ getD (loops-of lows highs depth) x no-range
-    unfolding index-in
-    moves = simp (eq-eqb _ _ (sym ek ∙ e), eq-eqb _ _ (sym ew ∙ f)) (ap (λ (i : ℕ). getD (loops-of lows highs depth) i no-range) (sym ex))
-
-    pub ends-open : x < depth → ends (getD lows x 0) (getD highs x 0) ≡ values-of (loops-of lows highs depth) (index-in t at)
-    ends-open l = sym (moves ∙ getD-list-of (λ j. ends (getD lows j 0) (getD highs j 0)) depth x no-range l)
-
-    pub ends-shut : depth ≤ x → ends 0 0 ≡ values-of (loops-of lows highs depth) (index-in t at)
-    ends-shut l = sym (moves ∙ List·getD-eq-default (loops-of lows highs depth) no-range (omega (arith, length-list-of (λ j. ends (getD lows j 0) (getD highs j 0)) depth)))
-
-  pub ends-named : {w : ℕ} → w ≡ t .word2 at → (w ≡ 5 → ⊥) → ends x x ≡ values-of (loops-of lows highs depth) (index-in t at)
-  unfolding index-in
-  ends-named ew f = ap (λ (i : ℕ). ends i i) ex ∙ go (eqb (t .kind at) 1) (ne-eqb _ _ (λ u. f (ew ∙ u)))
-    where
-      go : (b : Bool) → eqb (t .word2 at) 5 ≡ false
-          → ends (t .word3 at) (t .word3 at)
-          ≡ values-of (loops-of lows highs depth) (if b && eqb (t .word2 at) 5 then moving (t .place at) (t .word3 at) else fixed (t .place at) (decode-of (t .word3 at)))
-      go true h = simp h
-      go false h = refl
-
-  pub ends-fixed : (k ≡ 1 → ⊥) → ends x x ≡ values-of (loops-of lows highs depth) (index-in t at)
-  unfolding index-in
-  ends-fixed f = ap (λ (i : ℕ). ends i i) ex ∙ sym (simp (ne-eqb _ _ (λ u. f (ek ∙ u))))
+-- by the words of its lowest and its highest value
+pub element-ends : (lows highs : List ℕ) (depth : ℕ) (i : Index) (low high : ℕ) → decode-of low ≡ offset (values-in lows depth) i → decode-of high ≡ offset (values-in highs depth) i
+    → ends low high ≡ values-of (loops-of lows highs depth) i
+element-ends lows highs depth (fixed p z) low high a b = ap₂ range a b
+element-ends lows highs depth (moving p d) low high a b = ap₂ range a b ∙ by (ltb d depth) refl
+  where
+    by : (t : Bool) → ltb d depth ≡ t → range (entry (values-in lows depth) d) (entry (values-in highs depth) d) ≡ getD (loops-of lows highs depth) d no-range
+    by true e =
+        let l = ltb-true d depth e in
+        ap₂ range (getD-list-of (λ k. decode-of (getD lows k 0)) depth d (pos 0) l) (getD-list-of (λ k. decode-of (getD highs k 0)) depth d (pos 0) l)
+        ∙ sym (getD-list-of (λ k. ends (getD lows k 0) (getD highs k 0)) depth d no-range l)
+    by false e =
+        let l = ltb-false d depth e in
+        ap₂ range (List·getD-eq-default (values-in lows depth) (pos 0) {n = d} (omega (arith, length-list-of (λ k. decode-of (getD lows k 0)) depth)))
+        (List·getD-eq-default (values-in highs depth) (pos 0) {n = d} (omega (arith, length-list-of (λ k. decode-of (getD highs k 0)) depth)))
+        ∙ sym (List·getD-eq-default (loops-of lows highs depth) no-range {n = d} (omega (arith, length-list-of (λ k. ends (getD lows k 0) (getD highs k 0)) depth)))
 
 place-here : (t : Table) (at : ℕ) → place-of (index-in t at) ≡ t .place at
 unfolding index-in
@@ -68,19 +71,19 @@ loops-more lows highs depth low high {lows′} {highs′} a b =
 
 module _ (t : Table) (loops : List Range) (sizes : List ℕ) (dims : ℕ) where
   -- the first k are counted
-  pub record Steps (s : Survey) (at : ℕ) (now : Survey) (here k : ℕ) : Type 0 where
+  pub record Steps (s : Count) (at : ℕ) (now : Count) (here k : ℕ) : Type 0 where
     pub turn : k ≤ dims
     pub near : here ≤ at + 3 * k
     pub says : tally sizes (tally-of s dims) (written-in-index loops 0 (indices-in t dims at))
         ≡ tally sizes (tally-of now dims) (written-in-index loops k (indices-in t (dims - k) here))
 
-  pub steps-start : (s : Survey) (at : ℕ) → Steps s at s at 0
+  pub steps-start : (s : Count) (at : ℕ) → Steps s at s at 0
   steps-start s at =
       let e : dims ≡ dims - 0 = omega arith in
       record { turn = omega arith; near = omega arith; says = ap (λ (m : ℕ). tally sizes (tally-of s dims) (written-in-index loops 0 (indices-in t m at))) e }
 
-  module _ {s : Survey} {at : ℕ} {now : Survey} {here k : ℕ} (so : Steps s at now here k) where
-    pub steps-more : dims ≤ 3 → k < dims → {place low high : ℕ} {r : Survey} {there : ℕ} → ends low high ≡ values-of loops (index-in t here) → place ≡ t .place here
+  module _ {s : Count} {at : ℕ} {now : Count} {here k : ℕ} (so : Steps s at now here k) where
+    pub steps-more : dims ≤ 3 → k < dims → {place low high : ℕ} {r : Count} {there : ℕ} → ends low high ≡ values-of loops (index-in t here) → place ≡ t .place here
         → Counts now (getD sizes k 0) place k low high r → (there ≡ next-index t here) × (there ≤ here + 3) → Steps s at r there (k + 1)
     unfolding written-in-index indices-in tally
     steps-more few l {place} {low} {high} {r} {there} ev ep c e =
@@ -101,3 +104,25 @@ module _ (t : Table) (loops : List Range) (sizes : List ℕ) (dims : ℕ) where
     pub steps-done : dims ≤ k → tally-of now dims ≡ tally sizes (tally-of s dims) (written-in-index loops 0 (indices-in t dims at))
     unfolding written-in-index indices-in tally
     steps-done l = let d : dims - k ≡ 0 = omega arith in sym (so .says ∙ rw d)
+
+-- ---- a relative index
+
+joined-relative : (dims : ℕ) (o : Option (List (List ℤ))) (r : Relative) → joined o (index-places dims r) ≡ add-relative dims o r
+unfolding index-places add-relative
+joined-relative dims o r = by (ltb most-places (choices (used-ranges (r .loops) (r .elements))))
+  where
+    by : (b : Bool) → joined o (if b then none else some (vectors-of dims r)) ≡ (if b then none else add-places o (vectors-of dims r))
+    by true = refl
+    by false = refl
+
+-- its elements are counted, and its places added
+pub index-found : (words : List ℕ) (rule : Rule) (sizes : List ℕ) (loops : List Range) (at : ℕ) (s : Survey) {c : Count} {index wider : Reach}
+    → tally-of c (rule .dims) ≡ tally sizes (tally-of (record { number = s .number; place = s .place; bounds = s .reach .bounds }) (rule .dims)) (written-in-index loops 0 (indices-in (rule-table words rule) (rule .dims) at))
+    → IndexReach words rule loops at (c .bounds) index → Widens (s .reach) index (rule .dims) wider
+    → found-of (record { number = c .number; place = c .place; reach = wider }) (rule .dims) ≡ found sizes (rule .dims) (found-of s (rule .dims)) (relative-at words rule loops at ∷ [])
+unfolding written-of add-relatives
+index-found words rule sizes loops at s {c} {index} {wider} e i w =
+    ap₂ (λ (t : Tally) (o : Option (List (List ℤ))). record { tally = t; places = o })
+    (ap (λ (b : Bounds). record { far = refusal (c .number) (c .place); bounds = bounds-of b (rule .dims) }) (w .bounded ∙ i .bounded) ∙ e
+    ∙ ap (tally sizes (found-of s (rule .dims) .tally)) (sym (append-nil (written-in-index loops 0 (indices-in (rule-table words rule) (rule .dims) at)))))
+    (w .places ∙ ap (joined (places-of (s .reach) (rule .dims))) (i .places) ∙ joined-relative (rule .dims) (places-of (s .reach) (rule .dims)) (relative-at words rule loops at))

@@ -4,27 +4,31 @@ use native.Mathlib.Nat.{le-refl}
 use native.Mathlib.Omega.{arith}
 use mathlib.Core.Path.{_≡_, refl, sym, ap, ap₂, _∙_}
 use mathlib.Core.Bool.{Bool, true, false, _&&_, _||_}
-use mathlib.Core.List.{List, [], _∷_, _++_}
+use mathlib.Core.List.{List, [], _∷_, _++_, append-assoc}
+use mathlib.Core.Option.{Option, some}
 use lib.Dec.{eqb, ltb}
-use lib.ListN.{length, getD, set, replicate, length-replicate, getD-replicate}
-use lib.Seq.{ext-getD}
+use lib.IntN.{ℤ}
+use lib.ListN.{length, getD, set, replicate}
 use borrow.Author.Tests.{lt-ltb, le-ltb, ltb-true, eq-eqb, ne-eqb, eqb-true}
 use Rattle.value.specs.Choice.{if_then_else_}
 use Rattle.value.specs.Laws.{never, and-both}
-use Rattle.automaton.specs.Listed.{list-of, length-list-of, getD-list-of}
+use Rattle.automaton.specs.Listed.{list-of, length-list-of}
 use Rattle.automaton.specs.Shape.{Bound}
 use Rattle.token.specs.Kind.{kind}
 use Rattle.program.specs.Syntax.{Range}
 use Rattle.semantics.specs.declared.Rule.{Rule}
-use Rattle.semantics.specs.Written.{Written, written-in-index}
+use Rattle.semantics.specs.Written.{Relative, relative-of, Written, written-in-index, written-of}
+use Rattle.semantics.specs.Places.{add-relative, add-relatives, own-place}
 use Rattle.semantics.specs.Stands.{word-in, Table, table-of, rule-table, range-in, indices-in, most-loops}
 use Rattle.semantics.specs.Listing.{is-index, behind, written-at, written-from, Writes}
 use Rattle.operands.proofs.TableLaws.{link-bounds}
 use Rattle.stepper.specs.Admission.{refusal, too-far}
 use Rattle.stepper.specs.Reach.{own-only, widen, widened}
-use Rattle.stepper.specs.Fitting.{bound-at, bounds-of}
+use Rattle.stepper.specs.declared.Reach.{Reach}
+use Rattle.stepper.specs.Fitting.{OwnOnly}
+use Rattle.places.specs.Vectors.{ends, loops-of, relative-at}
 use Rattle.indices.specs.declared.Survey.{Survey}
-use Rattle.indices.specs.Surveying.{Tally, goes-past, tallied, tally, tally-of, ends, loops-of, listed, Opened, CountsAt, Surveyed}
+use Rattle.indices.specs.Surveying.{Tally, goes-past, tallied, tally, Found, found, found-of, listed, Opened, CountsAt, Surveyed}
 use Rattle.indices.proofs.ElementLaws.{loops-more}
 
 -- ---- what stands at a position
@@ -74,8 +78,15 @@ opens-as a b m depth e eb = ap (λ (d : ℕ). a && ltb d 16) e ∙ sym eb
 pub opens-deep : (a : Bool) (depth : ℕ) {b : Bool} → b ≡ (a && ltb depth 16) → b ≡ true → depth < 16
 opens-deep a depth eb q = ltb-true depth 16 (and-both a (ltb depth 16) (sym eb ∙ q) .1)
 
-module _ (t : Table) (loops : List Range) (at : ℕ) (part : List Written) where
-  written-index : is-index t at ≡ true → written-at t loops at part ≡ written-in-index loops 0 (indices-in t (t .dims) (at + 1))
+written-of-append : (rs qs : List Relative) → written-of (rs ++ qs) ≡ written-of rs ++ written-of qs
+unfolding written-of
+written-of-append [] qs = refl
+written-of-append (r ∷ rs) qs =
+    ap (λ (ws : List Written). written-in-index (r .loops) 0 (r .elements) ++ ws) (written-of-append rs qs)
+    ∙ sym (append-assoc (written-in-index (r .loops) 0 (r .elements)) (written-of rs) (written-of qs))
+
+module _ (t : Table) (loops : List Range) (at : ℕ) (part : List Relative) where
+  written-index : is-index t at ≡ true → written-at t loops at part ≡ relative-of loops (indices-in t (t .dims) (at + 1))
   unfolding written-at is-index
   written-index q = let h = and-both (eqb (t .kind at) 91) (ltb 0 (t .word3 at)) q in rw (eqb-true (t .kind at) 91 (h .0), h .1)
 
@@ -92,17 +103,42 @@ module _ (t : Table) (loops : List Range) (at : ℕ) (part : List Written) where
   unfolding written-at
   written-loop o = let h = and-both (eqb (t .kind at) 12) (ltb (length loops) 16) o in rw (h .0, h .1)
 
-module _ (words : List ℕ) (rule : Rule) (sizes : List ℕ) (loops : List Range) (at : ℕ) {s r : Survey} {b : Bool} (eb : b ≡ is-index (rule-table words rule) at) where
-  pub counts-index : b ≡ true
-      → tally-of r (rule .dims) ≡ tally sizes (tally-of s (rule .dims)) (written-in-index loops 0 (indices-in (rule-table words rule) (rule .dims) (at + 1)))
-      → CountsAt words rule sizes loops at s r
-  counts-index q e = record { says = λ part o. e ∙ ap (tally sizes (tally-of s (rule .dims))) (sym (written-index (rule-table words rule) loops at part (sym eb ∙ q))) }
+-- the relative index at a position, if there is a dimension
+relative-here : (t : Table) (loops : List Range) (n at : ℕ) → 0 < n → relative-of loops (indices-in t n at) ≡ record { loops = loops; elements = indices-in t n at } ∷ []
+unfolding indices-in
+relative-here t loops zero at l = absurd (omega arith)
+relative-here t loops (suc n) at l = refl
 
-pub counts-none : (words : List ℕ) (rule : Rule) (sizes : List ℕ) (loops : List Range) (at : ℕ) {s : Survey} {b : Bool} → b ≡ is-index (rule-table words rule) at → b ≡ false
-    → CountsAt words rule sizes loops at s s
-unfolding tally
-counts-none words rule sizes loops at {s} eb q =
-    record { says = λ part o. ap (tally sizes (tally-of s (rule .dims))) (sym (written-none (rule-table words rule) loops at part (sym eb ∙ q) o)) }
+relative-none : (t : Table) (loops : List Range) (n at : ℕ) → n ≤ 0 → relative-of loops (indices-in t n at) ≡ []
+unfolding indices-in
+relative-none t loops zero at l = refl
+relative-none t loops (suc n) at l = absurd (omega arith)
+
+-- nothing more is found
+found-none : (sizes : List ℕ) (dims : ℕ) (f : Found) (rs : List Relative) → rs ≡ [] → f ≡ found sizes dims f rs
+unfolding tally written-of add-relatives
+found-none sizes dims f rs e = sym (ap (found sizes dims f) e)
+
+module _ (words : List ℕ) (rule : Rule) (sizes : List ℕ) (loops : List Range) (at : ℕ) {s : Survey} {b : Bool} (eb : b ≡ is-index (rule-table words rule) at) where
+  pub counts-index : {r : Survey} → b ≡ true → 0 < rule .dims → found-of r (rule .dims) ≡ found sizes (rule .dims) (found-of s (rule .dims)) (relative-at words rule loops (at + 1) ∷ [])
+      → CountsAt words rule sizes loops at s r
+  counts-index q l e =
+      record {
+        says = λ part o.
+            e ∙ ap (found sizes (rule .dims) (found-of s (rule .dims)))
+            (sym (written-index (rule-table words rule) loops at part (sym eb ∙ q) ∙ relative-here (rule-table words rule) loops (rule .dims) (at + 1) l));
+      }
+
+  pub counts-flat : b ≡ true → rule .dims ≤ 0 → CountsAt words rule sizes loops at s s
+  counts-flat q l =
+      record {
+        says = λ part o.
+            found-none sizes (rule .dims) (found-of s (rule .dims)) _
+            (written-index (rule-table words rule) loops at part (sym eb ∙ q) ∙ relative-none (rule-table words rule) loops (rule .dims) (at + 1) l);
+      }
+
+  pub counts-none : b ≡ false → CountsAt words rule sizes loops at s s
+  counts-none q = record { says = λ part o. found-none sizes (rule .dims) (found-of s (rule .dims)) _ (written-none (rule-table words rule) loops at part (sym eb ∙ q) o) }
 
 -- ---- enough fuel
 
@@ -130,7 +166,7 @@ module _ (words : List ℕ) (n dims : ℕ) where
   enough (suc f) zero loops at to m a b = ended (suc f) loops at to (omega arith)
   enough (suc f) (suc g) loops at to m a b = by (ltb at to) refl (enough f g)
     where
-      part : ℕ → List Written
+      part : ℕ → List Relative
       part h = written-at table loops at (written-from h table (loops ++ (range-in table (at + 1) ∷ [])) (table .inner at) (table .past at))
 
       by : (c : Bool) → ltb at to ≡ c
@@ -142,7 +178,7 @@ module _ (words : List ℕ) (n dims : ℕ) where
           let i = link-bounds n at (word-in words n 2 at) refl (omega arith) in
           let p = link-bounds n at (word-in words n 3 at) refl (omega arith) in
           let h = behind-bounds at (omega arith) in
-          ap₂ (λ (x y : List Written). written-at table loops at x ++ y) (more _ (table .inner at) (table .past at) (p .1) (omega (arith, i .0)) (omega (arith, i .0)))
+          ap₂ (λ (x y : List Relative). written-at table loops at x ++ y) (more _ (table .inner at) (table .past at) (p .1) (omega (arith, i .0)) (omega (arith, i .0)))
           (more loops (behind table at) to m (omega (arith, h .0)) (omega (arith, h .0)))
 
 -- ---- the tokens one after another
@@ -151,6 +187,16 @@ pub tally-append : (sizes : List ℕ) (s : Tally) (ws vs : List Written) → tal
 unfolding tally
 tally-append sizes s [] vs = refl
 tally-append sizes s (w ∷ ws) vs = tally-append sizes (tallied sizes s w) ws vs
+
+relatives-append : (dims : ℕ) (o : Option (List (List ℤ))) (rs qs : List Relative) → add-relatives dims o (rs ++ qs) ≡ add-relatives dims (add-relatives dims o rs) qs
+unfolding add-relatives
+relatives-append dims o [] qs = refl
+relatives-append dims o (r ∷ rs) qs = relatives-append dims (add-relative dims o r) rs qs
+
+found-append : (sizes : List ℕ) (dims : ℕ) (f : Found) (rs qs : List Relative) → found sizes dims f (rs ++ qs) ≡ found sizes dims (found sizes dims f rs) qs
+found-append sizes dims f rs qs =
+    ap₂ (λ (t : Tally) (o : Option (List (List ℤ))). record { tally = t; places = o })
+    (ap (tally sizes (f .tally)) (written-of-append rs qs) ∙ tally-append sizes (f .tally) (written-of rs) (written-of qs)) (relatives-append dims (f .places) rs qs)
 
 -- the ranges of the open loops, and with the loop at a position
 pub loops-length : (lows highs : List ℕ) (depth : ℕ) → length (loops-of lows highs depth) ≡ depth
@@ -167,12 +213,12 @@ module _ (words : List ℕ) (rule : Rule) where
   tb = rule-table words rule
 
   -- what is written in the part of the loop at a position
-  abbrev part-at : List Range → ℕ → List Written
-  part-at loops at = listed words rule (loops ++ (range-in tb (at + 1) ∷ [])) (tb .inner at) (tb .past at)
+  abbrev part-at : List Range → ℕ → List Relative
+  part-at loops at = written-from (suc (rule .tokens)) tb (loops ++ (range-in tb (at + 1) ∷ [])) (tb .inner at) (tb .past at)
 
-  -- a survey, with more written indices
-  abbrev count : List ℕ → Survey → List Written → Tally
-  count sizes s ws = tally sizes (tally-of s (rule .dims)) ws
+  -- a survey, with more relative indices
+  abbrev count : List ℕ → Survey → List Relative → Found
+  count sizes s rs = found sizes (rule .dims) (found-of s (rule .dims)) rs
 
   -- what is written at a position, and behind it
   pub listed-step : (loops : List Range) (at to : ℕ) → to ≤ rule .tokens → at < to → listed words rule loops at to
@@ -184,7 +230,7 @@ module _ (words : List ℕ) (rule : Rule) where
       let p = link-bounds n at (word-in words n 3 at) refl (omega arith) in
       let h = behind-bounds words n (rule .dims) at (omega arith) in
       rw (lt-ltb at to l)
-      (ap₂ (λ (x y : List Written). written-at tb loops at x ++ y)
+      (ap₂ (λ (x y : List Relative). written-at tb loops at x ++ y)
       (enough words n (rule .dims) n (suc n) _ (tb .inner at) (tb .past at) (p .1) (omega (arith, i .0)) (omega (arith, i .0)))
       (enough words n (rule .dims) n (suc n) loops (behind tb at) to m (omega (arith, h .0)) (omega (arith, h .0))))
 
@@ -203,14 +249,14 @@ module _ (words : List ℕ) (rule : Rule) where
     module _ {at : ℕ} {now : Survey} (g : Going at now) where
       -- one token more
       module _ (m : to ≤ rule .tokens) (l : at < to) {next : ℕ} (en : next ≡ behind tb at) {r r′ : Survey} (er : r′ ≡ r) where
-        going-on : tally-of r (rule .dims) ≡ count sizes now (written-at tb loops at (part-at loops at)) → Going next r′
+        going-on : found-of r (rule .dims) ≡ count sizes now (written-at tb loops at (part-at loops at)) → Going next r′
         going-on e =
             let h = behind-bounds words (rule .tokens) (rule .dims) at (omega arith) in
             record {
               onward = omega (arith, g .onward, h .0);
               says =
-                  g .says ∙ ap (count sizes now) (listed-step loops at to m l) ∙ tally-append sizes (tally-of now (rule .dims)) _ _
-                  ∙ ap₂ (tally sizes) (sym (ap (λ (x : Survey). tally-of x (rule .dims)) er ∙ e)) (ap (λ (i : ℕ). listed words rule loops i to) (sym en));
+                  g .says ∙ ap (count sizes now) (listed-step loops at to m l) ∙ found-append sizes (rule .dims) (found-of now (rule .dims)) _ _
+                  ∙ ap₂ (found sizes (rule .dims)) (sym (ap (λ (x : Survey). found-of x (rule .dims)) er ∙ e)) (ap (λ (i : ℕ). listed words rule loops i to) (sym en));
             }
 
         module _ {depth : ℕ} (deep : length loops ≡ depth) {b : Bool} (eb : b ≡ (eqb (tb .kind at) (kind .forall-word) && ltb depth 16)) where
@@ -218,15 +264,15 @@ module _ (words : List ℕ) (rule : Rule) where
           going-plain q c = going-on (c .says _ (opens-as (eqb (tb .kind at) (kind .forall-word)) b (length loops) depth deep eb ∙ q))
 
           pub going-loop : b ≡ true → {more : List Range} → more ≡ loops ++ (range-in tb (at + 1) ∷ []) → {inner past : ℕ} → inner ≡ tb .inner at → past ≡ tb .past at
-              → tally-of r (rule .dims) ≡ count sizes now (listed words rule more inner past) → Going next r′
+              → found-of r (rule .dims) ≡ count sizes now (listed words rule more inner past) → Going next r′
           going-loop q em ei ep e =
               let o = opens-as (eqb (tb .kind at) (kind .forall-word)) b (length loops) depth deep eb ∙ q in
               let there = ap₂ (listed words rule _) ei ep ∙ ap (λ (x : List Range). listed words rule x (tb .inner at) (tb .past at)) em in
               going-on (e ∙ ap (count sizes now) (there ∙ sym (written-loop tb loops at _ o)))
 
-      pub going-done : to ≤ at → tally-of now (rule .dims) ≡ count sizes s (listed words rule loops from to)
-      unfolding tally
-      going-done l = sym (g .says ∙ ap (count sizes now) (ended words (rule .tokens) (rule .dims) (suc (rule .tokens)) loops at to l))
+      pub going-done : to ≤ at → found-of now (rule .dims) ≡ count sizes s (listed words rule loops from to)
+      going-done l =
+          found-none sizes (rule .dims) (found-of now (rule .dims)) _ (ended words (rule .tokens) (rule .dims) (suc (rule .tokens)) loops at to l) ∙ sym (g .says)
 
 -- ---- the whole
 
@@ -252,36 +298,25 @@ tally-all sizes bs (w ∷ ws) = by (goes-past (getD sizes (w .dim) 0) (w .values
     by true h = tally-far sizes (w .place) _ ws
     by false h = h
 
--- a survey of nothing
-abbrev nothing-yet : Survey
-nothing-yet = record { number = 0; place = 0; reach = record { back0 = 0; ahead0 = 0; back1 = 0; ahead1 = 0; back2 = 0; ahead2 = 0 } }
-
-own-bounds : (dims : ℕ) → bounds-of (nothing-yet .reach) dims ≡ replicate dims own-only
-own-bounds dims =
-    ext-getD own-only _ _ (length-list-of (bound-at (nothing-yet .reach)) dims ∙ sym (length-replicate dims own-only))
-    (λ k l.
-    let m : k < dims = omega (arith, l, length-list-of (bound-at (nothing-yet .reach)) dims) in
-    getD-list-of (bound-at (nothing-yet .reach)) dims k own-only m ∙ own k ∙ sym (getD-replicate dims k own-only own-only m))
-  where
-    own : (k : ℕ) → bound-at (nothing-yet .reach) k ≡ own-only
-    own zero = refl
-    own (suc zero) = refl
-    own (suc (suc k)) = refl
-
-pub survey-done : (words : List ℕ) (rule : Rule) (sizes lows highs : List ℕ) {r : Survey}
-    → tally-of r (rule .dims) ≡ tally sizes (tally-of nothing-yet (rule .dims)) (listed words rule (loops-of lows highs 0) (rule .body) (rule .tokens))
+pub survey-done : (words : List ℕ) (rule : Rule) (sizes lows highs : List ℕ) {own : Reach} → OwnOnly own → {r : Survey}
+    → found-of r (rule .dims) ≡ found sizes (rule .dims) (found-of (record { number = 0; place = 0; reach = own }) (rule .dims)) (listed words rule (loops-of lows highs 0) (rule .body) (rule .tokens))
     → Surveyed words rule sizes r
 unfolding list-of
-survey-done words rule sizes lows highs {r} e =
-    record { far = λ ws w. ap (λ (x : Tally). x .far) (whole ws w); bounds = λ ws w. ap (λ (x : Tally). x .bounds) (whole ws w) }
+survey-done words rule sizes lows highs {own} o {r} e =
+    record { far = λ rs w. ap (λ (x : Found). x .tally .far) (whole rs w); bounds = λ rs w. ap (λ (x : Found). x .tally .bounds) (whole rs w); places = λ rs w. ap (λ (x : Found). x .places) (whole rs w) }
   where
-    whole : (ws : List Written) → Writes (rule-table words rule) [] (rule .body) (rule .tokens) ws
-        → tally-of r (rule .dims) ≡ record { far = too-far sizes ws; bounds = widened (replicate (rule .dims) own-only) ws }
-    whole ws w =
+    whole : (rs : List Relative) → Writes (rule-table words rule) [] (rule .body) (rule .tokens) rs
+        → found-of r (rule .dims) ≡ record {
+          tally = record { far = too-far sizes (written-of rs); bounds = widened (replicate (rule .dims) own-only) (written-of rs) };
+          places = add-relatives (rule .dims) (some (own-place (rule .dims) ∷ [])) rs;
+        }
+    whole rs w =
         let n = rule .tokens in
         let f = suc n + w .enough in
-        let q : listed words rule [] (rule .body) n ≡ ws =
+        let q : listed words rule [] (rule .body) n ≡ rs =
         enough words n (rule .dims) (suc n) f [] (rule .body) n (le-refl n) (omega arith) (omega arith) ∙ w .says f (omega arith)
         in
-        e ∙ ap₂ (λ (bs : List Bound) (vs : List Written). tally sizes (record { far = refusal 0 0; bounds = bs }) vs) (own-bounds (rule .dims)) q
-        ∙ tally-all sizes (replicate (rule .dims) own-only) ws
+        e ∙ ap (found sizes (rule .dims) _) q
+        ∙ ap₂ (λ (t : Tally) (ps : Option (List (List ℤ))). record { tally = t; places = add-relatives (rule .dims) ps rs })
+        (ap (λ (bs : List Bound). tally sizes (record { far = refusal 0 0; bounds = bs }) (written-of rs)) (o .bounds (rule .dims)) ∙ tally-all sizes (replicate (rule .dims) own-only) (written-of rs))
+        (o .places (rule .dims))

@@ -5,9 +5,10 @@ ghost use lib.Dec.{ltb};
 ghost use lib.IntN.{natAbs};
 ghost use Rattle.value.specs.Worked.{decode-of};
 ghost use Rattle.stepper.specs.Reach.{below, above};
-ghost use Rattle.indices.specs.Surveying.{goes-past, ends, Widens, Counts};
-use crate::Survey;
-use stepper::Reach;
+ghost use Rattle.indices.specs.Surveying.{goes-past, Wider, Counts};
+ghost use Rattle.places.specs.Vectors.{ends};
+use crate::Count;
+use stepper::Bounds;
 
 // How far a word's value lies below 0.
 fn below(word: u32) -> u32
@@ -56,12 +57,12 @@ fn goes_past(low: u32, high: u32, size: u32) -> bool
     exceeds(high, size)
 }
 
-// A reach that has at least so much back and ahead in a dimension.
-fn widened(reach: Reach, dim: usize, back: u32, ahead: u32) -> Reach
+// A box that has at least so much back and ahead in a dimension.
+fn widened(bounds: Bounds, dim: usize, back: u32, ahead: u32) -> Bounds
     requires { ⌜ dim < 3 ⌝ }
-    ensures { λ r. ⌜ Widens reach dim back ahead r ⌝ }
+    ensures { λ r. ⌜ Wider bounds dim back ahead r ⌝ }
 {
-    let mut r = reach;
+    let mut r = bounds;
     if dim == 0 {
         r.back0 = larger(r.back0, back);
         r.ahead0 = larger(r.ahead0, ahead);
@@ -77,43 +78,25 @@ fn widened(reach: Reach, dim: usize, back: u32, ahead: u32) -> Reach
     r
 }
 
-// A reach is widened in place.
-fn widen(reach: &mut Reach, dim: usize, back: u32, ahead: u32)
-    requires { ⌜ dim < 3 ⌝ }
-    ensures { λ _. ⌜ Widens (now (reach .entry)) dim back ahead (now (reach .exit)) ⌝ }
-{
-    *reach = widened(*reach, dim, back, ahead);
-}
-
-// A reach widened: it is lent to `widen`.
-fn widened_in_place(reach: Reach, dim: usize, back: u32, ahead: u32) -> Reach
-    requires { ⌜ dim < 3 ⌝ }
-    ensures { λ r. ⌜ Widens reach dim back ahead r ⌝ }
-{
-    let mut r = reach;
-    widen(&mut r, dim, back, ahead);
-    r
-}
-
 // One written index: its place, its dimension, of a given size, and the words of its lowest and highest value.
-pub fn counted(s: Survey, size: u32, place: u32, dim: usize, low: u32, high: u32) -> Survey
+pub fn counted(s: Count, size: u32, place: u32, dim: usize, low: u32, high: u32) -> Count
     requires { ⌜ dim < 3 ⌝ }
     ensures { λ r. ⌜ Counts s size place dim low high r ⌝ }
 {
-    let old = s.reach;
-    let reach = widened_in_place(old, dim, below(low), above(high));
+    let old = s.bounds;
+    let bounds = widened(old, dim, below(low), above(high));
     if s.number == 0 {
         if goes_past(low, high, size) {
-            return Survey {
+            return Count {
                 number: 23,
                 place: place,
-                reach: reach,
+                bounds: bounds,
             };
         }
     }
-    Survey {
+    Count {
         number: s.number,
         place: s.place,
-        reach: reach,
+        bounds: bounds,
     }
 }

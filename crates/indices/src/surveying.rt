@@ -6,7 +6,7 @@ ghost use Rattle.indices.specs.Surveying.{Surveyed};
 use crate::Survey;
 use crate::walk::part;
 use semantics::Rule;
-use stepper::Reach;
+use stepper::own_only;
 
 // The survey of a program, in one walk over its statements.
 pub fn survey(words: &[u32], rule: Rule, sizes: &[u32]) -> Survey
@@ -14,14 +14,7 @@ pub fn survey(words: &[u32], rule: Rule, sizes: &[u32]) -> Survey
     ensures { λ r. ⌜ Surveyed (now (words .entry)) rule (now (sizes .entry)) r ⌝ }
 {
     let none: [u32; 16] = [0; 16];
-    let reach = Reach {
-        back0: 0,
-        ahead0: 0,
-        back1: 0,
-        ahead1: 0,
-        back2: 0,
-        ahead2: 0,
-    };
+    let reach = own_only();
     let start = Survey {
         number: 0,
         place: 0,

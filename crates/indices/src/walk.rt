@@ -1,60 +1,28 @@
 // The walk over the tokens.
 ghost use mathlib.Core.Path.{_≡_};
 ghost use mathlib.Core.Bool.{_&&_};
+ghost use mathlib.Core.List.{[], _∷_};
 ghost use Prim.Native.Nat.{_+_, _*_, _<_, _≤_};
 ghost use lib.Dec.{eqb, ltb};
 ghost use lib.ListN.{length};
 ghost use Rattle.token.specs.Kind.{kind};
-ghost use Rattle.semantics.specs.Written.{values-of, written-in-index};
-ghost use Rattle.semantics.specs.Stands.{word-in, table-of, rule-table, index-in, indices-in};
+ghost use Rattle.semantics.specs.Written.{written-in-index};
+ghost use Rattle.semantics.specs.Stands.{word-in, table-of, rule-table, indices-in};
 ghost use Rattle.semantics.specs.Listing.{is-index, behind};
-ghost use Rattle.indices.specs.Surveying.{tally, tally-of, ends, loops-of, Walks, listed, Opened, CountsAt};
+ghost use Rattle.indices.specs.Surveying.{tally, tally-of, found, found-of, Walks, listed, Opened, CountsAt};
+ghost use Rattle.places.specs.Vectors.{loops-of, relative-at};
+use crate::Count;
 use crate::Survey;
 use crate::counting::counted;
 use operands::neighbour::element_after;
 use operands::table::link_at;
 use operands::table::place_at;
 use operands::table::word_at;
+use places::vectors::element_word;
+use places::vectors::index_reach;
+use places::widening::widened_in_place;
 use semantics::Rule;
 use token::kind;
-
-// The words of the lowest and the highest value of an index.
-struct Ends {
-    low: u32,
-    high: u32,
-}
-
-// The values of the element of a relative index at a position.
-fn ends_at(
-    words: &[u32],
-    n: usize,
-    dims: usize,
-    lows: &[u32; 16],
-    highs: &[u32; 16],
-    depth: usize,
-    at: usize,
-) -> Ends
-    requires { ⌜ (4 * n ≤ length (now words)) × (n ≤ 4096) × (depth ≤ 16) ⌝ }
-    ensures { λ r. ⌜ ends (r .low) (r .high) ≡ values-of (loops-of (now (lows .entry)) (now (highs .entry)) depth) (index-in (table-of (now (words .entry)) n dims) at) ⌝ }
-{
-    let word = word_at(words, n, 3, at);
-    if word_at(words, n, 0, at) == kind::NAME {
-        if word_at(words, n, 2, at) == 5 {
-            let which = word as usize;
-            if which < depth {
-                return Ends {
-                    low: lows[which],
-                    high: highs[which],
-                };
-            }
-            return Ends { low: 0, high: 0 };
-        }
-    }
-    Ends {
-        low: word,
-        high: word,
-    }
-}
 
 // The elements of a relative index, from a position on.
 fn elements(
@@ -65,8 +33,8 @@ fn elements(
     highs: &[u32; 16],
     depth: usize,
     at: usize,
-    s: Survey,
-) -> Survey
+    s: Count,
+) -> Count
     requires { ⌜ Walks (length (now words)) rule (length (now sizes)) depth × (at ≤ 4096) ⌝ }
     ensures { λ r. ⌜ tally-of r (rule .dims) ≡ tally (now (sizes .entry)) (tally-of s (rule .dims)) (written-in-index (loops-of (now (lows .entry)) (now (highs .entry)) depth) 0 (indices-in (rule-table (now (words .entry)) rule) (rule .dims) at)) ⌝ }
 {
@@ -76,8 +44,9 @@ fn elements(
     let mut here = at;
     let mut k = 0;
     while k < dims {
-        let e = ends_at(words, n, dims, lows, highs, depth, here);
-        now = counted(now, sizes[k], place_at(words, n, here), k, e.low, e.high);
+        let low = element_word(words, n, dims, lows, depth, here);
+        let high = element_word(words, n, dims, highs, depth, here);
+        now = counted(now, sizes[k], place_at(words, n, here), k, low, high);
         here = element_after(words, n, dims, here);
         k += 1;
     }
@@ -134,6 +103,38 @@ fn opened(words: [u32; 16], depth: usize, word: u32) -> [u32; 16]
     more
 }
 
+// The relative index whose elements stand from a position on: they are counted, and its places are added to the reach.
+fn with_index(
+    words: &[u32],
+    rule: Rule,
+    sizes: &[u32],
+    lows: &[u32; 16],
+    highs: &[u32; 16],
+    depth: usize,
+    at: usize,
+    s: Survey,
+) -> Survey
+    requires { ⌜ Walks (length (now words)) rule (length (now sizes)) depth × (at ≤ 4096) ⌝ }
+    ensures { λ r. ⌜ found-of r (rule .dims) ≡ found (now (sizes .entry)) (rule .dims) (found-of s (rule .dims)) (relative-at (now (words .entry)) rule (loops-of (now (lows .entry)) (now (highs .entry)) depth) at ∷ []) ⌝ }
+{
+    let reach = s.reach;
+    let old = reach.bounds;
+    let start = Count {
+        number: s.number,
+        place: s.place,
+        bounds: old,
+    };
+    let c = elements(words, rule, sizes, lows, highs, depth, at, start);
+    let bounds = c.bounds;
+    let index = index_reach(words, rule, lows, highs, depth, at, bounds);
+    let wider = widened_in_place(reach, index, rule.dims as usize);
+    Survey {
+        number: c.number,
+        place: c.place,
+        reach: wider,
+    }
+}
+
 // What is written at a position where no loop opens.
 fn index_at(
     words: &[u32],
@@ -149,7 +150,9 @@ fn index_at(
     ensures { λ r. ⌜ CountsAt (now (words .entry)) rule (now (sizes .entry)) (loops-of (now (lows .entry)) (now (highs .entry)) depth) at s r ⌝ }
 {
     if is_index(words, rule.tokens, rule.dims as usize, at) {
-        return elements(words, rule, sizes, lows, highs, depth, at + 1, s);
+        if 0 < rule.dims {
+            return with_index(words, rule, sizes, lows, highs, depth, at + 1, s);
+        }
     }
     s
 }
@@ -167,7 +170,7 @@ pub fn part(
     s: Survey,
 ) -> Survey
     requires { ⌜ Walks (length (now words)) rule (length (now sizes)) depth × (to ≤ rule .tokens) ⌝ }
-    ensures { λ r. ⌜ tally-of r (rule .dims) ≡ tally (now (sizes .entry)) (tally-of s (rule .dims)) (listed (now (words .entry)) rule (loops-of (now (lows .entry)) (now (highs .entry)) depth) from to) ⌝ }
+    ensures { λ r. ⌜ found-of r (rule .dims) ≡ found (now (sizes .entry)) (rule .dims) (found-of s (rule .dims)) (listed (now (words .entry)) rule (loops-of (now (lows .entry)) (now (highs .entry)) depth) from to) ⌝ }
 {
     let n = rule.tokens;
     let dims = rule.dims as usize;

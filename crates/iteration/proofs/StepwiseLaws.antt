@@ -2,9 +2,10 @@
 use Prim.Native.Nat.{ℕ, zero, suc, _+_, _*_, _<_, _≤_}
 use native.Mathlib.Numerals.{add-one}
 use native.Mathlib.Omega.{arith}
-use mathlib.Core.Path.{_≡_, refl, sym, ap, ap₂, _∙_, subst, fun-ext}
+use mathlib.Core.Path.{_≡_, refl, sym, ap, ap₂, _∙_, subst, subst₂, fun-ext}
+use mathlib.Core.Logic.{_↔_}
 use mathlib.Core.Bool.{Bool, true, false, not, cond, _||_}
-use mathlib.Core.List.{List, [], _∷_, map, List·Memᴰ, List·Memᴰ·head, List·Memᴰ·tail}
+use mathlib.Core.List.{List, [], _∷_, map, List·Memᴰ, List·Memᴰ·head, List·Memᴰ·tail, Memᴰ·map, Memᴰ·cast}
 use lib.ListN.{length, getD, replicate, length-replicate}
 use lib.Seq.{ext-getD}
 use lib.IntN.{ℤ}
@@ -13,24 +14,29 @@ use Rattle.value.specs.Laws.{never}
 use Rattle.automaton.specs.Listed.{list-of, length-list-of, getD-list-of, list-of-ext}
 use Rattle.automaton.specs.Step.{Fault, any-of, marks-of, non-zero, marked, Quiet, every-cell, no-blocks, changed, touched, open-in}
 use Rattle.automaton.specs.Quiet.{marked-marks-of, any-of-false, any-none}
-use Rattle.automaton.specs.Shape.{product, Bound, neighbour, reach-of, box-indices}
-use Rattle.automaton.specs.ShapeLaws.{Positive, Alike, alike-length, neighbour-lt, box-alike, own-in-reach}
+use Rattle.automaton.specs.Shape.{product, Bound, width, neighbour, reach-of, box-indices}
+use Rattle.automaton.specs.ShapeLaws.{Positive, Alike, neighbour-lt, neighbour-zeros}
 use Rattle.automaton.specs.Grid.{cell-of, differ, automaton}
 use Rattle.automaton.specs.GridLaws.{differ-false, differ-self}
 use Rattle.automaton.specs.Going.{Going, going-start, going-on, going-stop, going-done}
 use Rattle.program.specs.Syntax.{Program}
 use Rattle.semantics.specs.declared.Rule.{Rule}
 use Rattle.semantics.specs.Leaves.{Leaves}
+use Rattle.semantics.specs.Places.{own-place}
+use Rattle.stepper.specs.declared.Bounds.{Bounds}
 use Rattle.stepper.specs.declared.Reach.{Reach}
-use Rattle.stepper.specs.Reach.{reach, running}
+use Rattle.stepper.specs.Reach.{reach-from, reach, running}
+use Rattle.stepper.specs.Locality.{own-zeros}
+use Rattle.stepper.specs.Covering.{reach-covers}
+use Rattle.stepper.specs.PlacesLaws.{places-box}
 use Rattle.stepper.specs.Report.{ended}
-use Rattle.stepper.specs.Fitting.{held-fields, Shaped, bounds-of, bound-at}
+use Rattle.stepper.specs.Fitting.{held-fields, Shaped}
 use Rattle.stepping.specs.declared.Step.{Step}
 use Rattle.stepping.specs.declared.Step.the-variants as Gives
 use Rattle.stepping.specs.Stepping as stepping
 use Rattle.stepping.specs.Stepping.{Stepped}
 use Rattle.marking.specs.Opened as marking
-use Rattle.marking.specs.Opened.{opened, pending-is}
+use Rattle.marking.specs.Opened.{opened, pending-is, indices-of, Prepared, Ways, Marks, Sound, WayOf}
 use Rattle.iteration.specs.Stepwise.{Begins, Runs, Renewed, Underway, told, steps-report, Ran}
 
 -- ---- marks
@@ -86,27 +92,32 @@ unfolding any-of
 any-same f g h [] k = refl
 any-same f g h (ds ∷ dss) k = ap₂ _||_ (k ds (List·Memᴰ·head refl)) (any-same f g h dss (λ es m. k es (List·Memᴰ·tail m)))
 
-module _ (sizes : List ℕ) (bounds : List Bound) (a : Alike sizes bounds) (positive : Positive sizes) (fields : ℕ) where
+module _ (sizes : List ℕ) (dss : List (List ℤ)) (alike : (ds : List ℤ) → List·Memᴰ ds dss → Alike sizes ds) (positive : Positive sizes) (fields : ℕ) where
   -- it is the same of grids with the same fields in every cell
   opened-same : (old old′ new : List ℤ) → ((x : ℕ) → x < product sizes → cell-of fields old x ≡ cell-of fields old′ x) → (c : ℕ) → c < product sizes
-      → opened sizes bounds fields old new c ≡ opened sizes bounds fields old′ new c
+      → opened sizes dss fields old new c ≡ opened sizes dss fields old′ new c
   unfolding reach-of
   opened-same old old′ new same c l =
-      any-same _ _ (neighbour sizes c) (box-indices bounds)
-      (λ ds m. ap (λ (s : List ℤ). differ s (cell-of fields new (neighbour sizes c ds))) (same (neighbour sizes c ds) (neighbour-lt sizes positive c ds l (box-alike sizes bounds a ds m))))
+      any-same _ _ (neighbour sizes c) dss
+      (λ ds m. ap (λ (s : List ℤ). differ s (cell-of fields new (neighbour sizes c ds))) (same (neighbour sizes c ds) (neighbour-lt sizes positive c ds l (alike ds m))))
 
   -- a cell that is not opened did not change: it is in its own reach
-  not-opened : (old new : List ℤ) (c : ℕ) → c < product sizes → opened sizes bounds fields old new c ≡ false → cell-of fields old c ≡ cell-of fields new c
-  not-opened old new c l e = differ-false _ _ (any-of-false _ _ e c (own-in-reach sizes bounds a positive c l))
+  not-opened : List·Memᴰ (own-place (length sizes)) dss → (old new : List ℤ) (c : ℕ) → c < product sizes → opened sizes dss fields old new c ≡ false
+      → cell-of fields old c ≡ cell-of fields new c
+  unfolding reach-of
+  not-opened own old new c l e =
+      let here = ap (neighbour sizes c) (own-zeros sizes) ∙ neighbour-zeros sizes c positive l in
+      differ-false _ _ (any-of-false _ _ e c (Memᴰ·cast (sym here) (Memᴰ·map (neighbour sizes c) own)))
 
 -- ---- the marks for the next step
 
-module _ {sizes : List ℕ} {r : Reach} {all-open : Bool} {fields : ℕ} {old grid : List ℤ} {marks : List ℕ} where
-  pub renewed-some : {marks′ : List ℕ} → not all-open ≡ true → marks′ ≡ marks-of (opened sizes (bounds-of r (length sizes)) fields old grid) (product sizes) → Renewed sizes r all-open fields old grid marks marks′
-  renewed-some e q = record { is = q ∙ ap (λ (b : Bool). cond b marks (marks-of (opened sizes (bounds-of r (length sizes)) fields old grid) (product sizes))) (sym (not-true all-open e)) }
+module _ {sizes : List ℕ} {bounds : Bounds} {backs : List ℕ} {listed : ℕ} {all-open : Bool} {fields : ℕ} {old grid : List ℤ} {marks : List ℕ} where
+  pub renewed-some : {marks′ : List ℕ} → not all-open ≡ true → Marks sizes bounds backs listed fields old grid marks′
+      → Renewed sizes bounds backs listed all-open fields old grid marks marks′
+  renewed-some e q = record { is = λ dss w. q .says dss w ∙ ap (λ (b : Bool). cond b marks (marks-of (opened sizes dss fields old grid) (product sizes))) (sym (not-true all-open e)) }
 
-  pub renewed-all : not all-open ≡ false → Renewed sizes r all-open fields old grid marks marks
-  renewed-all e = record { is = ap (λ (b : Bool). cond b marks (marks-of (opened sizes (bounds-of r (length sizes)) fields old grid) (product sizes))) (sym (not-false all-open e)) }
+  pub renewed-all : not all-open ≡ false → Renewed sizes bounds backs listed all-open fields old grid marks marks
+  renewed-all e = record { is = λ dss w. ap (λ (b : Bool). cond b marks (marks-of (opened sizes dss fields old grid) (product sizes))) (sym (not-false all-open e)) }
 
 -- ---- the open cells of the definition
 
@@ -126,7 +137,7 @@ open-every p sizes old new c = or-yes (running p sizes .timed)
 -- where no block is set and `time` does not stand in the source, the open cells are those that are pending
 touched-self : (p : Program) (sizes : List ℕ) (grid : List ℤ) (c : ℕ) → touched (running p sizes) grid grid c ≡ false
 unfolding running automaton touched changed
-touched-self p sizes grid c = any-none (λ x. differ (cell-of (length (p .fields)) grid x) (cell-of (length (p .fields)) grid x)) (reach-of sizes (box-indices (reach p)) c) (λ x. differ-self (cell-of (length (p .fields)) grid x))
+touched-self p sizes grid c = any-none (λ x. differ (cell-of (length (p .fields)) grid x) (cell-of (length (p .fields)) grid x)) (reach-of sizes (reach p) c) (λ x. differ-self (cell-of (length (p .fields)) grid x))
 
 or-no : (b : Bool) → (b || false) ≡ b
 or-no true = refl
@@ -136,10 +147,31 @@ open-pending : (p : Program) (sizes : List ℕ) (o : ℕ → Bool) (grid : List 
 unfolding running automaton open-in
 open-pending p sizes o grid c e = ap₂ (λ (a b : Bool). a || (o c || b)) e (touched-self p sizes grid c) ∙ or-no (o c)
 
+-- the reach record of a program has the own cell, and is its box if it has as many places
+pub runs-sound : {words : List ℕ} {rule : Rule} {r : Reach} {all-open : Bool} {p : Program} → Runs words rule r all-open p → Sound r (rule .dims)
+unfolding reach
+runs-sound {words} {rule} {r} {all-open} {p} h = record {
+  own = subst₂ (λ (d : ℕ) (dss : List (List ℤ)). List·Memᴰ (own-place d) dss) (h .holds .dims) (ap₂ reach-from (h .reaches) (h .lists)) (reach-covers p .own);
+  full = λ ps e n ds.
+      subst (λ (bs : List Bound). List·Memᴰ ds ps ↔ List·Memᴰ ds (box-indices bs)) (h .reaches)
+      (places-box p ps (h .lists ∙ e) (n ∙ ap (λ (bs : List Bound). product (map width bs)) (sym (h .reaches))) ds);
+}
+
 -- the leaf table can be filled
 pub fill-ready : {words : List ℕ} {rule : Rule} {sizes : List ℕ} {r : Reach} {grid scratch : List ℤ} {marks : List ℕ} {start steps : ℕ} → Begins words rule sizes r grid scratch marks start steps
     → (4 * rule .tokens ≤ length words) × (rule .tokens ≤ 4096) × (length sizes ≤ 3) × Positive sizes
 fill-ready b = (b .rule-fits .table, b .rule-fits .tokens, omega (arith, b .shaped .dims, b .rule-fits .dims), b .shaped .positive)
+
+-- the way that the open cells are marked can be set
+pub prepared : {words : List ℕ} {rule : Rule} {sizes : List ℕ} {r : Reach} {grid scratch : List ℤ} {marks : List ℕ} {start steps : ℕ} → Begins words rule sizes r grid scratch marks start steps
+    → Prepared sizes (r .bounds)
+prepared b = record {
+  dims = omega (arith, b .shaped .dims, b .rule-fits .dims);
+  some-dims = omega (arith, b .shaped .dims, b .some-dims);
+  positive = b .shaped .positive;
+  cells = b .shaped .cells;
+  near = b .near;
+}
 
 module _ {words : List ℕ} {rule : Rule} {sizes : List ℕ} {r : Reach} {all-open : Bool} {grid₀ scratch₀ : List ℤ} {marks₀ : List ℕ} {start steps : ℕ}
     (begins : Begins words rule sizes r grid₀ scratch₀ marks₀ start steps) where
@@ -230,28 +262,33 @@ module _ {words : List ℕ} {rule : Rule} {sizes : List ℕ} {r : Reach} {all-op
             by true e = s .old refl c l ∙ ap (chosen c) e
             by false e = s .old refl c l ∙ ap (chosen c) e ∙ now .still c l (marked-is false marks c e refl)
 
-        pub mark-ready : marking.Ready sizes r (rule .fields) scratch′ grid′ marks
-        mark-ready =
+        pub mark-ready : {backs : List ℕ} {listed : ℕ} → WayOf sizes r backs listed → marking.Ready sizes (r .bounds) backs listed (rule .fields) scratch′ grid′ marks
+        mark-ready way =
             record {
-              dims = omega (arith, begins .shaped .dims, begins .rule-fits .dims);
-              some-dims = omega (arith, begins .shaped .dims, begins .some-dims);
-              positive = begins .shaped .positive;
-              cells = begins .shaped .cells;
+              prepared = prepared begins;
+              led = way .led;
               few = begins .rule-fits .fields;
               old-fits = s .scratch-size ∙ now .scratch-size ∙ sym (begins .shaped .entries);
               grid-fits = s .grid-size ∙ now .grid-size ∙ sym (begins .shaped .entries);
               marks-fit = now .marks-size;
               plain = now .plain;
               still = λ c l z. old-cell c l ∙ sym (s .kept c l (unmarked marks c z));
-              near = begins .near;
             }
 
-        module _ {marks′ : List ℕ} (renewed : Renewed sizes r all-open (rule .fields) scratch′ grid′ marks marks′) where
-          abbrev bounds : List Bound
-          bounds = bounds-of r (length sizes)
+        module _ {backs : List ℕ} {listed : ℕ} (way : WayOf sizes r backs listed) {marks′ : List ℕ} (renewed : Renewed sizes (r .bounds) backs listed all-open (rule .fields) scratch′ grid′ marks marks′) where
+          abbrev dss : List (List ℤ)
+          dss = indices-of r (length sizes)
 
-          like : Alike sizes bounds
-          like = alike-length sizes bounds (length-list-of (bound-at r) (length sizes))
+          sound : Sound r (length sizes)
+          sound = subst (Sound r) (sym (begins .shaped .dims)) (begins .sound)
+
+          ways : Ways sizes (r .bounds) backs listed dss
+          ways = way .ways sound
+
+          -- they are the program's reach
+          reach-is : (p : Program) → Runs words rule r all-open p → dss ≡ reach p
+          unfolding reach
+          reach-is p runs = ap (indices-of r) (begins .shaped .dims) ∙ sym (ap₂ reach-from (runs .reaches) (runs .lists))
 
           -- by whether all cells are open: the marks, and what a cell with mark 0 has in scratch
           record Next : Type 0 where
@@ -262,9 +299,9 @@ module _ {words : List ℕ} {rule : Rule} {sizes : List ℕ} {r : Reach} {all-op
             pub opens : (p : Program) → Runs words rule r all-open p → marks′ ≡ marks-of (open-in (running p sizes) (touched (running p sizes) grid grid′) grid′ grid′) (product sizes)
 
           next : Next
-          next = by all-open refl (renewed .is)
+          next = by all-open refl (renewed .is dss ways)
             where
-              by : (b : Bool) → all-open ≡ b → marks′ ≡ cond b marks (marks-of (opened sizes bounds (rule .fields) scratch′ grid′) (product sizes)) → Next
+              by : (b : Bool) → all-open ≡ b → marks′ ≡ cond b marks (marks-of (opened sizes dss (rule .fields) scratch′ grid′) (product sizes)) → Next
               by true e q =
                   let is : marks′ ≡ marks-of every-cell (product sizes) = q ∙ now .all-marked e in
                   record {
@@ -278,15 +315,15 @@ module _ {words : List ℕ} {rule : Rule} {sizes : List ℕ} {r : Reach} {all-op
                   record {
                     size = ap length q ∙ marks-length _ (product sizes);
                     plain = marks-plain _ (product sizes) marks′ q;
-                    still = λ c l z. not-opened sizes bounds like (begins .shaped .positive) (rule .fields) scratch′ grid′ c l (shut _ (product sizes) marks′ q c l z);
+                    still = λ c l z. not-opened sizes dss (ways .alike) (begins .shaped .positive) (rule .fields) (sound .own) scratch′ grid′ c l (shut _ (product sizes) marks′ q c l z);
                     all = λ t. never (sym e ∙ t);
                     opens = λ p runs. q ∙ same-marks p runs;
                   }
                 where
-                  same-marks : (p : Program) → Runs words rule r all-open p → marks-of (opened sizes bounds (rule .fields) scratch′ grid′) (product sizes) ≡ marks-of (open-in (running p sizes) (touched (running p sizes) grid grid′) grid′ grid′) (product sizes)
+                  same-marks : (p : Program) → Runs words rule r all-open p → marks-of (opened sizes dss (rule .fields) scratch′ grid′) (product sizes) ≡ marks-of (open-in (running p sizes) (touched (running p sizes) grid grid′) grid′ grid′) (product sizes)
                   same-marks p runs = marks-same _ _ (product sizes)
-                      (λ c l. opened-same sizes bounds like (begins .shaped .positive) (rule .fields) scratch′ grid grid′ old-cell c l
-                      ∙ ap₂ (λ (bs : List Bound) (f : ℕ). opened sizes bs f grid grid′ c) (ap (bounds-of r) (begins .shaped .dims) ∙ sym (runs .reaches)) (sym (held-fields p (runs .holds)))
+                      (λ c l. opened-same sizes dss (ways .alike) (begins .shaped .positive) (rule .fields) scratch′ grid grid′ old-cell c l
+                      ∙ ap₂ (λ (ds : List (List ℤ)) (f : ℕ). opened sizes ds f grid grid′ c) (reach-is p runs) (sym (held-fields p (runs .holds)))
                       ∙ sym (pending-is p sizes grid grid′ c)
                       ∙ sym (open-pending p sizes (touched (running p sizes) grid grid′) grid′ c (runs .timed ∙ e)))
 

@@ -12,13 +12,15 @@ use Rattle.automaton.specs.Going.{Going}
 use Rattle.program.specs.Syntax.{Program}
 use Rattle.semantics.specs.declared.Rule.{Rule}
 use Rattle.semantics.specs.Stands.{Holds}
+use Rattle.semantics.specs.Places.{places}
+use Rattle.stepper.specs.declared.Bounds.{Bounds}
 use Rattle.stepper.specs.declared.Reach.{Reach}
-use Rattle.stepper.specs.Reach.{reach, running}
+use Rattle.stepper.specs.Reach.{box, running}
 use Rattle.stepper.specs.Report as report
 use Rattle.stepper.specs.Report.{ended}
 use Rattle.stepper.specs.Locality.{Flagged}
-use Rattle.stepper.specs.Fitting.{Sized, Shaped, bounds-of, Near}
-use Rattle.marking.specs.Opened.{opened}
+use Rattle.stepper.specs.Fitting.{Sized, Shaped, bounds-of, Near, places-of}
+use Rattle.marking.specs.Opened.{opened, Ways, Sound}
 use Rattle.iteration.specs.declared.Report.{Report}
 
 -- what a run asks of its numbers; nothing is asked of what the table holds
@@ -28,22 +30,24 @@ pub record Begins (words : List ℕ) (rule : Rule) (sizes : List ℕ) (r : Reach
   pub shaped : Shaped rule sizes (length grid)
   pub scratch-fits : length scratch ≡ length grid
   pub marks-fit : length marks ≡ product sizes
-  pub near : Near sizes r
+  pub near : Near sizes (r .bounds)
+  pub sound : Sound r (rule .dims)
   pub times : start + steps ≤ 2147483647
 
 -- the program stands in the table with this reach; all cells are open in every step exactly if its flag `timed` is set, which it is
 -- where `time` stands in its statements
 pub record Runs (words : List ℕ) (rule : Rule) (r : Reach) (all-open : Bool) (p : Program) : Type 0 where
   pub holds : Holds words rule p
-  pub reaches : reach p ≡ bounds-of r (rule .dims)
+  pub reaches : box p ≡ bounds-of (r .bounds) (rule .dims)
+  pub lists : places p ≡ places-of r (rule .dims)
   pub timed : p .timed ≡ all-open
   pub flagged : Flagged p
 
 -- ---- the marks for the next step
 
--- the marks stay, where all cells are open; else they are those of the cells that the step opened
-pub record Renewed (sizes : List ℕ) (r : Reach) (all-open : Bool) (fields : ℕ) (old grid : List ℤ) (marks marks′ : List ℕ) : Type 0 where
-  pub is : marks′ ≡ cond all-open marks (marks-of (opened sizes (bounds-of r (length sizes)) fields old grid) (product sizes))
+-- the marks stay, where all cells are open; else they are those of the cells that the step opened, for the index vectors that the way stands for
+pub record Renewed (sizes : List ℕ) (bounds : Bounds) (backs : List ℕ) (listed : ℕ) (all-open : Bool) (fields : ℕ) (old grid : List ℤ) (marks marks′ : List ℕ) : Type 0 where
+  pub is : (dss : List (List ℤ)) → Ways sizes bounds backs listed dss → marks′ ≡ cond all-open marks (marks-of (opened sizes dss fields old grid) (product sizes))
 
 -- ---- the loop
 

@@ -5,7 +5,9 @@ use crate::Report;
 use leaf_table::fill_leaves;
 use marked_cells::rooms::mark_all;
 use marking::mark_open;
+use marking::ways::set_ways;
 use semantics::Rule;
+use stepper::Bounds;
 use stepper::Reach;
 use stepping::Step;
 use stepping::steps::step;
@@ -13,18 +15,20 @@ use stepping::steps::step;
 // The marks for the next step: all cells stay open, or those are marked that the last step opened. `old` holds the fields before it.
 fn renew_marks(
     sizes: &[u32],
-    reach: Reach,
+    bounds: Bounds,
+    backs: &[u32],
+    listed: usize,
     all_open: bool,
     fields: usize,
     old: &[i32],
     grid: &[i32],
     marks: &mut [u8],
 )
-    requires { ⌜ marking.Ready (now sizes) reach fields (now old) (now grid) (now marks) ⌝ }
-    ensures { λ _. ⌜ Renewed (now (sizes .entry)) reach all_open fields (now (old .entry)) (now (grid .entry)) (now (marks .entry)) (now (marks .exit)) ⌝ }
+    requires { ⌜ marking.Ready (now sizes) bounds (now backs) listed fields (now old) (now grid) (now marks) ⌝ }
+    ensures { λ _. ⌜ Renewed (now (sizes .entry)) bounds (now (backs .entry)) listed all_open fields (now (old .entry)) (now (grid .entry)) (now (marks .entry)) (now (marks .exit)) ⌝ }
 {
     if !all_open {
-        mark_open(sizes, reach, fields, old, grid, marks);
+        mark_open(sizes, bounds, backs, listed, fields, old, grid, marks);
     }
 }
 
@@ -55,6 +59,8 @@ pub fn run_steps(
         rule.slots as usize,
         &mut leaves,
     );
+    let mut backs = [0u32; 768];
+    let listed = set_ways(sizes, reach, &mut backs);
     mark_all(marks);
     let mut done: u32 = 0;
     let mut count: u64 = 0;
@@ -84,7 +90,18 @@ pub fn run_steps(
                 };
             }
         }
-        renew_marks(sizes, reach, all_open, fields, scratch, grid, marks);
+        let bounds = reach.bounds;
+        renew_marks(
+            sizes,
+            bounds,
+            &backs,
+            listed,
+            all_open,
+            fields,
+            scratch,
+            grid,
+            marks,
+        );
         done += 1;
     }
     Report {

@@ -20,7 +20,7 @@ use Rattle.grammar.specs.Statements.{read-block}
 use Rattle.grammar.specs.Source.{Declared, read-cell, most-open, input-of, start-state, Accepted, accepted-as, finish, read-program, what-is-read, parse}
 use Rattle.semantics.specs.declared.Rule.{Rule}
 use Rattle.semantics.specs.Stands.{Holds, table-of, rule-table}
-use Rattle.semantics.specs.Written.{written-in}
+use Rattle.semantics.specs.Written.{relatives-in}
 use Rattle.semantics.specs.Listing.{Writes}
 use Rattle.linking.specs.Steps.{Gives, bind, no-end}
 use Rattle.linking.specs.Runs.{tokens}
@@ -105,10 +105,10 @@ holds source a p =
 
 -- the indices that are written in it are those of the tokens from its first statement on
 pub written : (source : List ℕ) (a : Accepted) (p : Parsed source a)
-    → Writes (rule-table (a .words) (rule-of source a p)) [] (rule-of source a p .body) (rule-of source a p .tokens) (written-in (a .program))
-unfolding written-in
+    → Writes (rule-table (a .words) (rule-of source a p)) [] (rule-of source a p .body) (rule-of source a p .tokens) (relatives-in (a .program))
+unfolding relatives-in
 written source a p =
-    subst (λ (z : Accepted). Writes (table-of (z .words) (tokens (input-of source)) (z .program .dims)) [] (p .s₂ .at) (tokens (input-of source)) (written-in (z .program)))
+    subst (λ (z : Accepted). Writes (table-of (z .words) (tokens (input-of source)) (z .program .dims)) [] (p .s₂ .at) (tokens (input-of source)) (relatives-in (z .program)))
     (sym (p .is)) (p .linked .indices)
 
 -- its flag `timed` is set where `time` stands in its statements

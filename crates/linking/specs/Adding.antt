@@ -11,7 +11,7 @@ use borrow.Author.Tests.{lt-ltb, le-ltb, ne-eqb, not-true}
 use Rattle.value.specs.Laws.{never}
 use Rattle.token.specs.Kind.{kind, level-of}
 use Rattle.program.specs.Syntax.{Range}
-use Rattle.semantics.specs.Written.{Written, written-in-index}
+use Rattle.semantics.specs.Written.{Relative, relative-of}
 use Rattle.semantics.specs.Stands.{Table, range-in, indices-in, most-loops, is-sign, is-unary}
 use Rattle.semantics.specs.Listing.{is-index, behind, written-at, written-from, Writes}
 
@@ -43,15 +43,15 @@ plain-of c e q = ap plain-kind e ∙ q
 
 -- ---- parts of a table
 
-pub append-none : (ws : List Written) → ws ++ [] ≡ ws
+pub append-none : (ws : List Relative) → ws ++ [] ≡ ws
 append-none [] = refl
-append-none (w ∷ ws) = ap (λ (vs : List Written). w ∷ vs) (append-none ws)
+append-none (w ∷ ws) = ap (λ (vs : List Relative). w ∷ vs) (append-none ws)
 
 module _ (t : Table) (loops : List Range) where
   -- what is written from a position up to the next comes before what is written behind it
-  pub record Adds (at next : ℕ) (ws : List Written) : Type 0 where
+  pub record Adds (at next : ℕ) (ws : List Relative) : Type 0 where
     pub forward : at ≤ next
-    pub adds : (to : ℕ) (vs : List Written) → next ≤ to → Writes t loops next to vs → Writes t loops at to (ws ++ vs)
+    pub adds : (to : ℕ) (vs : List Relative) → next ≤ to → Writes t loops next to vs → Writes t loops at to (ws ++ vs)
 
   pub nothing-left : (at : ℕ) → Writes t loops at at []
   unfolding written-from
@@ -62,36 +62,36 @@ module _ (t : Table) (loops : List Range) where
       says (suc fuel) l = rw (le-ltb at at (le-refl at))
 
   -- up to where it ends
-  pub all-of : {at to : ℕ} {ws : List Written} → Adds at to ws → Writes t loops at to ws
-  all-of {at} {to} {ws} a = subst (λ (vs : List Written). Writes t loops at to vs) (append-none ws) (a .adds to [] (le-refl to) (nothing-left to))
+  pub all-of : {at to : ℕ} {ws : List Relative} → Adds at to ws → Writes t loops at to ws
+  all-of {at} {to} {ws} a = subst (λ (vs : List Relative). Writes t loops at to vs) (append-none ws) (a .adds to [] (le-refl to) (nothing-left to))
 
   pub adds-none : (at : ℕ) → Adds at at []
   adds-none at = record { forward = le-refl at; adds = λ to vs l w. w }
 
-  pub adds-both : {at mid next : ℕ} {ws vs : List Written} → Adds at mid ws → Adds mid next vs → Adds at next (ws ++ vs)
+  pub adds-both : {at mid next : ℕ} {ws vs : List Relative} → Adds at mid ws → Adds mid next vs → Adds at next (ws ++ vs)
   adds-both {at} {mid} {next} {ws} {vs} a b =
       record {
         forward = omega (arith, a .forward, b .forward);
         adds =
-            λ to us l w. subst (λ (xs : List Written). Writes t loops at to xs) (sym (append-assoc ws vs us))
+            λ to us l w. subst (λ (xs : List Relative). Writes t loops at to xs) (sym (append-assoc ws vs us))
             (a .adds to (vs ++ us) (omega (arith, b .forward)) (b .adds to us l w));
       }
 
-  pub adds-as : {at next : ℕ} {ws vs : List Written} → ws ≡ vs → Adds at next ws → Adds at next vs
+  pub adds-as : {at next : ℕ} {ws vs : List Relative} → ws ≡ vs → Adds at next ws → Adds at next vs
   adds-as {at} {next} e a = subst (Adds at next) e a
 
   -- what follows writes nothing
-  pub then-none : {at mid next : ℕ} {ws : List Written} → Adds at mid ws → Adds mid next [] → Adds at next ws
+  pub then-none : {at mid next : ℕ} {ws : List Relative} → Adds at mid ws → Adds mid next [] → Adds at next ws
   then-none {ws = ws} a b = adds-as (append-none ws) (adds-both a b)
 
   -- ---- one step
 
   -- what stands at a position writes these, with enough fuel
-  record Here (at : ℕ) (ws : List Written) : Type 0 where
+  record Here (at : ℕ) (ws : List Relative) : Type 0 where
     pub enough : ℕ
     pub says : (fuel : ℕ) → enough ≤ fuel → written-at t loops at (written-from fuel t (loops ++ (range-in t (at + 1) ∷ [])) (t .inner at) (t .past at)) ≡ ws
 
-  step : {at next : ℕ} {ws : List Written} → at < next → behind t at ≡ next → Here at ws → Adds at next ws
+  step : {at next : ℕ} {ws : List Relative} → at < next → behind t at ≡ next → Here at ws → Adds at next ws
   unfolding written-from
   step {at} {next} {ws} l e h =
       record {
@@ -99,12 +99,12 @@ module _ (t : Table) (loops : List Range) where
         adds = λ to vs m w. record { enough = suc (h .enough + w .enough); says = says to vs m w };
       }
     where
-      says : (to : ℕ) (vs : List Written) → next ≤ to → (w : Writes t loops next to vs) (fuel : ℕ) → suc (h .enough + w .enough) ≤ fuel
+      says : (to : ℕ) (vs : List Relative) → next ≤ to → (w : Writes t loops next to vs) (fuel : ℕ) → suc (h .enough + w .enough) ≤ fuel
           → written-from fuel t loops at to ≡ ws ++ vs
       says to vs m w zero o = absurd (omega arith)
       says to vs m w (suc fuel) o =
           let b : ltb at to ≡ true = lt-ltb at to (omega arith) in
-          rw b (ap₂ (λ (x y : List Written). x ++ y) (h .says fuel (omega arith)) (ap (λ (i : ℕ). written-from fuel t loops i to) e ∙ w .says fuel (omega arith)))
+          rw b (ap₂ (λ (x y : List Relative). x ++ y) (h .says fuel (omega arith)) (ap (λ (i : ℕ). written-from fuel t loops i to) e ∙ w .says fuel (omega arith)))
 
   -- ---- each form
 
@@ -127,7 +127,7 @@ module _ (t : Table) (loops : List Range) where
     adds-bracket k w = step (omega arith) (rw (k, w)) (record { enough = 0; says = λ fuel l. rw (k, w) })
 
     pub adds-index : {next : ℕ} → t .kind at ≡ kind .bracket → 0 < t .word3 at → t .past at ≡ next → at < next
-        → Adds at next (written-in-index loops 0 (indices-in t (t .dims) (at + 1)))
+        → Adds at next (relative-of loops (indices-in t (t .dims) (at + 1)))
     unfolding behind is-index written-at
     adds-index k w e l = let b : ltb 0 (t .word3 at) ≡ true = lt-ltb 0 (t .word3 at) w in step l (rw (k, b) e) (record { enough = 0; says = λ fuel m. rw (k, b) })
 
@@ -135,7 +135,7 @@ module _ (t : Table) (loops : List Range) where
     unfolding behind is-index written-at
     adds-constant k e l = step l (rw k e) (record { enough = 0; says = λ fuel m. rw k })
 
-    pub adds-loop : {r : Range} {inner next : ℕ} {ws : List Written} → t .kind at ≡ kind .forall-word → length loops < most-loops → r ≡ range-in t (at + 1)
+    pub adds-loop : {r : Range} {inner next : ℕ} {ws : List Relative} → t .kind at ≡ kind .forall-word → length loops < most-loops → r ≡ range-in t (at + 1)
         → t .inner at ≡ inner → t .past at ≡ next → at < next → Writes t (loops ++ (r ∷ [])) inner next ws → Adds at next ws
     unfolding behind is-index written-at
     adds-loop {r} {inner} {next} {ws} k few a i e l w =

@@ -18,7 +18,7 @@ use Rattle.grammar.specs.Reader.{Input, State, Reader, return, Turn, again, don
 use Rattle.grammar.specs.Expressions.{Cell}
 use Rattle.grammar.specs.Statements.{old-variable, new-variable, named-target, field-target, read-target, target-number, clause, when-clause, clause-end, clause-turn, read-assignment}
 use Rattle.semantics.specs.Stands.{Table, table-of, word-in, ExprAt, target-in, first-clause, ClausesAt, assigns, Stands}
-use Rattle.semantics.specs.Written.{written-in-expr, written-in-condition, written-in-clauses, written-in-block}
+use Rattle.semantics.specs.Written.{relatives-in-expr, relatives-in-condition, relatives-in-clauses, relatives-in-block}
 use Rattle.linking.specs.Steps.{advanced, written, named, Gives, gave, refused, refused-last, bind, made, regroup, choose, at-position, at-token, at-state, at-entry, over, wrote, wrote-both, named-it, by-found, expected, forbidden, Turned, repeated}
 use Rattle.linking.specs.Runs.{tokens, Text, Sound, Run, stay, join, go-on, write-first, word-other}
 use Rattle.linking.specs.Naming.{of-kind, head-is, name-it}
@@ -122,7 +122,7 @@ module _ {input : Input} {text : List ℕ} (T : Text input text) (cell : Cell) (
     pub are : all ≡ got ++ these
     pub proper : ProperClauses these
     pub stand : Claim input text (cell .dims) s t (λ tb. ClausesAt tb these (s .at))
-    pub adds : Claim input text (cell .dims) s t (λ tb. (loops : List Range) → Adds tb loops (s .at) (t .at) (written-in-clauses loops these))
+    pub adds : Claim input text (cell .dims) s t (λ tb. (loops : List Range) → Adds tb loops (s .at) (t .at) (relatives-in-clauses loops these))
 
   module _ (expr : Reader Expr) (reads : ReadsLevel T cell some-dims 1 expr) where
     -- a clause's `:=` and expression are read, from s up to u
@@ -204,14 +204,14 @@ module _ {input : Input} {text : List ℕ} (T : Text input text) (cell : Cell) (
 
       -- the `:=` and the expression
       begun-adds : {wf : List ℕ} {t : State} → View input text (cell .dims) wf s t → View input text (cell .dims) wf (advanced s) u → (loops : List Range)
-          → Adds (table-of wf (tokens input) (cell .dims)) loops (s .at) (u .at) (written-in-expr loops e)
+          → Adds (table-of wf (tokens input) (cell .dims)) loops (s .at) (u .at) (relatives-in-expr loops e)
       unfolding plain-kind
       begun-adds {wf} v v₁ loops =
           adds-both _ loops (adds-plain _ loops (s .at) (plain-of (kind .assign) (view-kind v (b .sound) (s .at) ∙ eqb-true _ _ (b .assigned)) refl)) (b .stands wf v₁ .1 loops)
 
       plain-adds : {t : State} → Run input text u t → AddsNone T (cell .dims) u t → (loops : List Range)
-          → Claim input text (cell .dims) s (written t (s .at) 3 (t .at)) (λ tb. Adds tb loops (s .at) (t .at) (written-in-clauses loops (clause (token-of input s (s .at)) e none ∷ [])))
-      unfolding written-in-clauses written-in-condition
+          → Claim input text (cell .dims) s (written t (s .at) 3 (t .at)) (λ tb. Adds tb loops (s .at) (t .at) (relatives-in-clauses loops (clause (token-of input s (s .at)) e none ∷ [])))
+      unfolding relatives-in-clauses relatives-in-condition
       plain-adds {t} r a loops wf v =
           let v₁ : View input text (cell .dims) wf (advanced s) t = unwritten (s .at) 3 (t .at) (inner-part v) (omega arith) (omega arith) in
           adds-both _ loops (begun-adds v (first-part v₁ r) loops) (a wf (second-part (go-on (b .sound) inside .sound) v₁ (b .run) r) loops)
@@ -247,9 +247,9 @@ module _ {input : Input} {text : List ℕ} (T : Text input text) (cell : Cell) (
 
       guarded-adds : {c : Expr} {w : State} (g : Guarded s u c w) (rest : List Clause) {wf : List ℕ}
           → View input text (cell .dims) wf s (written (written w (s .at) 2 (u .at + 1)) (s .at) 3 (w .at)) → (loops : List Range) {next : ℕ}
-          → Adds (table-of wf (tokens input) (cell .dims)) loops (w .at) next (written-in-clauses loops rest)
-          → Adds (table-of wf (tokens input) (cell .dims)) loops (s .at) next (written-in-clauses loops (clause (token-of input s (s .at)) e (some c) ∷ rest))
-      unfolding written-in-clauses written-in-condition plain-kind
+          → Adds (table-of wf (tokens input) (cell .dims)) loops (w .at) next (relatives-in-clauses loops rest)
+          → Adds (table-of wf (tokens input) (cell .dims)) loops (s .at) next (relatives-in-clauses loops (clause (token-of input s (s .at)) e (some c) ∷ rest))
+      unfolding relatives-in-clauses relatives-in-condition plain-kind
       guarded-adds {c} {w} g rest {wf} v loops more =
           let v₁ = first-behind T (cell .dims) (b .sound) (whole (guarded-run g)) (noted-far g) (u .at + 1) (w .at) v in
           let v₂ = second-part (go-on (b .sound) inside .sound) v₁ (join (b .run) (g .over-when)) (g .run) in
@@ -259,7 +259,7 @@ module _ {input : Input} {text : List ℕ} (T : Text input text) (cell : Cell) (
     -- ---- all clauses
 
     clauses-gives : {s : State} → Sound input text s → Gives input (repeat turns (clause-turn expr) []) s (Clauses [] s)
-    unfolding clause-turn written-in-clauses
+    unfolding clause-turn relatives-in-clauses
     clauses-gives {s} x = repeated (clause-turn expr) turn turns [] s x
       where
         finish : (got : List Clause) (s : State) (e : Expr) (u : State) → Begun s e u → (k : Turn (List Clause) (List Clause)) (t : State) → Ending got s e u k t → Turned (λ _ t. Sound input text t) Clauses got s k (written t (s .at) 3 (t .at))
@@ -319,7 +319,7 @@ module _ {input : Input} {text : List ℕ} (T : Text input text) (cell : Cell) (
   -- the indices written in a list of statements are those from a position on, if those in a last part of it are from another on
   abbrev pub AddsStatement : Table → ℕ → Block → ℕ → Block → ℕ → Type 0
   AddsStatement tb depth rest at′ all at =
-      (loops : List Range) → length loops ≡ depth → (next : ℕ) → Adds tb loops at′ next (written-in-block loops rest) → Adds tb loops at next (written-in-block loops all)
+      (loops : List Range) → length loops ≡ depth → (next : ℕ) → Adds tb loops at′ next (relatives-in-block loops rest) → Adds tb loops at next (relatives-in-block loops all)
 
   -- a statement: it stands where it is read, if what follows stands behind it
   pub record Statement (depth : ℕ) (s : State) (statement : Block → Block) (t : State) : Type 0 where
@@ -330,7 +330,7 @@ module _ {input : Input} {text : List ℕ} (T : Text input text) (cell : Cell) (
     pub adds : (rest : Block) → Claim input text (cell .dims) s t (λ tb. AddsStatement tb depth rest (t .at) (statement rest) (s .at))
 
   pub assignment-gives : (depth : ℕ) (expr : Reader Expr) → ReadsLevel T cell some-dims 1 expr → {s : State} → Sound input text s → is-name (token-of input s (s .at)) ≡ true → Gives input (read-assignment cell expr) s (Statement depth s)
-  unfolding read-assignment Stands assigns target-in is-name written-in-block
+  unfolding read-assignment Stands assigns target-in is-name relatives-in-block
   assignment-gives depth expr reads {s} x q =
       let r₁ = go-on x (is-name-inside x (s .at) q) in
       at-position _
@@ -361,7 +361,7 @@ module _ {input : Input} {text : List ℕ} (T : Text input text) (cell : Cell) (
         adds = λ rest wf v loops _ next more.
             let v₁ = first-behind T (cell .dims) x r far (target-number to) (u .at) v in
             adds-both _ loops
-            (subst (λ (l : List Clause). Adds (table-of wf (tokens input) (cell .dims)) loops (s .at) (u .at) (written-in-clauses loops l)) (sym (c .are))
+            (subst (λ (l : List Clause). Adds (table-of wf (tokens input) (cell .dims)) loops (s .at) (u .at) (relatives-in-clauses loops l)) (sym (c .are))
             (adds-both _ loops
             (adds-both _ loops (adds-plain _ loops (s .at) (rw (view-kind v x (s .at)) (plain-name T (cell .dims) (token-of input s (s .at) .kind) q))) (a .0 .adds wf (first-part v₁ (c .run)) loops))
             (c .adds wf (second-part (r₁ .sound) v₁ (a .0 .run) (c .run)) loops)))

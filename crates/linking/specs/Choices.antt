@@ -15,7 +15,7 @@ use Rattle.grammar.specs.Reader.{Input, State, Reader, again, done, turns, toke
 use Rattle.grammar.specs.Expressions.{Cell}
 use Rattle.grammar.specs.Statements.{Arm, choices, arm-end, arm-turn, read-if}
 use Rattle.semantics.specs.Stands.{Table, table-of, word-in, linked, ElseAt, Stands, Elsif, Choice}
-use Rattle.semantics.specs.Written.{Written, written-in-expr, written-in-block}
+use Rattle.semantics.specs.Written.{Relative, relatives-in-expr, relatives-in-block}
 use Rattle.linking.specs.Steps.{advanced, written, Gives, gave, refused, bind, handed, regroup, choose, at-position, at-token, over, wrote, expected, Turned, repeated}
 use Rattle.linking.specs.Runs.{tokens, Text, Sound, Run, stay, join, go-on, write-first, word-put, word-other}
 use Rattle.linking.specs.Naming.{of-kind, token-kind}
@@ -36,7 +36,7 @@ module _ {input : Input} {text : List ℕ} (T : Text input text) (cell : Cell) (
   abbrev pub BlockRead : ℕ → State → Block → State → Type 0
   BlockRead depth s b t =
       Run input text s t × ((token-of input t (t .at) .kind ≡ kind .exit-word → ⊥) → Claim input text (cell .dims) s t (λ tb. Stands tb depth b (s .at))) × Proper b
-      × Claim input text (cell .dims) s t (λ tb. (loops : List Range) → length loops ≡ depth → Adds tb loops (s .at) (t .at) (written-in-block loops b))
+      × Claim input text (cell .dims) s t (λ tb. (loops : List Range) → length loops ≡ depth → Adds tb loops (s .at) (t .at) (relatives-in-block loops b))
 
   abbrev pub ReadsBlock : ℕ → Reader Block → Type 0
   ReadsBlock depth m = (s : State) → Sound input text s → Gives input m s (BlockRead depth s)
@@ -92,8 +92,8 @@ module _ {input : Input} {text : List ℕ} (T : Text input text) (cell : Cell) (
             }
 
         -- the indices of an arm, before those of what follows it
-        arm-adds : (loops : List Range) → length loops ≡ depth → {next : ℕ} {ws : List Written} → Adds (table-of wf (tokens input) (cell .dims)) loops (t .at) next ws
-            → Adds (table-of wf (tokens input) (cell .dims)) loops (s .at) next (written-in-expr loops c ++ (written-in-block loops d ++ ws))
+        arm-adds : (loops : List Range) → length loops ≡ depth → {next : ℕ} {ws : List Relative} → Adds (table-of wf (tokens input) (cell .dims)) loops (t .at) next ws
+            → Adds (table-of wf (tokens input) (cell .dims)) loops (s .at) next (relatives-in-expr loops c ++ (relatives-in-block loops d ++ ws))
         unfolding plain-kind
         arm-adds loops deep more =
             adds-both _ loops
@@ -116,7 +116,7 @@ module _ {input : Input} {text : List ℕ} (T : Text input text) (cell : Cell) (
       pub stands : (wf : List ℕ) → View input text (cell .dims) wf (advanced s) t → word-in wf (tokens input) 2 (s .at) ≡ word-at (t .words) (s .at) 2
           → Choice (table-of wf (tokens input) (cell .dims)) depth (arm .condition) (arm .part) (choices more last empty) (s .at)
       pub adds : (wf : List ℕ) → View input text (cell .dims) wf (advanced s) t → (loops : List Range) → length loops ≡ depth
-          → Adds (table-of wf (tokens input) (cell .dims)) loops (s .at) (t .at) (written-in-expr loops (arm .condition) ++ (written-in-block loops (arm .part) ++ written-in-block loops (choices more last empty)))
+          → Adds (table-of wf (tokens input) (cell .dims)) loops (s .at) (t .at) (relatives-in-expr loops (arm .condition) ++ (relatives-in-block loops (arm .part) ++ relatives-in-block loops (choices more last empty)))
 
     record Here (s : State) : Type 0 where
       pub sound : Sound input text s
@@ -136,7 +136,7 @@ module _ {input : Input} {text : List ℕ} (T : Text input text) (cell : Cell) (
 
       -- an `elsif` follows
       arm-elsif : is-kind (token-of input noted (noted .at)) (kind .elsif-word) ≡ true → (f : Block → Block) (z : State) → Arms (got ++ arm ∷ []) noted f z → Arms got s f z
-      unfolding choices Elsif written-in-block
+      unfolding choices Elsif relatives-in-block
       arm-elsif q f z k =
           record {
             run = join (one-run o) (k .run);
@@ -158,7 +158,7 @@ module _ {input : Input} {text : List ℕ} (T : Text input text) (cell : Cell) (
                 });
             adds = λ wf v loops deep.
                 arm-adds o (k .run) v loops deep
-                (adds-as _ loops (ap (λ (ws : List Written). written-in-expr loops (k .arm .condition) ++ (written-in-block loops (k .arm .part) ++ ws)) (sym (append-none _)))
+                (adds-as _ loops (ap (λ (ws : List Relative). relatives-in-expr loops (k .arm .condition) ++ (relatives-in-block loops (k .arm .part) ++ ws)) (sym (append-none _)))
                 (k .adds wf (view-from v (advanced noted) (omega (arith, one-far o)) (arm-known o (k .run) v)) loops deep));
           }
 
@@ -193,7 +193,7 @@ module _ {input : Input} {text : List ℕ} (T : Text input text) (cell : Cell) (
 
       -- `end` follows
       arm-last : is-kind (token-of input noted (noted .at)) (kind .end-word) ≡ true → Run input text noted (advanced noted) → Arms got s (choices (got ++ arm ∷ []) empty) (advanced noted)
-      unfolding choices plain-kind written-in-block
+      unfolding choices plain-kind relatives-in-block
       arm-last q r =
           record {
             run = join (one-run o) r;
@@ -247,7 +247,7 @@ module _ {input : Input} {text : List ℕ} (T : Text input text) (cell : Cell) (
     -- ---- the whole
 
     pub if-gives : (room : Bool) {s : State} → Sound input text s → is-kind (token-of input s (s .at)) (kind .if-word) ≡ true → Gives input (read-if room expr block) s (Statement T cell some-dims depth s)
-    unfolding read-if Stands choices plain-kind written-in-block
+    unfolding read-if Stands choices plain-kind relatives-in-block
     if-gives room {s} x q =
         choose room
         (λ _.
@@ -271,7 +271,7 @@ module _ {input : Input} {text : List ℕ} (T : Text input text) (cell : Cell) (
                 subst (λ (i : ℕ). Stands tb depth rest i) (sym (ap (linked (tokens input) (s .at)) w ∙ link-to (tokens input) (s .at) (t .at) (a .far) (a .run .sound .within))) more,
               );
           adds = λ rest wf v loops deep next more.
-              subst (λ (g : Block → Block). Adds (table-of wf (tokens input) (cell .dims)) loops (s .at) next (written-in-block loops (g rest))) (sym (a .are))
+              subst (λ (g : Block → Block). Adds (table-of wf (tokens input) (cell .dims)) loops (s .at) next (relatives-in-block loops (g rest))) (sym (a .are))
               (adds-as _ loops (simp append-assoc) (adds-both _ loops (a .adds wf (unwritten (s .at) 3 (t .at) (inner-part v) (omega arith) (omega arith)) loops deep) more));
         }))))))
         (λ _. refused 14)

@@ -12,7 +12,7 @@ use Rattle.value.specs.Worked.{decode-of}
 use Rattle.token.specs.Kind.{kind, level-of}
 use Rattle.program.specs.Syntax.{Range, Expr, number, time, variable, index, field, element, unary, binary}
 use Rattle.semantics.specs.Stands.{Table, refers, indices-in, array-in, is-unary, Decoded, parsed, nothing, and-then, decode-expression, decode-chain, decode-operand, decode-primary, decode-name, decode-bracket, ExprAt}
-use Rattle.semantics.specs.Written.{written-in-index, written-in-expr}
+use Rattle.semantics.specs.Written.{relatives-in-expr}
 use Rattle.linking.specs.Adding.{plain-kind, plain-operator, plain-unary, plain-of, Adds, adds-both, then-none, adds-plain, adds-index}
 
 -- a decoder gives an expression, up to a position
@@ -49,7 +49,7 @@ module _ (t : Table) where
 
   -- what is written from a position up to the next is what is written in an expression
   abbrev pub AddsExpr : ℕ → Expr → ℕ → Type 0
-  AddsExpr at e next = (loops : List Range) → Adds t loops at next (written-in-expr loops e)
+  AddsExpr at e next = (loops : List Range) → Adds t loops at next (relatives-in-expr loops e)
 
   abbrev pub Expression : ℕ → ℕ → Expr → ℕ → Type 0
   Expression level at e next = Decodes (λ f. decode-expression f t level at) e next × AddsExpr at e next
@@ -58,7 +58,7 @@ module _ (t : Table) where
   abbrev pub Chain : ℕ → Expr → ℕ → Expr → ℕ → Type 0
   Chain level left at e next =
       Decodes (λ f. decode-chain f t level left at) e next
-      × ((loops : List Range) (from : ℕ) → Adds t loops from at (written-in-expr loops left) → Adds t loops from next (written-in-expr loops e))
+      × ((loops : List Range) (from : ℕ) → Adds t loops from at (relatives-in-expr loops left) → Adds t loops from next (relatives-in-expr loops e))
 
   abbrev pub Operand : ℕ → Expr → ℕ → Type 0
   Operand at e next = Decodes (λ f. decode-operand f t at) e next × AddsExpr at e next
@@ -88,7 +88,7 @@ module _ (t : Table) where
   pub chain-on : (level : ℕ) (left : Expr) (at : ℕ) {right : Expr} {n₁ : ℕ} {e : Expr} {next : ℕ} → 1 ≤ level
       → ltb (level-of (t .kind at)) level ≡ false → Expression (level-of (t .kind at) + 1) (at + 1) right n₁
       → Chain level (binary (t .kind at) (t .place at) left right) n₁ e next → Chain level left at e next
-  unfolding decode-chain written-in-expr
+  unfolding decode-chain relatives-in-expr
   chain-on level left at l q x y = (
     by-two _ _ (λ f right n. decode-chain f t level (binary (t .kind at) (t .place at) left right) n) (λ f. rw q) (x .0) (y .0),
     λ loops from a.
@@ -97,7 +97,7 @@ module _ (t : Table) where
   )
 
   pub operand-unary : (at : ℕ) {e : Expr} {next : ℕ} → is-unary (t .kind at) ≡ true → Primary (at + 1) e next → Operand at (unary (t .kind at) (t .place at) e) next
-  unfolding decode-operand written-in-expr
+  unfolding decode-operand relatives-in-expr
   operand-unary at q x = (
     by-two _ _ (λ f e n. parsed (unary (t .kind at) (t .place at) e) n) (λ f. rw q) (x .0) (at-once _ (λ f. refl)),
     λ loops. adds-both t loops (adds-plain t loops at (plain-unary (t .kind at) q)) (x .1 loops),
@@ -111,7 +111,7 @@ module _ (t : Table) where
 
   module _ (at : ℕ) where
     pub primary-literal : t .kind at ≡ kind .literal → Primary at (number (decode-of (t .word2 at))) (at + 1)
-    unfolding decode-primary written-in-expr plain-kind
+    unfolding decode-primary relatives-in-expr plain-kind
     primary-literal q = (at-once _ (λ f. rw q), λ loops. adds-plain t loops at (plain-of (kind .literal) q refl))
 
     pub primary-name : {e : Expr} {next : ℕ} → t .kind at ≡ kind .name → Name at e next → Primary at e next
@@ -119,11 +119,11 @@ module _ (t : Table) where
     primary-name q x = (by-one _ _ (λ f. rw q) (x .0), x .1 q)
 
     pub primary-index : t .kind at ≡ kind .bracket → 0 < t .word3 at → at < t .past at → Primary at (field (indices-in t (t .dims) (at + 1)) (t .word2 at)) (t .past at)
-    unfolding decode-primary written-in-expr
+    unfolding decode-primary relatives-in-expr
     primary-index q w l = (at-once _ (λ f. rw q), λ loops. adds-index t loops at q w refl l)
 
     pub primary-own : t .kind at ≡ kind .cell → ((loops : List Range) → Adds t loops (at + 1) (t .past at) []) → Primary at (field [] (t .word2 at)) (t .past at)
-    unfolding decode-primary written-in-expr written-in-index plain-kind
+    unfolding decode-primary relatives-in-expr plain-kind
     primary-own q a = (at-once _ (λ f. rw q), λ loops. adds-both t loops (adds-plain t loops at (plain-of (kind .cell) q refl)) (a loops))
 
     pub primary-bracket : {e : Expr} {next : ℕ} → t .kind at ≡ kind .paren → Bracket (kind .unparen) at e next → Primary at e next
@@ -131,25 +131,25 @@ module _ (t : Table) where
     primary-bracket q x = (by-one _ _ (λ f. rw q) (x .0), x .1)
 
     pub primary-time : t .kind at ≡ kind .time → Primary at time (at + 1)
-    unfolding decode-primary written-in-expr plain-kind
+    unfolding decode-primary relatives-in-expr plain-kind
     primary-time q = (at-once _ (λ f. rw q), λ loops. adds-plain t loops at (plain-of (kind .time) q refl))
 
     -- ---- names
 
     pub name-variable : t .word2 at ≡ refers .variable → Name at (variable (t .word3 at)) (at + 1)
-    unfolding decode-name written-in-expr plain-kind
+    unfolding decode-name relatives-in-expr plain-kind
     name-variable q = (at-once _ (λ f. rw q), λ k loops. adds-plain t loops at (plain-of (kind .name) k refl))
 
     pub name-constant : t .word2 at ≡ refers .constant → Name at (number (decode-of (t .word3 at))) (at + 1)
-    unfolding decode-name written-in-expr plain-kind
+    unfolding decode-name relatives-in-expr plain-kind
     name-constant q = (at-once _ (λ f. rw q), λ k loops. adds-plain t loops at (plain-of (kind .name) k refl))
 
     pub name-index : t .word2 at ≡ refers .index → Name at (index (t .word3 at)) (at + 1)
-    unfolding decode-name written-in-expr plain-kind
+    unfolding decode-name relatives-in-expr plain-kind
     name-index q = (at-once _ (λ f. rw q), λ k loops. adds-plain t loops at (plain-of (kind .name) k refl))
 
     pub name-array : {e : Expr} {next : ℕ} → t .word2 at ≡ refers .array → t .kind (at + 1) ≡ kind .bracket → Bracket (kind .unbracket) (at + 1) e next → Name at (element (t .place (at + 1)) (array-in t (t .word3 at)) e) next
-    unfolding decode-name written-in-expr plain-kind
+    unfolding decode-name relatives-in-expr plain-kind
     name-array q k x = (
       by-two _ _ (λ f e n. parsed (element (t .place (at + 1)) (array-in t (t .word3 at)) e) n) (λ f. rw (q, k)) (x .0) (at-once _ (λ f. refl)),
       λ n loops. adds-both t loops (adds-plain t loops at (plain-of (kind .name) n refl)) (x .1 loops),

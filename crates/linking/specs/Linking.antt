@@ -24,7 +24,7 @@ use Rattle.grammar.specs.Constants.{read-constants}
 use Rattle.grammar.specs.Statements.{read-block}
 use Rattle.grammar.specs.Source.{Declared, read-cell, most-open, input-of, start-state, has-kind}
 use Rattle.semantics.specs.Stands.{table-of, word-in, ranges-in, Stands}
-use Rattle.semantics.specs.Written.{written-in-block}
+use Rattle.semantics.specs.Written.{relatives-in-block}
 use Rattle.semantics.specs.Listing.{Writes}
 use Rattle.linking.specs.Runs.{tokens, head-at, span-at, Text, Signable, Sound, Run, join}
 use Rattle.linking.specs.Constants.{constants-gives}
@@ -175,7 +175,7 @@ pub record Linked (source : List ℕ) (s₁ s₂ s₃ : State) (d : Declared) (b
   -- the statements stand in the table that is left
   pub body : Stands (table-of (s₃ .words) (tokens (input-of source)) (d .cell .dims)) 0 b (s₂ .at)
   -- the indices that are written in them are those of the tokens from there on
-  pub indices : Writes (table-of (s₃ .words) (tokens (input-of source)) (d .cell .dims)) [] (s₂ .at) (tokens (input-of source)) (written-in-block [] b)
+  pub indices : Writes (table-of (s₃ .words) (tokens (input-of source)) (d .cell .dims)) [] (s₂ .at) (tokens (input-of source)) (relatives-in-block [] b)
   -- a clause without a condition is the last
   pub proper : Proper b
   -- the ranges of the fields stand from the `of` behind `dimensions` on, two tokens behind the constants
@@ -211,7 +211,7 @@ unfolding kind-at
 linking source short s₁ s₂ s₃ d b p q r stop clear =
     record {
       body = whole .1 (λ e. omega (arith, stop)) (s₃ .words) view;
-      indices = subst (λ (n : ℕ). Writes (table-of (s₃ .words) (tokens input) (d .cell .dims)) [] (s₂ .at) n (written-in-block [] b)) at-end (all-of _ [] (whole .3 (s₃ .words) view [] refl));
+      indices = subst (λ (n : ℕ). Writes (table-of (s₃ .words) (tokens input) (d .cell .dims)) [] (s₂ .at) n (relatives-in-block [] b)) at-end (all-of _ [] (whole .3 (s₃ .words) view [] refl));
       proper = whole .2;
       fields = ext-getD no-range (d .fields) _ (sym (length-list-of _ (length (d .fields)))) (λ k l. sym (field k l));
       fields-inside = cell .long;

@@ -18,7 +18,7 @@ use Rattle.grammar.specs.Reader.{Input, State, Reader, done, turns, token-of, i
 use Rattle.grammar.specs.Expressions.{Cell}
 use Rattle.grammar.specs.Statements.{read-forall, read-exit, Parts, put-after, statement-turn, read-block}
 use Rattle.semantics.specs.Stands.{Table, table-of, word-in, linked, begins, Stands}
-use Rattle.semantics.specs.Written.{written-in-block}
+use Rattle.semantics.specs.Written.{relatives-in-block}
 use Rattle.linking.specs.Steps.{advanced, written, named, released, Gives, gave, refused, bind, made, given-as, choose, at-position, at-token, over, wrote, wrote-both, named-it, released-it, expected, opened, Turned, repeated}
 use Rattle.linking.specs.Runs.{tokens, head-at, Text, Sound, RunBut, Run, but, stay, join, go-on, write-first, word-put, both-2, both-3, entry-new}
 use Rattle.linking.specs.Naming.{of-kind, name-it, release-it}
@@ -73,7 +73,7 @@ module _ {input : Input} {text : List ℕ} (T : Text input text) (cell : Cell) (
             high-is = view-word v (b .sound .within) (s .at + 1) 3 (le-refl _) (omega (arith, b .on, f .far)) (omega arith) ∙ b .below _ (omega (arith, f .far)) ∙ both-3 (p .words) (s .at + 1) (encode-of (r .low)) (encode-of (r .high)) l
 
     pub forall-gives : (room : Bool) → (room ≡ true → depth < 16) → (block : Reader Block) → ReadsBlock T cell some-dims (depth + 1) block → Gives input (read-forall room depth block) s (Statement T cell some-dims depth s)
-    unfolding read-forall Stands written-in-block plain-kind
+    unfolding read-forall Stands relatives-in-block plain-kind
     forall-gives room deep-room block blocks =
         at-position _
         (opened room
@@ -127,7 +127,7 @@ module _ {input : Input} {text : List ℕ} (T : Text input text) (cell : Cell) (
               let inner-is = first-inner T (cell .dims) x whole far (p .at) (t .at + 1) v (omega (arith, f .far)) (f .run .sound .within) in
               let past-is = first-past T (cell .dims) x whole far (p .at) (t .at + 1) v far (last .sound .within) in
               let more-loops : List Range = loops ++ (r ∷ []) in
-              let part : Adds tb more-loops (p .at) (t .at + 1) (written-in-block more-loops body) =
+              let part : Adds tb more-loops (p .at) (t .at + 1) (relatives-in-block more-loops body) =
               then-none tb more-loops
               (b .3 wf (second-part (first .sound) (first-part v₁ last) (open-run r f name-in a-name few₁) (b .0)) more-loops (omega (arith, length-append loops (r ∷ []))))
               (adds-plain tb more-loops (t .at) (plain-of (kind .end-word) (view-kind v (b .0 .sound) (t .at) ∙ eqb-true _ _ n) refl))
@@ -141,7 +141,7 @@ module _ {input : Input} {text : List ℕ} (T : Text input text) (cell : Cell) (
   -- ---- other statements
 
   exit-gives : (depth : ℕ) {s : State} → Sound input text s → is-kind (token-of input s (s .at)) (kind .exit-word) ≡ true → Gives input read-exit s (Statement T cell some-dims depth s)
-  unfolding read-exit Stands written-in-block plain-kind
+  unfolding read-exit Stands relatives-in-block plain-kind
   exit-gives depth {s} x q =
       let r = go-on x (of-kind x (s .at) (kind .exit-word) (omega arith) q) in
       at-position _
@@ -161,7 +161,7 @@ module _ {input : Input} {text : List ℕ} (T : Text input text) (cell : Cell) (
       }))))
 
   constant-stands : (depth : ℕ) {s : State} → Sound input text s → is-kind (token-of input s (s .at)) (kind .const-word) ≡ true → {t : State} → Declares T s t → Statement T cell some-dims depth s constant t
-  unfolding Stands written-in-block
+  unfolding Stands relatives-in-block
   constant-stands depth {s} x q {t} d =
       record {
         run = d .run;
@@ -194,7 +194,7 @@ module _ {input : Input} {text : List ℕ} (T : Text input text) (cell : Cell) (
     pub is : b ≡ before part
     pub proper : Proper part
     pub stands : (token-of input t (t .at) .kind ≡ kind .exit-word → ⊥) → Claim input text (cell .dims) s t (λ tb. Stands tb loops part (s .at))
-    pub adds : Claim input text (cell .dims) s t (λ tb. (ranges : List Range) → length ranges ≡ loops → Adds tb ranges (s .at) (t .at) (written-in-block ranges part))
+    pub adds : Claim input text (cell .dims) s t (λ tb. (ranges : List Range) → length ranges ≡ loops → Adds tb ranges (s .at) (t .at) (relatives-in-block ranges part))
 
   -- one more statement
   one-more : (loops : ℕ) (before f : Block → Block) {s t : State} → Sound input text s → Statement T cell some-dims loops s f t → Turned (λ _ u. Sound input text u) (Going loops) before s (put-after before f) t
@@ -218,7 +218,7 @@ module _ {input : Input} {text : List ℕ} (T : Text input text) (cell : Cell) (
   no-more false false t k i f e p q r s u = rw (r, s, u, q)
 
   turn-gives : (loops : ℕ) (parts : Parts) → PartsRead loops parts → (before : Block → Block) (s : State) → Sound input text s → Gives input (statement-turn cell parts loops before) s (Turned (λ _ t. Sound input text t) (Going loops) before s)
-  unfolding statement-turn Stands begins is-name written-in-block
+  unfolding statement-turn Stands begins is-name relatives-in-block
   turn-gives loops parts reads before s x =
       at-token _
       (choose (is-name (token-of input s (s .at))) (λ q. made _ (assignment-gives T cell some-dims loops (parts .expr) (reads .expr) x q) (λ f t h. one-more loops before f x h))
@@ -253,7 +253,7 @@ module _ {input : Input} {text : List ℕ} (T : Text input text) (cell : Cell) (
     g .run,
     λ n wf v. subst (λ (y : Block). Stands (table-of wf (tokens input) (cell .dims)) loops y (s .at)) (sym (g .is)) (g .stands n wf v),
     subst Proper (sym (g .is)) (g .proper),
-    λ wf v ranges deep. subst (λ (y : Block). Adds (table-of wf (tokens input) (cell .dims)) ranges (s .at) (t .at) (written-in-block ranges y)) (sym (g .is)) (g .adds wf v ranges deep),
+    λ wf v ranges deep. subst (λ (y : Block). Adds (table-of wf (tokens input) (cell .dims)) ranges (s .at) (t .at) (relatives-in-block ranges y)) (sym (g .is)) (g .adds wf v ranges deep),
   )
 
   -- a list of statements stands where it is read

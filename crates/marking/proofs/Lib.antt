@@ -5,3 +5,4 @@ pub mod BoxLaws
 pub mod MarkLaws
 pub mod PlaceLaws
 pub mod OpenLaws
+pub mod WayLaws

@@ -1,33 +1,39 @@
 -- The laws of the cells that changed cells open. Together with the marks before they give the marks of the open cells.
-use Prim.Native.Nat.{ℕ, suc, _+_, _*_, _/_, _%_, _≤_, _<_}
+use Prim.Native.Nat.{ℕ, zero, suc, _+_, _*_, _/_, _%_, _≤_, _<_}
 use native.Mathlib.Nat.{mod-lt, mul-le-mul}
 use native.Mathlib.Omega.{arith}
 use mathlib.Core.Path.{_≡_, refl, sym, ap, _∙_, subst}
 use mathlib.Core.Bool.{Bool, true, false, cond, true≢false}
-use mathlib.Core.List.{List, [], List·Memᴰ, List·Memᴰ·not-nil, Memᴰ·of-map}
+use mathlib.Core.List.{List, [], _∷_, List·Memᴰ, List·Memᴰ·not-nil, Memᴰ·of-map}
 use lib.ListN.{length, getD}
 use lib.Seq.{ext-getD}
 use lib.IntN.{ℤ}
-use Rattle.automaton.specs.Listed.{length-list-of, getD-list-of}
+use borrow.Author.Tests.{lt-ltb, le-ltb}
+use Rattle.automaton.specs.Listed.{list-of, length-list-of, getD-list-of, list-of-ext}
 use Rattle.automaton.specs.Step.{marks-of}
 use Rattle.automaton.specs.Quiet.{any-of-false, any-of-true}
-use Rattle.automaton.specs.Shape.{product, neighbour, Bound, box-indices, reach-of}
-use Rattle.automaton.specs.ShapeLaws.{Alike, alike-length, neighbour-lt, box-alike}
+use Rattle.automaton.specs.Shape.{product, cell-number, neighbour, reach-of}
+use Rattle.automaton.specs.ShapeLaws.{Positive, coordinates-inside, inside-at, neighbour-lt}
 use Rattle.automaton.specs.Grid.{cell-of, differ}
 use Rattle.automaton.specs.GridLaws.{cell-room}
-use Rattle.stepper.specs.Reach.{own-only}
-use Rattle.stepper.specs.Fitting.{bound-at, bounds-of}
-use Rattle.stepper.specs.declared.Reach.{Reach}
-use Rattle.marking.specs.Opened.{opened, Ready}
-use Rattle.marking.specs.Noting.{note-all, rows, box-cells, cells-opened, opened-by, Boxed, Shaped, Firsts, Counts, NextOdd, Halved}
+use Rattle.stepper.specs.Fitting.{bound-at}
+use Rattle.stepper.specs.Digits.{size-positive}
+use Rattle.stepper.specs.declared.Bounds.{Bounds}
+use Rattle.place_marks.specs.Placing.{cell-from, Placed, note-places, Coordinates}
+use Rattle.place_marks.proofs.BackLaws.{placed}
+use Rattle.marking.specs.Opened.{opened, Ready, Ways, Marks}
+use Rattle.marking.specs.Noting.{note, note-all, rows, box-cells, opened-from, cells-opened, cells-back, cells-by, opened-by, Boxed, Shaped, Led, Below, Firsts, Counts, NextOdd, Halved}
 use Rattle.marking.proofs.NotingLaws.{length-note-all, note-all-append, note-out, note-in, note-parity, mem-rows, rows-skip}
-use Rattle.marking.proofs.BoxLaws.{entry, box-same, opens-reach}
+use Rattle.marking.proofs.BoxLaws.{entry, box-same}
 use Rattle.marking.proofs.MarkLaws.{differ-self}
-use Rattle.marking.proofs.PlaceLaws.{size-positive}
 
--- ---- one cell
+-- ---- one cell, by the box
 
-module _ (ns : List ℕ) (reach : Reach) (s : Shaped ns reach) (x : ℕ) (firsts counts : List ℕ) (f : Firsts ns reach x firsts) (c : Counts ns reach counts) where
+pub below-of : (ns : List ℕ) (x : ℕ) {at : List ℕ} → Positive ns → x < product ns → Coordinates ns x at → Below ns at
+below-of ns x positive l c =
+    record { each = λ k h. subst (λ (i : ℕ). i < getD ns k 0) (sym (c .each k h)) (inside-at ns _ (coordinates-inside ns x positive l) k h) }
+
+module _ (ns : List ℕ) (bounds : Bounds) (s : Shaped ns bounds) (x : ℕ) {at firsts counts : List ℕ} (h : Coordinates ns x at) (f : Firsts ns bounds at firsts) (c : Counts ns bounds counts) where
   pub boxed-whole : (cells : ℕ) → cells ≡ product ns → Boxed ns firsts counts 0 cells
   boxed-whole cells e = record {
     some-dims = s .some-dims;
@@ -41,48 +47,85 @@ module _ (ns : List ℕ) (reach : Reach) (s : Shaped ns reach) (x : ℕ) (firsts
   }
 
   pub box-done : (marks marks′ : List ℕ) → marks′ ≡ note-all (box-cells ns (entry firsts) (entry counts) 0) marks
-      → marks′ ≡ note-all (cells-opened ns (bound-at reach) x) marks
+      → marks′ ≡ note-all (cells-opened ns (bound-at bounds) x) marks
   unfolding cells-opened
-  box-done marks marks′ q = q ∙ ap (λ (cs : List ℕ). note-all cs marks) (box-same ns _ _ _ _ (f .each) (c .each) 0)
+  box-done marks marks′ q =
+      q ∙ ap (λ (cs : List ℕ). note-all cs marks)
+      (box-same ns _ _ _ _ (λ k l. f .each k l ∙ ap (opened-from (getD ns k 0) (bound-at bounds k)) (h .each k l)) (c .each) 0)
+
+-- ---- one cell, by the steps back
+
+pub led-placed : (ns : List ℕ) (bounds : Bounds) (x : ℕ) {at steps : List ℕ} {listed : ℕ} → Shaped ns bounds → x < product ns → Coordinates ns x at → Led ns steps listed → listed < 257
+    → (k : ℕ) → k < listed → Placed ns at steps (3 * k)
+led-placed ns bounds x {at} {steps} s l c led few k lk = placed ns (s .dims) (s .positive) (s .cells) x l at steps k (omega arith) (led .size) (c .each) (led .inside few k lk)
+
+notes-are : (ns at steps : List ℕ) (n : ℕ) (marks : List ℕ) → note-places ns at steps n marks ≡ note-all (list-of (λ k. cell-from ns at steps (3 * k)) n) marks
+unfolding note-places note-all list-of
+notes-are ns at steps zero marks = refl
+notes-are ns at steps (suc n) marks =
+    ap (λ (m : List ℕ). note m (cell-from ns at steps (3 * n))) (notes-are ns at steps n marks)
+    ∙ sym (note-all-append (list-of (λ k. cell-from ns at steps (3 * k)) n) (cell-from ns at steps (3 * n) ∷ []) marks)
+
+pub list-done : (ns : List ℕ) (x : ℕ) {at : List ℕ} (steps : List ℕ) (listed : ℕ) (marks marks′ : List ℕ) → Coordinates ns x at → marks′ ≡ note-places ns at steps listed marks
+    → marks′ ≡ note-all (cells-back ns steps listed x) marks
+unfolding cells-back cell-from
+list-done ns x {at} steps listed marks marks′ c q =
+    q ∙ notes-are ns at steps listed marks
+    ∙ ap (λ (cs : List ℕ). note-all cs marks)
+    (list-of-ext _ _ listed (λ k l. ap (cell-number ns) (list-of-ext _ _ (length ns) (λ d h. ap (λ (i : ℕ). (i + getD steps (3 * k + d) 0) % getD ns d 0) (c .each d h)))))
+
+-- ---- one cell, either way
+
+module _ (ns : List ℕ) (bounds : Bounds) (steps : List ℕ) (listed x : ℕ) where
+  pub by-list : listed < 257 → cells-by ns bounds steps listed x ≡ cells-back ns steps listed x
+  unfolding cells-by
+  by-list l = rw (lt-ltb listed 257 l)
+
+  pub by-box : 257 ≤ listed → cells-by ns bounds steps listed x ≡ cells-opened ns (bound-at bounds) x
+  unfolding cells-by
+  by-box l = rw (le-ltb listed 257 l)
 
 -- the fields of a cell lie within the grids
 pub fields-fit : (c p f o g : ℕ) → c < p → p ≤ 1048576 → f ≤ 8 → o ≡ p * f → g ≡ p * f → (c * f + f ≤ o) × (o ≤ 8388608) × (g ≡ o)
 fields-fit c p f o g l h k eo eg = (cell-room c p f o l (sym eo), omega (arith, mul-le-mul h k), eg ∙ sym eo)
 
-module _ (ns : List ℕ) (bound : ℕ → Bound) (fields : ℕ) (old grid : List ℤ) (c : ℕ) (marks : List ℕ) {b : Bool}
+module _ (cells : ℕ → List ℕ) (fields : ℕ) (old grid : List ℤ) (c : ℕ) (marks : List ℕ) {b : Bool}
     (e : b ≡ differ (cell-of fields old c) (cell-of fields grid c)) where
-  pub opens-some : (marks′ : List ℕ) → b ≡ true → marks′ ≡ note-all (cells-opened ns bound c) marks → marks′ ≡ note-all (opened-by ns bound fields old grid c) marks
+  pub opens-some : (marks′ : List ℕ) → b ≡ true → marks′ ≡ note-all (cells c) marks → marks′ ≡ note-all (opened-by cells fields old grid c) marks
   unfolding opened-by
-  opens-some marks′ t q = q ∙ ap (λ (d : Bool). note-all (cond d (cells-opened ns bound c) []) marks) (sym t ∙ e)
+  opens-some marks′ t q = q ∙ ap (λ (d : Bool). note-all (cond d (cells c) []) marks) (sym t ∙ e)
 
-  pub opens-none : b ≡ false → marks ≡ note-all (opened-by ns bound fields old grid c) marks
+  pub opens-none : b ≡ false → marks ≡ note-all (opened-by cells fields old grid c) marks
   unfolding opened-by note-all
-  opens-none t = ap (λ (d : Bool). note-all (cond d (cells-opened ns bound c) []) marks) (sym t ∙ e)
+  opens-none t = ap (λ (d : Bool). note-all (cond d (cells c) []) marks) (sym t ∙ e)
 
 -- ---- all cells
 
 -- the cells below c are done: the cells that they open are noted
-pub record Opening (ns : List ℕ) (reach : Reach) (fields : ℕ) (old grid : List ℤ) (marks₀ marks : List ℕ) (c : ℕ) : Type 0 where
+pub record Opening (cells : ℕ → List ℕ) (fields : ℕ) (old grid : List ℤ) (marks₀ marks : List ℕ) (c : ℕ) : Type 0 where
   pub len : length marks ≡ length marks₀
   pub turn : c ≤ length marks₀
-  pub says : marks ≡ note-all (rows (opened-by ns (bound-at reach) fields old grid) c) marks₀
+  pub says : marks ≡ note-all (rows (opened-by cells fields old grid) c) marks₀
 
-module _ (ns : List ℕ) (reach : Reach) (fields : ℕ) (old grid : List ℤ) (marks₀ : List ℕ) (s : Ready ns reach fields old grid marks₀) where
+module _ (ns : List ℕ) (bounds : Bounds) (steps : List ℕ) (listed fields : ℕ) (old grid : List ℤ) (marks₀ : List ℕ) (s : Ready ns bounds steps listed fields old grid marks₀) where
+  abbrev Cells : ℕ → List ℕ
+  Cells = cells-by ns bounds steps listed
+
   abbrev By : ℕ → List ℕ
-  By = opened-by ns (bound-at reach) fields old grid
+  By = opened-by Cells fields old grid
 
   abbrev Moved : ℕ → Bool
   Moved x = differ (cell-of fields old x) (cell-of fields grid x)
 
-  pub shaped : Shaped ns reach
-  shaped = record { some-dims = s .some-dims; dims = s .dims; positive = s .positive; cells = s .cells; near = s .near }
+  pub shaped : Shaped ns bounds
+  shaped = let p = s .prepared in record { some-dims = p .some-dims; dims = p .dims; positive = p .positive; cells = p .cells; near = p .near }
 
-  pub opening-start : Opening ns reach fields old grid marks₀ marks₀ 0
+  pub opening-start : Opening Cells fields old grid marks₀ marks₀ 0
   unfolding rows note-all
   opening-start = record { len = refl; turn = omega arith; says = refl }
 
-  pub opening-more : (marks marks′ : List ℕ) (c : ℕ) → Opening ns reach fields old grid marks₀ marks c → c < length marks₀ → marks′ ≡ note-all (By c) marks
-      → Opening ns reach fields old grid marks₀ marks′ (c + 1)
+  pub opening-more : (marks marks′ : List ℕ) (c : ℕ) → Opening Cells fields old grid marks₀ marks c → c < length marks₀ → marks′ ≡ note-all (By c) marks
+      → Opening Cells fields old grid marks₀ marks′ (c + 1)
   unfolding rows
   opening-more marks marks′ c o l q =
       let e : suc c ≡ c + 1 = omega arith in
@@ -99,9 +142,9 @@ module _ (ns : List ℕ) (reach : Reach) (fields : ℕ) (old grid : List ℤ) (m
       let lk : k < product ns = omega (arith, s .marks-fit) in
       let z : getD marks₀ k 0 ≡ 0 = omega (arith, s .plain k lk) in
       let d : Moved k ≡ false = ap (λ (a : List ℤ). differ a (cell-of fields grid k)) (s .still k lk z) ∙ differ-self (cell-of fields grid k) in
-      ap (λ (t : Bool). cond t (cells-opened ns (bound-at reach) k) []) d
+      ap (λ (t : Bool). cond t (Cells k) []) d
 
-  pub opening-skip : (marks : List ℕ) (a r : ℕ) → Opening ns reach fields old grid marks₀ marks a → NextOdd marks a r → Opening ns reach fields old grid marks₀ marks r
+  pub opening-skip : (marks : List ℕ) (a r : ℕ) → Opening Cells fields old grid marks₀ marks a → NextOdd marks a r → Opening Cells fields old grid marks₀ marks r
   opening-skip marks a r o n = record {
     len = o .len;
     turn = omega (arith, n .end, o .len);
@@ -114,63 +157,59 @@ module _ (ns : List ℕ) (reach : Reach) (fields : ℕ) (old grid : List ℤ) (m
           let e : getD marks k 0 % 2 ≡ getD marks₀ k 0 % 2 = ap (λ (m : List ℕ). getD m k 0 % 2) (o .says) ∙ note-parity (rows By a) k marks₀ l in
           still-none k l (sym e ∙ n .passed k p q)
 
-  -- the bounds as a list
-  abbrev bounds : List Bound
-  bounds = bounds-of reach (length ns)
+  module _ (dss : List (List ℤ)) (w : Ways ns bounds steps listed dss) where
+    opened-mem : (c x : ℕ) → c < product ns → x < product ns → List·Memᴰ x (reach-of ns dss c) → Moved x ≡ true → List·Memᴰ c (By x)
+    unfolding opened-by
+    opened-mem c x lc lx m t = rw t (w .leads c x lc lx .0 m)
 
-  alike : Alike ns bounds
-  alike = alike-length ns bounds (length-list-of (bound-at reach) (length ns))
+    mem-opened : (c x : ℕ) → c < product ns → x < product ns → List·Memᴰ c (By x) → List·Memᴰ x (reach-of ns dss c) × (Moved x ≡ true)
+    unfolding opened-by
+    mem-opened c x lc lx m = go (Moved x) refl m
+      where
+        go : (t : Bool) → Moved x ≡ t → List·Memᴰ c (cond t (Cells x) []) → List·Memᴰ x (reach-of ns dss c) × (Moved x ≡ true)
+        go true e q = (w .leads c x lc lx .1 q, e)
+        go false e q = absurd (List·Memᴰ·not-nil q)
 
-  opened-mem : (c x : ℕ) → c < product ns → x < product ns → List·Memᴰ x (reach-of ns (box-indices bounds) c) → Moved x ≡ true → List·Memᴰ c (By x)
-  unfolding opened-by
-  opened-mem c x lc lx m t =
-      rw t (opens-reach ns bounds (bound-at reach) (s .positive) alike (λ k l. getD-list-of (bound-at reach) (length ns) k own-only l) (λ k l. s .near k l .1) c x lc lx .1 m)
+    in-reach : (c x : ℕ) → c < product ns → List·Memᴰ x (reach-of ns dss c) → x < product ns
+    unfolding reach-of
+    in-reach c x lc m =
+        let r = Memᴰ·of-map (neighbour ns c) dss m in
+        subst (λ (y : ℕ). y < product ns) (r .2) (neighbour-lt ns (s .prepared .positive) c (r .0) lc (w .alike (r .0) (r .1)))
 
-  mem-opened : (c x : ℕ) → c < product ns → x < product ns → List·Memᴰ c (By x) → List·Memᴰ x (reach-of ns (box-indices bounds) c) × (Moved x ≡ true)
-  unfolding opened-by
-  mem-opened c x lc lx m = go (Moved x) refl m
-    where
-      go : (t : Bool) → Moved x ≡ t → List·Memᴰ c (cond t (cells-opened ns (bound-at reach) x) []) → List·Memᴰ x (reach-of ns (box-indices bounds) c) × (Moved x ≡ true)
-      go true e q =
-          (opens-reach ns bounds (bound-at reach) (s .positive) alike (λ k l. getD-list-of (bound-at reach) (length ns) k own-only l) (λ k l. s .near k l .1) c x lc lx .0 q, e)
-      go false e q = absurd (List·Memᴰ·not-nil q)
+    halved-open : (marks marks′ : List ℕ) (c : ℕ) → Opening Cells fields old grid marks₀ marks c → length marks₀ ≤ c → Halved marks marks′
+        → marks′ ≡ marks-of (opened ns dss fields old grid) (product ns)
+    unfolding marks-of
+    halved-open marks marks′ c o l h =
+        ext-getD 0 marks′ _ (size ∙ sym (length-list-of _ (product ns)))
+        (λ k q. let lk : k < product ns = omega (arith, size) in
+        h .each k (omega (arith, h .len)) ∙ at k lk (opened ns dss fields old grid k) refl
+        ∙ sym (getD-list-of (λ y. cond (opened ns dss fields old grid y) 1 0) (product ns) k 0 lk))
+      where
+        size : length marks′ ≡ product ns
+        size = h .len ∙ o .len ∙ s .marks-fit
 
-  in-reach : (c x : ℕ) → c < product ns → List·Memᴰ x (reach-of ns (box-indices bounds) c) → x < product ns
-  unfolding reach-of
-  in-reach c x lc m =
-      let r = Memᴰ·of-map (neighbour ns c) (box-indices bounds) m in
-      subst (λ (y : ℕ). y < product ns) (r .2) (neighbour-lt ns (s .positive) c (r .0) lc (box-alike ns bounds alike (r .0) (r .1)))
+        end : c ≡ product ns
+        end = omega (arith, o .turn, s .marks-fit)
 
-  pub opening-done : (marks marks′ : List ℕ) (c : ℕ) → Opening ns reach fields old grid marks₀ marks c → length marks₀ ≤ c → Halved marks marks′
-      → marks′ ≡ marks-of (opened ns (bounds-of reach (length ns)) fields old grid) (product ns)
-  unfolding marks-of
-  opening-done marks marks′ c o l h =
-      ext-getD 0 marks′ _ (size ∙ sym (length-list-of _ (product ns)))
-      (λ k q. let lk : k < product ns = omega (arith, size) in
-      h .each k (omega (arith, h .len)) ∙ at k lk (opened ns bounds fields old grid k) refl
-      ∙ sym (getD-list-of (λ y. cond (opened ns bounds fields old grid y) 1 0) (product ns) k 0 lk))
-    where
-      size : length marks′ ≡ product ns
-      size = h .len ∙ o .len ∙ s .marks-fit
+        says : marks ≡ note-all (rows By (product ns)) marks₀
+        says = o .says ∙ ap (λ (y : ℕ). note-all (rows By y) marks₀) end
 
-      end : c ≡ product ns
-      end = omega (arith, o .turn, s .marks-fit)
+        at : (k : ℕ) → k < product ns → (t : Bool) → opened ns dss fields old grid k ≡ t → getD marks k 0 / 2 ≡ cond t 1 0
+        at k lk true e =
+            let r = any-of-true Moved (reach-of ns dss k) e in
+            let lx = in-reach k (r .0) lk (r .1) in
+            let m = mem-rows By k (product ns) .1 (r .0, lx, opened-mem k (r .0) lk lx (r .1) (r .2)) in
+            let v : getD marks k 0 ≡ getD marks₀ k 0 % 2 + 2 = ap (λ (z : List ℕ). getD z k 0) says ∙ note-in (rows By (product ns)) k marks₀ (omega (arith, s .marks-fit)) m in
+            omega (arith, v)
+        at k lk false e =
+            let out : List·Memᴰ k (rows By (product ns)) → ⊥ =
+            λ m. let r = mem-rows By k (product ns) .0 m in
+            let p = mem-opened k (r .0) lk (r .1) (r .2) in
+            absurd (true≢false (sym (p .1) ∙ any-of-false Moved (reach-of ns dss k) e (r .0) (p .0)))
+            in
+            let v : getD marks k 0 ≡ getD marks₀ k 0 = ap (λ (z : List ℕ). getD z k 0) says ∙ note-out (rows By (product ns)) k marks₀ out in
+            omega (arith, v, s .plain k lk)
 
-      says : marks ≡ note-all (rows By (product ns)) marks₀
-      says = o .says ∙ ap (λ (y : ℕ). note-all (rows By y) marks₀) end
-
-      at : (k : ℕ) → k < product ns → (t : Bool) → opened ns bounds fields old grid k ≡ t → getD marks k 0 / 2 ≡ cond t 1 0
-      at k lk true e =
-          let r = any-of-true Moved (reach-of ns (box-indices bounds) k) e in
-          let lx = in-reach k (r .0) lk (r .1) in
-          let m = mem-rows By k (product ns) .1 (r .0, lx, opened-mem k (r .0) lk lx (r .1) (r .2)) in
-          let v : getD marks k 0 ≡ getD marks₀ k 0 % 2 + 2 = ap (λ (z : List ℕ). getD z k 0) says ∙ note-in (rows By (product ns)) k marks₀ (omega (arith, s .marks-fit)) m in
-          omega (arith, v)
-      at k lk false e =
-          let out : List·Memᴰ k (rows By (product ns)) → ⊥ =
-          λ m. let r = mem-rows By k (product ns) .0 m in
-          let p = mem-opened k (r .0) lk (r .1) (r .2) in
-          absurd (true≢false (sym (p .1) ∙ any-of-false Moved (reach-of ns (box-indices bounds) k) e (r .0) (p .0)))
-          in
-          let v : getD marks k 0 ≡ getD marks₀ k 0 = ap (λ (z : List ℕ). getD z k 0) says ∙ note-out (rows By (product ns)) k marks₀ out in
-          omega (arith, v, s .plain k lk)
+  pub opening-done : (marks marks′ : List ℕ) (c : ℕ) → Opening Cells fields old grid marks₀ marks c → length marks₀ ≤ c → Halved marks marks′
+      → Marks ns bounds steps listed fields old grid marks′
+  opening-done marks marks′ c o l h = record { says = λ dss w. halved-open dss w marks marks′ c o l h }

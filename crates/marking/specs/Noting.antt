@@ -5,11 +5,15 @@ use mathlib.Core.List.{List, [], _∷_, _++_}
 use Prim.Native.Nat.{ℕ, zero, suc, _+_, _-_, _*_, _/_, _%_, _<_, _≤_, min}
 use lib.ListN.{length, getD, set}
 use lib.IntN.{ℤ}
+use lib.Dec.{ltb}
+use Rattle.value.specs.Choice.{if_then_else_}
+use Rattle.automaton.specs.Listed.{list-of}
 use Rattle.automaton.specs.Shape.{product, coordinates, Bound, width}
 use Rattle.automaton.specs.ShapeLaws.{Positive}
 use Rattle.automaton.specs.Grid.{cell-of, differ}
 use Rattle.stepper.specs.Fitting.{bound-at}
-use Rattle.stepper.specs.declared.Reach.{Reach}
+use Rattle.stepper.specs.declared.Bounds.{Bounds}
+use Rattle.place_marks.specs.Placing.{cell-from}
 
 -- the marks with the cell c noted: 2 is added to a mark that is 0 or 1, and 2 or 3 is kept
 abbrev pub note : List ℕ → ℕ → List ℕ
@@ -52,9 +56,17 @@ unfoldable pub cells-opened : List ℕ → (ℕ → Bound) → ℕ → List ℕ
 cells-opened ns bound x =
     box-cells ns (λ k. opened-from (getD ns k 0) (bound k) (getD (coordinates ns x) k 0)) (λ k. opened-count (getD ns k 0) (bound k)) 0
 
+-- those by so many steps back, each three numbers
+unfoldable pub cells-back : List ℕ → List ℕ → ℕ → ℕ → List ℕ
+cells-back ns steps listed x = list-of (λ k. cell-from ns (coordinates ns x) steps (3 * k)) listed
+
+-- by the steps back, or where more than 256 are listed by the box
+unfoldable pub cells-by : List ℕ → Bounds → List ℕ → ℕ → ℕ → List ℕ
+cells-by ns bounds steps listed x = if ltb listed 257 then cells-back ns steps listed x else cells-opened ns (bound-at bounds) x
+
 -- the cells that the cell x opens: none, if it did not change
-unfoldable pub opened-by : List ℕ → (ℕ → Bound) → ℕ → List ℤ → List ℤ → ℕ → List ℕ
-opened-by ns bound fields old new x = cond (differ (cell-of fields old x) (cell-of fields new x)) (cells-opened ns bound x) []
+unfoldable pub opened-by : (ℕ → List ℕ) → ℕ → List ℤ → List ℤ → ℕ → List ℕ
+opened-by cells fields old new x = cond (differ (cell-of fields old x) (cell-of fields new x)) (cells x) []
 
 -- what is asked of a box, by the number of cells
 pub record Boxed (ns firsts counts : List ℕ) (base cells : ℕ) : Type 0 where
@@ -68,22 +80,31 @@ pub record Boxed (ns firsts counts : List ℕ) (base cells : ℕ) : Type 0 where
   pub few : cells ≤ 1048576
 
 -- what is asked of the sizes and the reach
-pub record Shaped (ns : List ℕ) (reach : Reach) : Type 0 where
+pub record Shaped (ns : List ℕ) (bounds : Bounds) : Type 0 where
   pub some-dims : 0 < length ns
   pub dims : length ns ≤ 3
   pub positive : Positive ns
   pub cells : product ns ≤ 1048576
-  pub near : (k : ℕ) → k < length ns → (bound-at reach k .back ≤ getD ns k 0) × (bound-at reach k .ahead ≤ getD ns k 0)
+  pub near : (k : ℕ) → k < length ns → (bound-at bounds k .back ≤ getD ns k 0) × (bound-at bounds k .ahead ≤ getD ns k 0)
 
--- the first coordinates that a change of the cell x opens
-pub record Firsts (ns : List ℕ) (reach : Reach) (x : ℕ) (firsts : List ℕ) : Type 0 where
+-- what is asked of the steps back
+pub record Led (ns steps : List ℕ) (listed : ℕ) : Type 0 where
+  pub size : length steps ≡ 768
+  pub inside : listed < 257 → (k : ℕ) → k < listed → (d : ℕ) → d < length ns → getD steps (3 * k + d) 0 < getD ns d 0
+
+-- each coordinate is below its size
+pub record Below (ns at : List ℕ) : Type 0 where
+  pub each : (k : ℕ) → k < length ns → getD at k 0 < getD ns k 0
+
+-- the first coordinates that a change at given coordinates opens
+pub record Firsts (ns : List ℕ) (bounds : Bounds) (at firsts : List ℕ) : Type 0 where
   pub len : length firsts ≡ 3
-  pub each : (k : ℕ) → k < length ns → getD firsts k 0 ≡ opened-from (getD ns k 0) (bound-at reach k) (getD (coordinates ns x) k 0)
+  pub each : (k : ℕ) → k < length ns → getD firsts k 0 ≡ opened-from (getD ns k 0) (bound-at bounds k) (getD at k 0)
 
 -- how many coordinates a change opens
-pub record Counts (ns : List ℕ) (reach : Reach) (counts : List ℕ) : Type 0 where
+pub record Counts (ns : List ℕ) (bounds : Bounds) (counts : List ℕ) : Type 0 where
   pub len : length counts ≡ 3
-  pub each : (k : ℕ) → k < length ns → getD counts k 0 ≡ opened-count (getD ns k 0) (bound-at reach k)
+  pub each : (k : ℕ) → k < length ns → getD counts k 0 ≡ opened-count (getD ns k 0) (bound-at bounds k)
 
 -- no cell from a cell on to before r has an odd mark
 pub record NextOdd (marks : List ℕ) (from r : ℕ) : Type 0 where

@@ -2,58 +2,72 @@
 ghost use mathlib.Core.Path.{_≡_};
 ghost use Prim.Native.Nat.{_*_, _<_, _≤_};
 ghost use lib.ListN.{length};
-ghost use Rattle.automaton.specs.Step.{marks-of};
 ghost use Rattle.automaton.specs.Shape.{product};
-ghost use Rattle.stepper.specs.Fitting.{bound-at, bounds-of};
-ghost use Rattle.marking.specs.Opened.{opened, Ready};
-ghost use Rattle.marking.specs.Noting.{note-all, opened-by, Shaped, Counts};
+ghost use Rattle.marking.specs.Opened.{Ready, Marks};
+ghost use Rattle.marking.specs.Noting.{note-all, cells-by, opened-by, Shaped, Led, Counts};
 use crate::marks::differs;
 use crate::marks::halve;
 use crate::marks::next_odd;
 use crate::opening::counts_of;
 use crate::opening::open_from;
-use stepper::Reach;
+use stepper::Bounds;
 
 mod marks;
 mod opening;
+pub mod ways;
 
 // Notes the cells that the cell c opens: none, if it did not change.
 fn open_changed(
     sizes: &[u32],
-    reach: Reach,
+    bounds: Bounds,
     counts: &[usize; 3],
+    steps: &[u32],
+    listed: usize,
     fields: usize,
     old: &[i32],
     grid: &[i32],
     c: usize,
     marks: &mut [u8],
 )
-    requires { ⌜ Shaped (now sizes) reach × Counts (now sizes) reach (now counts) × (fields ≤ 8) × (length (now old) ≡ product (now sizes) * fields) × (length (now grid) ≡ product (now sizes) * fields) × (length (now marks) ≡ product (now sizes)) × (c < product (now sizes)) ⌝ }
-    ensures { λ _. ⌜ now (marks .exit) ≡ note-all (opened-by (now (sizes .entry)) (bound-at reach) fields (now (old .entry)) (now (grid .entry)) c) (now (marks .entry)) ⌝ }
+    requires { ⌜ Shaped (now sizes) bounds × Counts (now sizes) bounds (now counts) × Led (now sizes) (now steps) listed × (fields ≤ 8) × (length (now old) ≡ product (now sizes) * fields) × (length (now grid) ≡ product (now sizes) * fields) × (length (now marks) ≡ product (now sizes)) × (c < product (now sizes)) ⌝ }
+    ensures { λ _. ⌜ now (marks .exit) ≡ note-all (opened-by (cells-by (now (sizes .entry)) bounds (now (steps .entry)) listed) fields (now (old .entry)) (now (grid .entry)) c) (now (marks .entry)) ⌝ }
 {
     if differs(old, grid, fields, c) {
-        open_from(sizes, reach, counts, c, marks);
+        open_from(sizes, bounds, counts, steps, listed, c, marks);
     }
 }
 
 // After a step without a fault: marks the cells that are open in the next one, and no others.
-// `old` holds the fields before the step, `grid` those after it.
+// `old` holds the fields before the step, `grid` those after it; `listed` says whether by the box or by so many steps back.
 pub fn mark_open(
     sizes: &[u32],
-    reach: Reach,
+    bounds: Bounds,
+    steps: &[u32],
+    listed: usize,
     fields: usize,
     old: &[i32],
     grid: &[i32],
     marks: &mut [u8],
 )
-    requires { ⌜ Ready (now sizes) reach fields (now old) (now grid) (now marks) ⌝ }
-    ensures { λ _. ⌜ now (marks .exit) ≡ marks-of (opened (now (sizes .entry)) (bounds-of reach (length (now (sizes .entry)))) fields (now (old .entry)) (now (grid .entry))) (product (now (sizes .entry))) ⌝ }
+    requires { ⌜ Ready (now sizes) bounds (now steps) listed fields (now old) (now grid) (now marks) ⌝ }
+    ensures { λ _. ⌜ Marks (now (sizes .entry)) bounds (now (steps .entry)) listed fields (now (old .entry)) (now (grid .entry)) (now (marks .exit)) ⌝ }
 {
-    let counts = counts_of(sizes, reach);
+    let counts = counts_of(sizes, bounds);
     let n = marks.len();
     let mut c = next_odd(marks, 0);
     while c < n {
-        open_changed(sizes, reach, &counts, fields, old, grid, c, marks);
+        open_changed(
+            sizes,
+            bounds,
+            &counts,
+            steps,
+            listed,
+            fields,
+            old,
+            grid,
+            c,
+            marks,
+        );
         c = next_odd(marks, c + 1);
     }
     halve(marks);

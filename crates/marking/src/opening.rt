@@ -4,39 +4,36 @@ ghost use Prim.Native.Nat.{suc, _+_, _-_, _*_, _%_, _<_, _≤_, min};
 ghost use lib.ListN.{length, getD};
 ghost use Rattle.automaton.specs.Shape.{product};
 ghost use Rattle.stepper.specs.Fitting.{bound-at};
-ghost use Rattle.marking.specs.Noting.{note-all, rows, line, lines, box-cells, cells-opened, Boxed, Shaped, Firsts, Counts};
-use stepper::Reach;
-
-fn wide(x: u32) -> usize
-    ensures { λ r. ⌜ r ≡ x ⌝ }
-{
-    x as usize
-}
+ghost use Rattle.marking.specs.Noting.{note-all, rows, line, lines, box-cells, cells-opened, cells-back, cells-by, Boxed, Shaped, Led, Below, Firsts, Counts};
+use place_marks::note_steps;
+use place_marks::set_coordinates;
+use place_marks::wide;
+use stepper::Bounds;
 
 // How far the highest index of a dimension lies above 0.
-fn ahead_at(reach: Reach, k: usize) -> usize
-    ensures { λ r. ⌜ r ≡ bound-at reach k .ahead ⌝ }
+pub fn ahead_at(bounds: Bounds, k: usize) -> usize
+    ensures { λ r. ⌜ r ≡ bound-at bounds k .ahead ⌝ }
 {
     if k == 0 {
-        return wide(reach.ahead0);
+        return wide(bounds.ahead0);
     }
     if k == 1 {
-        return wide(reach.ahead1);
+        return wide(bounds.ahead1);
     }
-    wide(reach.ahead2)
+    wide(bounds.ahead2)
 }
 
 // How far the lowest index of a dimension lies below 0.
-fn back_at(reach: Reach, k: usize) -> usize
-    ensures { λ r. ⌜ r ≡ bound-at reach k .back ⌝ }
+pub fn back_at(bounds: Bounds, k: usize) -> usize
+    ensures { λ r. ⌜ r ≡ bound-at bounds k .back ⌝ }
 {
     if k == 0 {
-        return wide(reach.back0);
+        return wide(bounds.back0);
     }
     if k == 1 {
-        return wide(reach.back1);
+        return wide(bounds.back1);
     }
-    wide(reach.back2)
+    wide(bounds.back2)
 }
 
 // i - ahead, wrapped in a dimension of n coordinates.
@@ -74,32 +71,30 @@ fn clipped(n: usize, back: usize, ahead: usize) -> usize
 }
 
 // For each dimension, the number of coordinates that a change opens.
-pub fn counts_of(sizes: &[u32], reach: Reach) -> [usize; 3]
-    requires { ⌜ Shaped (now sizes) reach ⌝ }
-    ensures { λ r. ⌜ Counts (now (sizes .entry)) reach r ⌝ }
+pub fn counts_of(sizes: &[u32], bounds: Bounds) -> [usize; 3]
+    requires { ⌜ Shaped (now sizes) bounds ⌝ }
+    ensures { λ r. ⌜ Counts (now (sizes .entry)) bounds r ⌝ }
 {
     let dims = sizes.len();
     let mut counts = [0; 3];
     let mut k = 0;
     while k < dims {
-        counts[k] = clipped(wide(sizes[k]), back_at(reach, k), ahead_at(reach, k));
+        counts[k] = clipped(wide(sizes[k]), back_at(bounds, k), ahead_at(bounds, k));
         k += 1;
     }
     counts
 }
 
-// Sets, for each dimension, the first coordinate that a change of the cell x opens.
-fn set_firsts(sizes: &[u32], reach: Reach, x: u32, firsts: &mut [usize])
-    requires { ⌜ Shaped (now sizes) reach × (x < product (now sizes)) × (length (now firsts) ≡ 3) ⌝ }
-    ensures { λ _. ⌜ Firsts (now (sizes .entry)) reach x (now (firsts .exit)) ⌝ }
+// Sets, for each dimension, the first coordinate that a change at given coordinates opens.
+fn set_firsts(sizes: &[u32], bounds: Bounds, at: &[usize; 3], firsts: &mut [usize])
+    requires { ⌜ Shaped (now sizes) bounds × Below (now sizes) (now at) × (length (now firsts) ≡ 3) ⌝ }
+    ensures { λ _. ⌜ Firsts (now (sizes .entry)) bounds (now (at .entry)) (now (firsts .exit)) ⌝ }
 {
-    let mut rest = x;
-    let mut k = sizes.len();
-    while 0 < k {
-        k -= 1;
-        let n = sizes[k];
-        firsts[k] = first_coordinate(wide(rest % n), ahead_at(reach, k), wide(n));
-        rest = rest / n;
+    let dims = sizes.len();
+    let mut k = 0;
+    while k < dims {
+        firsts[k] = first_coordinate(at[k], ahead_at(bounds, k), wide(sizes[k]));
+        k += 1;
     }
 }
 
@@ -176,12 +171,51 @@ fn note_box(sizes: &[u32], firsts: &[usize], counts: &[usize], base: usize, mark
     }
 }
 
-// Notes the cells that a change of the cell x opens.
-pub fn open_from(sizes: &[u32], reach: Reach, counts: &[usize; 3], x: usize, marks: &mut [u8])
-    requires { ⌜ Shaped (now sizes) reach × Counts (now sizes) reach (now counts) × (length (now marks) ≡ product (now sizes)) × (x < product (now sizes)) ⌝ }
-    ensures { λ _. ⌜ now (marks .exit) ≡ note-all (cells-opened (now (sizes .entry)) (bound-at reach) x) (now (marks .entry)) ⌝ }
+// Notes the cells that a change of the cell x opens, by the box.
+fn open_box(sizes: &[u32], bounds: Bounds, counts: &[usize; 3], x: usize, marks: &mut [u8])
+    requires { ⌜ Shaped (now sizes) bounds × Counts (now sizes) bounds (now counts) × (length (now marks) ≡ product (now sizes)) × (x < product (now sizes)) ⌝ }
+    ensures { λ _. ⌜ now (marks .exit) ≡ note-all (cells-opened (now (sizes .entry)) (bound-at bounds) x) (now (marks .entry)) ⌝ }
 {
+    let mut at = [0; 3];
+    set_coordinates(sizes, x as u32, &mut at);
     let mut firsts = [0; 3];
-    set_firsts(sizes, reach, x as u32, &mut firsts);
+    set_firsts(sizes, bounds, &at, &mut firsts);
     note_box(sizes, &firsts, counts, 0, marks);
+}
+
+// Notes the cells that a change of the cell x opens, by so many steps back.
+fn open_list(
+    sizes: &[u32],
+    bounds: Bounds,
+    steps: &[u32],
+    listed: usize,
+    x: usize,
+    marks: &mut [u8],
+)
+    requires { ⌜ Shaped (now sizes) bounds × Led (now sizes) (now steps) listed × (listed < 257) × (length (now marks) ≡ product (now sizes)) × (x < product (now sizes)) ⌝ }
+    ensures { λ _. ⌜ now (marks .exit) ≡ note-all (cells-back (now (sizes .entry)) (now (steps .entry)) listed x) (now (marks .entry)) ⌝ }
+{
+    let mut at = [0; 3];
+    set_coordinates(sizes, x as u32, &mut at);
+    note_steps(sizes, &at, steps, listed, marks);
+}
+
+// Notes the cells that a change of the cell x opens: by the steps back, or where more than 256 are listed by the box.
+pub fn open_from(
+    sizes: &[u32],
+    bounds: Bounds,
+    counts: &[usize; 3],
+    steps: &[u32],
+    listed: usize,
+    x: usize,
+    marks: &mut [u8],
+)
+    requires { ⌜ Shaped (now sizes) bounds × Counts (now sizes) bounds (now counts) × Led (now sizes) (now steps) listed × (length (now marks) ≡ product (now sizes)) × (x < product (now sizes)) ⌝ }
+    ensures { λ _. ⌜ now (marks .exit) ≡ note-all (cells-by (now (sizes .entry)) bounds (now (steps .entry)) listed x) (now (marks .entry)) ⌝ }
+{
+    if listed < 257 {
+        open_list(sizes, bounds, steps, listed, x, marks);
+        return;
+    }
+    open_box(sizes, bounds, counts, x, marks);
 }

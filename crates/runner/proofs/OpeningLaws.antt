@@ -19,7 +19,7 @@ use Rattle.grammar.specs.Checking as checking
 use Rattle.grammar.specs.Checking.{Outcome, turned-away, accepted, rooms-fit, read-source, check, room-left, words-after}
 use Rattle.semantics.specs.declared.Rule.{Rule}
 use Rattle.semantics.specs.Stands.{Holds}
-use Rattle.semantics.specs.Written.{written-in}
+use Rattle.semantics.specs.Written.{relatives-in}
 use Rattle.linking.specs.Linking.{Linked, linking}
 use Rattle.linking.specs.Accepted.{Parsed, holds, written, flagged}
 use Rattle.stepper.specs.Admission.{Request, Refusal, refusal, admission}
@@ -61,7 +61,7 @@ pub record Accepts (fit : Bool) (source words : List ℕ) (o : Outline) : Type 0
   pub read : Accepted
   pub is : read-source fit source ≡ accepted read
   pub holds : Holds words (rule-in o) (read .program)
-  pub lists : Lists words (rule-in o) (written-in (read .program))
+  pub lists : Lists words (rule-in o) (relatives-in (read .program))
   pub timed : read .program .timed ≡ o .timed
   pub flagged : Flagged (read .program)
   pub sized : Sized (length words) (rule-in o)
@@ -77,7 +77,7 @@ module _ {source ws ns : List ℕ} {known : Bool} {o : Outline} {ws′ : List �
         read = accepted-by t;
         is = x .reads sure t;
         holds = subst (λ (r : Rule). Holds (accepted-by t .words) r (accepted-by t .program)) (sym rule) (holds source (accepted-by t) p);
-        lists = subst (λ (r : Rule). Lists (accepted-by t .words) r (written-in (accepted-by t .program))) (sym rule) (written source (accepted-by t) p);
+        lists = subst (λ (r : Rule). Lists (accepted-by t .words) r (relatives-in (accepted-by t .program))) (sym rule) (written source (accepted-by t) p);
         timed = sym (y .timed);
         flagged = flagged timing source (accepted-by t) p;
         sized = record {
@@ -178,13 +178,13 @@ module _ {source ws ns sizes : List ℕ} {grid : List ℤ} {scratch marks : ℕ}
                 read = is .read;
                 is = is .is;
                 admitted = ap (λ (x : Refusal). x .number) (sym says) ∙ z;
-                runs = record { holds = is .holds; reaches = admits .reaches z (is .read .program) (is .holds) (is .lists); timed = is .timed ∙ sym e; flagged = is .flagged };
+                runs = record { holds = is .holds; reaches = admits .reaches z (is .read .program) (is .holds) (is .lists); lists = admits .lists z (is .read .program) (is .holds) (is .lists); timed = is .timed ∙ sym e; flagged = is .flagged };
                 rule-fits = is .sized;
                 some-dims = is .some-dims;
                 shaped = admits .shaped z;
                 scratch-fits = admits .scratch-fits z;
                 marks-fit = admits .marks-fit z;
-                near = admits .near z (written-in (is .read .program)) (is .lists);
+                near = admits .near z (relatives-in (is .read .program)) (is .lists);
                 start-is = admits .start-is z;
                 steps-is = admits .steps-is z;
                 times = admits .times z;

@@ -22,11 +22,12 @@ use Rattle.token.specs.Lexeme.{built-in-names, is-built-in}
 use Rattle.grammar.specs.Checking.{rooms-fit, read-source, words-after, names-after}
 use Rattle.semantics.specs.declared.Rule.{Rule}
 use Rattle.semantics.specs.Evaluation.{evaluate}
-use Rattle.semantics.specs.Written.{written-in}
+use Rattle.semantics.specs.Written.{relatives-in, written-in}
+use Rattle.semantics.specs.Places.{places}
 use Rattle.stepper.specs.declared.Reach.{Reach}
-use Rattle.stepper.specs.Reach.{reach, running}
+use Rattle.stepper.specs.Reach.{box, reach, running}
 use Rattle.stepper.specs.Admission.{Request, admission}
-use Rattle.stepper.specs.Locality.{running-lawful}
+use Rattle.stepper.specs.Covering.{running-lawful}
 use Rattle.stepper.specs.Report as report
 use Rattle.stepper.specs.Report.{Counting, full, ended, report-of, run}
 use Rattle.services.specs.Services.{run-begins, run-read, run-source, room-after}
@@ -35,6 +36,7 @@ use Rattle.services.specs.RangesKept.{RangesKept, grid-in-ranges}
 use Rattle.iteration.specs.declared.Report.{Report}
 use Rattle.runner.specs.declared.opening.Opening.{Opening}
 use Rattle.iteration.specs.Stepwise.{Begins, Runs, told, steps-report, Ran}
+use Rattle.iteration.proofs.StepwiseLaws.{runs-sound}
 use Rattle.runner.specs.Sourcewise.{counting-of, every-step, Begun, Opens, RunLeaves, RunsListed}
 use Rattle.runner.specs.Property3.{Agree, same, property-3}
 
@@ -44,17 +46,18 @@ abbrev always : Program → Program
 always p = record { dims = p .dims; fields = p .fields; slots = p .slots; body = p .body; timed = true }
 
 runs-always : {words : List ℕ} {rule : Rule} {r : Reach} {timed : Bool} {p : Program} → Runs words rule r timed p → Runs words rule r true (always p)
-unfolding reach written-in
+unfolding box written-in places relatives-in
 runs-always h =
     record {
       holds = record { dims = h .holds .dims; fields = h .holds .fields; slots = h .holds .slots; body = h .holds .body };
       reaches = h .reaches;
+      lists = h .lists;
       timed = refl;
       flagged = λ _. refl;
     }
 
 running-always : (p : Program) (sizes : List ℕ) → running (always p) sizes ≡ always-open (running p sizes)
-unfolding running automaton evaluate reach written-in
+unfolding running automaton evaluate reach box written-in places relatives-in
 running-always p sizes = refl
 
 -- the report of a run that began, by the count
@@ -91,6 +94,7 @@ module _ {fit : Bool} {source : List ℕ} {q : Request} {words : List ℕ} {rule
         scratch-fits = sym e ∙ b .scratch-fits;
         marks-fit = sym f ∙ b .marks-fit;
         near = b .near;
+        sound = runs-sound (b .runs);
         times = b .times;
       }
 

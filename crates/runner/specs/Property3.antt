@@ -24,7 +24,7 @@ use Rattle.linking.specs.Accepted.{parsed, flagged}
 use Rattle.stepper.specs.Admission.{Request, admission}
 use Rattle.stepper.specs.Reach.{running}
 use Rattle.stepper.specs.Report.{full, quiet, Report, ended, report-of, run}
-use Rattle.stepper.specs.Locality as locality
+use Rattle.stepper.specs.Covering as covering
 use Rattle.services.specs.Services.{run-read, run-source}
 use Rattle.runner.specs.Timing.{timing}
 
@@ -125,5 +125,5 @@ property-3 fit source q =
       timed = λ a e t. rw e (runs-count (a .program) q t);
       skips = λ a e dims block n t.
           let r = read-of fit source a e in
-          locality.property-3 (a .program) (q .sizes) dims (flagged timing source a (parsed source (r .0) a (r .1))) block n t (q .grid);
+          covering.property-3 (a .program) (q .sizes) dims (flagged timing source a (parsed source (r .0) a (r .1))) block n t (q .grid);
     }

@@ -43,7 +43,7 @@ pub record Begun (fit : Bool) (source : List ℕ) (q : Request) (words : List �
   pub shaped : Shaped rule (q .sizes) (length (q .grid))
   pub scratch-fits : q .scratch ≡ length (q .grid)
   pub marks-fit : q .marks ≡ product (q .sizes)
-  pub near : Near (q .sizes) r
+  pub near : Near (q .sizes) (r .bounds)
   pub start-is : q .start ≡ pos (natAbs (q .start))
   pub steps-is : q .steps ≡ pos (natAbs (q .steps))
   pub times : natAbs (q .start) + natAbs (q .steps) ≤ 2147483647

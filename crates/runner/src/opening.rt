@@ -9,6 +9,7 @@ use admission::admit;
 use checker::load;
 use semantics::Rule;
 use stepper::Reach;
+use stepper::own_only;
 
 // Whether a run begins: then the rule, its reach and whether `time` stands in the source; else the refusal's number and place.
 pub struct Opening {
@@ -36,14 +37,7 @@ fn closed(number: u32, place: u32) -> Opening
             fields: 0,
             slots: 0,
         },
-        reach: Reach {
-            back0: 0,
-            ahead0: 0,
-            back1: 0,
-            ahead1: 0,
-            back2: 0,
-            ahead2: 0,
-        },
+        reach: own_only(),
         timed: false,
     }
 }

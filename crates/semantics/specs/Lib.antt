@@ -3,10 +3,11 @@ pub mod Operators
 pub mod Evaluation
 pub mod Kept
 pub mod Written
+pub mod Places
 -- Which faults an operator gives.
 pub mod FaultLaws
 -- What it is for a program to stand in the word table, and what its leaf table is.
 pub mod Stands
 pub mod Leaves
--- The written indices, as they stand in the word table.
+-- The relative indices, as they stand in the word table.
 pub mod Listing

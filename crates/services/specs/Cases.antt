@@ -24,6 +24,7 @@ use Rattle.grammar.specs.Checking
 use Rattle.semantics.specs.Operators
 use Rattle.semantics.specs.Evaluation
 use Rattle.semantics.specs.Written
+use Rattle.semantics.specs.Places
 use Rattle.stepper.specs.Reach
 use Rattle.stepper.specs.Admission
 use Rattle.stepper.specs.Report
@@ -103,10 +104,12 @@ unfolding same-report Listed.list-of Step.first-fault Step.how-many Step.any-of 
     Source.parse Checking.rooms-fit Checking.lent-fit Checking.read-source Checking.check Checking.words-after
     Checking.names-after Operators.apply-unary Operators.compare Operators.apply-binary Evaluation.offsets
     Evaluation.element-at Evaluation.eval Evaluation.store Evaluation.assign-first Evaluation.each Evaluation.exec
-    Evaluation.evaluate Written.written-in-index Written.written-in-expr Written.written-in-condition
-    Written.written-in-clauses Written.written-in-block Written.written-in Reach.widened Reach.reach Reach.running
-    Admission.all-between Admission.good-sizes Admission.good-rooms Admission.good-times Admission.too-far
-    Admission.out-of-field Admission.admission Report.report-of Report.run Services.run-source Services.room-after
+    Evaluation.evaluate Written.relatives-in-expr Written.relatives-in-condition Written.relatives-in-clauses
+    Written.relatives-in-block Written.relatives-in Written.written-in-index Written.written-of Written.written-in
+    Places.vectors-of Places.has-place Places.add-place Places.add-places Places.add-relative Places.add-relatives
+    Places.places Reach.widened Reach.box Reach.reach Reach.running Admission.all-between Admission.good-sizes
+    Admission.good-rooms Admission.good-times Admission.too-far Admission.out-of-field Admission.admission Report.report-of
+    Report.run Services.run-source Services.room-after
 holds (checks l n place) =
     let c = check (fit l) (l .source) in
     eqb (c .number) n && eqb (c .place) place

@@ -1,6 +1,7 @@
 -- The marked examples M1 to M13 of document 01, as one list with one claim.
 use mathlib.Core.Path.{_≡_, refl}
 use mathlib.Core.List.{List, [], _∷_, _++_}
+use Prim.Native.Nat.{ℕ}
 use Prim.Native.String.{String}
 use lib.IntN.{ℤ, pos, negsuc}
 use Rattle.token.specs.Bytes.{as-bytes}
@@ -49,3 +50,41 @@ marked-examples =
 pub all-hold : failing 1 marked-examples ≡ []
 unfolding marked-examples failing holds
 all-hold = refl
+
+-- ---- the reach as a list of places (request 4/13)
+
+-- a source of two dimensions with an unnamed field 0..9
+abbrev pub plane : String → Lent
+plane rest = text (as-bytes "2 dimensions of 0..9 " ++ as-bytes rest)
+
+-- a grid of nine cells, of which the first is 1
+abbrev pub nine : List ℤ
+nine = pos 1 ∷ pos 0 ∷ pos 0 ∷ pos 0 ∷ pos 0 ∷ pos 0 ∷ pos 0 ∷ pos 0 ∷ pos 0 ∷ []
+
+-- the first cell goes to 0 in the first step, and nothing changes after it: the second step opens as many cells as there are places
+abbrev pub opens : String → List ℕ → ℕ → Case
+opens rest sizes count = runs (plane rest) (ask sizes nine (pos 0) (pos 2)) (report 0 0 0 2 18 (pos 0 ∷ pos 0 ∷ pos 0 ∷ pos 0 ∷ pos 0 ∷ pos 0 ∷ pos 0 ∷ pos 0 ∷ pos 0 ∷ [])) count
+
+unfoldable pub place-examples : List Case
+place-examples =
+    -- no index: the own cell alone
+    opens "cell := 0" (3 ∷ 3 ∷ []) 10
+    -- two places and the own cell; the box has four
+    ∷ opens "cell := 0 * [0,1] * [1,0]" (3 ∷ 3 ∷ []) 12
+    -- the same place twice
+    ∷ opens "cell := 0 * [0,1] * [0,1]" (3 ∷ 3 ∷ []) 11
+    -- one variable in both dimensions: a diagonal
+    ∷ opens "forall i : -1..1 cell := 0 * [i,i] end" (3 ∷ 3 ∷ []) 12
+    -- two variables: all nine
+    ∷ opens "forall i : -1..1 forall j : -1..1 cell := 0 * [i,j] end end" (3 ∷ 3 ∷ []) 18
+    -- a variable that does not stand in the index adds nothing
+    ∷ opens "forall i : -1..1 forall j : 0..1 cell := 0 * [0,j] end end" (3 ∷ 3 ∷ []) 11
+    -- run or not
+    ∷ opens "if 0 then cell := [2,2] end cell := 0" (3 ∷ 3 ∷ []) 11
+    -- different before wrapping, and one cell after it
+    ∷ opens "cell := 0 * [0,1] * [0,-2]" (3 ∷ 3 ∷ []) 11
+    ∷ []
+
+pub places-hold : failing 1 place-examples ≡ []
+unfolding place-examples failing holds
+places-hold = refl

@@ -4,20 +4,19 @@ use Rattle.marking.proofs.open_changed.Statement.{statement}
 use Rattle.marking.proofs.open_changed.Tie as tie
 
 differs-requires : tie.Need-differs-requires
-differs-requires c κs = let s = c .before .before in fields-fit _ _ _ _ _ (s .pre .6) (s .pre .0 .cells) (s .pre .2) (s .pre .3) (s .pre .4)
+differs-requires c κs = fields-fit _ _ _ _ _ (c .before .before .before .pre .7) (c .before .before .before .pre .0 .cells) (c .before .before .before .pre .3) (c .before .before .before .pre .4) (c .before .before .before .pre .5)
 
 open-from-requires : tie.Need-open-from-requires
-open-from-requires c κs = search needs
+open-from-requires c κs = (c .before .before .before .before .before .before .pre .0, c .before .before .before .before .before .before .pre .1, c .before .before .before .before .before .before .pre .2, c .before .before .before .before .before .before .pre .6, c .before .before .before .before .before .before .pre .7)
 
 same-length : tie.Need-same-length
 same-length c = search needs
 
 returns : tie.Need-returns
-returns c =
-    opens-some _ _ _ _ _ _ _ (c .before .before .before .before .before .differs .ensures) _ (c .before .before .before .before .if1 .taken) (c .before .before .open-from .ensures)
+returns c = opens-some _ _ _ _ _ _ (c .before .before .before .before .before .differs .ensures) _ (c .before .before .before .before .if1 .taken) (c .before .before .open-from .ensures)
 
 returns-2 : tie.Need-returns-2
-returns-2 c = opens-none _ _ _ _ _ _ _ (c .before .differs .ensures) (c .if1 .left)
+returns-2 c = opens-none _ _ _ _ _ _ (c .before .differs .ensures) (c .if1 .left)
 
 pub open-changed-spec : {M : Type 1} → statement M
 open-changed-spec =

@@ -1,13 +1,12 @@
 use mathlib.Core.Logic.{⊎-elim}
 use lib.Dec.{eqb}
 use Rattle.semantics.specs.Stands.{word-in}
-use Prim.Native.Nat.{_-_}
+use Prim.Native.Nat.{_-_, ℕ, _<_}
 use native.Mathlib.Omega.{arith}
 use borrow.Author.Needs.{needs}
-use Rattle.indices.specs.Surveying.{loops-of}
+use Rattle.places.specs.Vectors.{loops-of}
 use Rattle.indices.proofs.WalkLaws.{less-left, opens-deep, loops-length, loops-opened, Going, going-start, going-plain, going-loop, going-done}
 use Rattle.operands.proofs.TableLaws.{link-bounds}
-use Prim.Native.Nat.{ℕ, _<_}
 use borrow.Fn.Kinds.{In}
 use borrow.Fn.PlainCycle.{Measures, is, falls, and}
 use Rattle.indices.proofs.walk.part.Reads as part

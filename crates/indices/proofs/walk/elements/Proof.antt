@@ -1,9 +1,9 @@
 use Prim.Native.Nat.{_-_}
 use native.Mathlib.Omega.{arith}
+use Rattle.semantics.specs.Stands.{table-of, index-in}
+use Rattle.places.specs.Vectors.{loops-of}
+use Rattle.indices.proofs.ElementLaws.{element-ends, Steps, steps-start, steps-more, steps-done}
 use borrow.Author.Needs.{needs}
-use Rattle.semantics.specs.Stands.{table-of}
-use Rattle.indices.specs.Surveying.{loops-of}
-use Rattle.indices.proofs.ElementLaws.{Steps, steps-start, steps-more, steps-done}
 use Rattle.indices.proofs.walk.elements.Statement.{statement}
 use Rattle.indices.proofs.walk.elements.Tie as tie
 
@@ -19,39 +19,35 @@ cast-dims c = search needs
 loop-holds : tie.Need-loop-holds Inv-loop μ-loop
 loop-holds c = steps-start _ _ _ _ _ _
 
-ends-at-requires : tie.Need-ends-at-requires Inv-loop μ-loop
-ends-at-requires c κs = let p = c .before .before .before .before .before .pre in (p .0 .sized .table, p .0 .sized .tokens, p .0 .deep)
+element-word-requires : tie.Need-element-word-requires Inv-loop μ-loop
+element-word-requires c κs = (c .before .before .before .before .before .pre .0 .sized .table, c .before .before .before .before .before .pre .0 .sized .tokens, c .before .before .before .before .before .pre .0 .deep)
+
+element-word-requires-2 : tie.Need-element-word-requires-2 Inv-loop μ-loop
+element-word-requires-2 c κs = (c .before .before .before .before .before .before .pre .0 .sized .table, c .before .before .before .before .before .before .pre .0 .sized .tokens, c .before .before .before .before .before .before .pre .0 .deep)
 
 mul-counted : tie.Need-mul-counted Inv-loop μ-loop
 mul-counted c = search needs
 
 shared-slice-read-counted : tie.Need-shared-slice-read-counted Inv-loop μ-loop
-shared-slice-read-counted c = omega (arith, c .before .before .before .before .before .before .before .pre .0 .dims)
+shared-slice-read-counted c = omega (arith, c .before .before .before .before .before .before .before .before .pre .0 .dims)
 
 place-at-requires : tie.Need-place-at-requires Inv-loop μ-loop
-place-at-requires c κs = let p = c .before .before .before .before .before .before .before .pre in (p .0 .sized .table, p .0 .sized .tokens)
+place-at-requires c κs = (c .before .before .before .before .before .before .before .before .pre .0 .sized .table, c .before .before .before .before .before .before .before .before .pre .0 .sized .tokens)
 
 counted-requires : tie.Need-counted-requires Inv-loop μ-loop
-counted-requires c κs = omega (arith, c .before .before .before .before .before .before .before .before .pre .0 .sized .dims)
+counted-requires c κs = omega (arith, c .before .before .before .before .before .before .before .before .before .pre .0 .sized .dims)
 
 element-after-requires : tie.Need-element-after-requires Inv-loop μ-loop
-element-after-requires c κs =
-    let l = c .before .before .before .before .before .loop in
-    let p = c .before .before .before .before .before .before .before .before .before .pre in
-    (p .0 .sized .table, p .0 .sized .tokens, omega (arith, p .0 .sized .dims, l .inv .near, p .1))
+element-after-requires c κs = (c .before .before .before .before .before .before .before .before .before .before .pre .0 .sized .table, c .before .before .before .before .before .before .before .before .before .before .pre .0 .sized .tokens, omega (arith, c .before .before .before .before .before .before .before .before .before .before .pre .0 .sized .dims, c .before .before .before .before .before .before .loop .inv .near, c .before .before .before .before .before .before .before .before .before .before .pre .1))
 
 add-k : tie.Need-add-k Inv-loop μ-loop
-add-k c = omega (arith, c .before .before .before .before .before .before .before .before .before .before .pre .0 .sized .dims)
+add-k c = omega (arith, c .before .before .before .before .before .before .before .before .before .before .before .pre .0 .sized .dims)
 
 loop-less : tie.Need-loop-less Inv-loop μ-loop
 loop-less c = omega arith
 
 loop-again : tie.Need-loop-again Inv-loop μ-loop
-loop-again c =
-    let l = c .before .before .before .before .before .before .loop in
-    let p = c .before .before .before .before .before .before .before .before .before .before .pre in
-    steps-more _ _ _ _ (l .inv) (p .0 .sized .dims) (c .before .before .before .before .before .loop-test .taken) (c .before .before .before .before .ends-at .ensures)
-    (c .before .before .place-at .ensures) (c .before .counted .ensures) (c .element-after .ensures)
+loop-again c = let a = c .before .before .before .before .before .before .before .before .before .before .before .args in steps-more _ _ _ _ (c .before .before .before .before .before .before .before .loop .inv) (c .before .before .before .before .before .before .before .before .before .before .before .pre .0 .sized .dims) (c .before .before .before .before .before .before .loop-test .taken) (element-ends (a .lows .now) (a .highs .now) (a .depth) (index-in (table-of (a .words .now) (a .rule .tokens) (a .rule .dims)) (c .before .before .before .before .before .before .before .loop .here)) (c .before .before .before .before .before .element-word .result) (c .before .before .before .before .element-word2 .result) (c .before .before .before .before .before .element-word .ensures) (c .before .before .before .before .element-word2 .ensures)) (c .before .before .place-at .ensures) (c .before .counted .ensures) (c .element-after .ensures)
 
 returns : tie.Need-returns Inv-loop μ-loop
 returns c = steps-done _ _ _ _ (c .before .loop .inv) (c .loop-test .left)
@@ -64,7 +60,8 @@ elements-spec =
     μ-loop
     cast-dims
     loop-holds
-    ends-at-requires
+    element-word-requires
+    element-word-requires-2
     mul-counted
     shared-slice-read-counted
     place-at-requires

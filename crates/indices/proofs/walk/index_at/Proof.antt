@@ -1,5 +1,5 @@
-use Rattle.indices.specs.Surveying.{loops-of}
-use Rattle.indices.proofs.WalkLaws.{counts-index, counts-none}
+use Rattle.places.specs.Vectors.{loops-of}
+use Rattle.indices.proofs.WalkLaws.{counts-index, counts-flat, counts-none}
 use borrow.Author.Needs.{needs}
 use Rattle.indices.proofs.walk.index_at.Statement.{statement}
 use Rattle.indices.proofs.walk.index_at.Tie as tie
@@ -10,24 +10,29 @@ cast-is-index c = search needs
 is-index-requires : tie.Need-is-index-requires
 is-index-requires c κs = search needs
 
-add-elements : tie.Need-add-elements
-add-elements c = search needs
+add-with-index : tie.Need-add-with-index
+add-with-index c = search needs
 
-elements-requires : tie.Need-elements-requires
-elements-requires c κs = search needs
+with-index-requires : tie.Need-with-index-requires
+with-index-requires c κs = search needs
 
 returns : tie.Need-returns
-returns c =
-    let a = c .before .before .before .before .before .before .args in
-    counts-index (a .words .now) (a .rule) (a .sizes .now) (loops-of (a .lows .now) (a .highs .now) (a .depth)) (a .at) (c .before .before .is-index .ensures)
-    (c .before .if1 .taken) (c .elements .ensures)
+returns c = let a = c .before .before .before .before .before .before .before .before .args in counts-index (a .words .now) (a .rule) (a .sizes .now) (loops-of (a .lows .now) (a .highs .now) (a .depth)) (a .at) (c .before .before .before .before .is-index .ensures) (c .before .before .before .if1 .taken) (c .before .if2 .taken) (c .with-index .ensures)
 
 returns-2 : tie.Need-returns-2
-returns-2 c =
-    let a = c .before .before .before .before .before .args in
-    counts-none (a .words .now) (a .rule) (a .sizes .now) (loops-of (a .lows .now) (a .highs .now) (a .depth)) (a .at) (c .before .is-index .ensures) (c .if1 .left)
+returns-2 c = let a = c .before .before .before .before .before .before .before .args in counts-flat (a .words .now) (a .rule) (a .sizes .now) (loops-of (a .lows .now) (a .highs .now) (a .depth)) (a .at) (c .before .before .before .is-index .ensures) (c .before .before .if1 .taken) (c .if2 .left)
+
+returns-3 : tie.Need-returns-3
+returns-3 c = let a = c .before .before .before .before .before .args in counts-none (a .words .now) (a .rule) (a .sizes .now) (loops-of (a .lows .now) (a .highs .now) (a .depth)) (a .at) (c .before .is-index .ensures) (c .if1 .left)
 
 pub index-at-spec : {M : Type 1} → statement M
 index-at-spec =
     tie.close
-    (tie.spec cast-is-index is-index-requires add-elements elements-requires returns returns-2)
+    (tie.spec
+    cast-is-index
+    is-index-requires
+    add-with-index
+    with-index-requires
+    returns
+    returns-2
+    returns-3)

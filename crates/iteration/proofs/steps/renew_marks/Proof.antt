@@ -1,21 +1,17 @@
-use borrow.Author.Needs.{needs}
 use Rattle.iteration.proofs.StepwiseLaws.{renewed-some, renewed-all}
+use borrow.Author.Needs.{needs}
 use Rattle.iteration.proofs.steps.renew_marks.Statement.{statement}
 use Rattle.iteration.proofs.steps.renew_marks.Tie as tie
 
--- src/steps.rt:28:9
 mark-open-requires : tie.Need-mark-open-requires
 mark-open-requires c κs = search needs
 
--- src/steps.rt:15:1
 same-length : tie.Need-same-length
 same-length c = search needs
 
--- src/steps.rt:15:1
 returns : tie.Need-returns
 returns c = renewed-some (c .before .before .before .before .if1 .taken) (c .before .before .mark-open .ensures)
 
--- src/steps.rt:15:1
 returns-2 : tie.Need-returns-2
 returns-2 c = renewed-all (c .if1 .left)
 

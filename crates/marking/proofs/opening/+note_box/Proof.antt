@@ -13,7 +13,7 @@ use Rattle.marking.proofs.opening.+note_box.Lts-note_box as note-box-lt
 use Rattle.marking.proofs.opening.next_coordinate.Reads as next-coordinate-reads
 use Rattle.marking.proofs.opening.note_line.Reads as note-line-reads
 use Rattle.marking.proofs.opening.note_lines.Reads as note-lines-reads
-use Rattle.marking.proofs.opening.wide.Reads as wide-reads
+use Rattle.place_marks.proofs.wide.Reads as wide-reads
 use Rattle.marking.proofs.opening.+note_box.{statement}
 use Rattle.marking.proofs.opening.+note_box.Tie.{close}
 

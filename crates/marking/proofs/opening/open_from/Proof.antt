@@ -1,43 +1,31 @@
-use mathlib.Core.Path.{refl}
-use native.Mathlib.Omega.{arith}
-use Rattle.marking.proofs.OpenLaws.{boxed-whole, box-done}
+use Prim.Native.Nat.{ℕ}
+use mathlib.Core.Path.{sym, ap, _∙_}
+use mathlib.Core.List.{List}
+use Rattle.marking.specs.Noting.{note-all}
+use Rattle.marking.proofs.OpenLaws.{by-list, by-box}
 use borrow.Author.Needs.{needs}
 use Rattle.marking.proofs.opening.open_from.Statement.{statement}
 use Rattle.marking.proofs.opening.open_from.Tie as tie
 
-cast-set-firsts : tie.Need-cast-set-firsts
-cast-set-firsts c = let s = c .before .before in omega (arith, s .pre .0 .cells, s .pre .3)
-
-slice-aggregate-set-firsts : tie.Need-slice-aggregate-set-firsts
-slice-aggregate-set-firsts c = search needs
-
-set-firsts-requires : tie.Need-set-firsts-requires
-set-firsts-requires c κs = let s = c .before .before .before in (s .pre .0, s .pre .3, refl)
-
-slice-aggregate-note-box : tie.Need-slice-aggregate-note-box
-slice-aggregate-note-box c = search needs
-
-note-box-requires : tie.Need-note-box-requires
-note-box-requires c κs =
-    let s = c .before .before .before .before .before .before .before .before in
-    boxed-whole _ _ (s .pre .0) _ _ _ (c .before .before .before .before .set-firsts .ensures) (s .pre .1) _ (s .pre .2)
+open-list-requires : tie.Need-open-list-requires
+open-list-requires c κs = (c .before .before .before .before .before .pre .0, c .before .before .before .before .before .pre .2, c .before .if1 .taken, c .before .before .before .before .before .pre .3, c .before .before .before .before .before .pre .4)
 
 same-length : tie.Need-same-length
 same-length c = search needs
 
 returns : tie.Need-returns
-returns c =
-    let s = c .before .before .before .before .before .before .before .before .before .before .before in
-    box-done _ _ (s .pre .0) _ _ _ (c .before .before .before .before .before .before .before .set-firsts .ensures) (s .pre .1) _ _ (c .before .before .note-box .ensures)
+returns c = let a = c .before .before .before .before .before .before .before .before .args in c .before .before .open-list .ensures ∙ ap (λ (cs : List ℕ). note-all cs (a .marks .now)) (sym (by-list (a .sizes .now) (a .bounds) (a .steps .now) (a .listed) (a .x) (c .before .before .before .before .if1 .taken)))
+
+open-box-requires : tie.Need-open-box-requires
+open-box-requires c κs = (c .before .before .before .before .before .pre .0, c .before .before .before .before .before .pre .1, c .before .before .before .before .before .pre .3, c .before .before .before .before .before .pre .4)
+
+same-length-2 : tie.Need-same-length-2
+same-length-2 c = search needs
+
+returns-2 : tie.Need-returns-2
+returns-2 c = let a = c .before .before .before .before .before .before .before .before .args in c .before .before .open-box .ensures ∙ ap (λ (cs : List ℕ). note-all cs (a .marks .now)) (sym (by-box (a .sizes .now) (a .bounds) (a .steps .now) (a .listed) (a .x) (c .before .before .before .before .if1 .left)))
 
 pub open-from-spec : {M : Type 1} → statement M
 open-from-spec =
     tie.close
-    (tie.spec
-    cast-set-firsts
-    slice-aggregate-set-firsts
-    set-firsts-requires
-    slice-aggregate-note-box
-    note-box-requires
-    same-length
-    returns)
+    (tie.spec open-list-requires same-length returns open-box-requires same-length-2 returns-2)

@@ -1,74 +1,62 @@
-use Rattle.marking.proofs.PlaceLaws.{size-some, first-ready, Placing, placing-start, placing-more, placing-done}
-use Prim.Native.Nat.{_≤_}
-use mathlib.Core.Path.{refl, sym, _∙_}
+use Prim.Native.Nat.{_-_, _<_}
+use mathlib.Core.Path.{_≡_, refl, sym, _∙_}
 use native.Mathlib.Omega.{arith}
 use lib.ListN.{length}
+use Rattle.marking.proofs.PlaceLaws.{first-ready, Firsting, firsting-start, firsting-more, firsting-done}
 use borrow.Author.Needs.{needs}
 use Rattle.marking.proofs.opening.set_firsts.Statement.{statement}
 use Rattle.marking.proofs.opening.set_firsts.Tie as tie
 
 abbrev Inv-loop : tie.InvT-loop
-Inv-loop sizes reach x firsts₀ rest₀ k₀ firsts rest k = (k ≤ length sizes) × Placing sizes reach x firsts rest k
+Inv-loop sizes bounds at firsts₀ dims k₀ firsts k = (dims ≡ length sizes) × Firsting sizes bounds at firsts k
 
 abbrev μ-loop : tie.MeasureT-loop
-μ-loop sizes reach x firsts₀ rest₀ k₀ firsts rest k = k
+μ-loop sizes bounds at firsts₀ dims k₀ firsts k = dims - k
 
 loop-holds : tie.Need-loop-holds Inv-loop μ-loop
-loop-holds c = (omega arith, placing-start _ _ _ _ (c .before .before .pre .2))
+loop-holds c = (refl, firsting-start _ _ _ _ (c .before .before .pre .2))
 
-sub-k : tie.Need-sub-k Inv-loop μ-loop
-sub-k c = search needs
+mul-first-coordinate : tie.Need-mul-first-coordinate Inv-loop μ-loop
+mul-first-coordinate c = search needs
 
-mul-n : tie.Need-mul-n Inv-loop μ-loop
-mul-n c = search needs
-
-shared-slice-read-n : tie.Need-shared-slice-read-n Inv-loop μ-loop
-shared-slice-read-n c = search needs
-
-rem-wide : tie.Need-rem-wide Inv-loop μ-loop
-rem-wide c = size-some _ _ (c .before .before .before .before .before .pre .0) _ (search needs) refl
-
-wide-requires : tie.Need-wide-requires Inv-loop μ-loop
-wide-requires c κs = search needs
+element-copy-out-first-coordinate : tie.Need-element-copy-out-first-coordinate Inv-loop μ-loop
+element-copy-out-first-coordinate c = omega (arith, c .before .loop .inv .0, c .before .before .before .before .pre .0 .dims, c .loop-test .taken)
 
 ahead-at-requires : tie.Need-ahead-at-requires Inv-loop μ-loop
 ahead-at-requires c κs = search needs
 
-wide-requires-2 : tie.Need-wide-requires-2 Inv-loop μ-loop
-wide-requires-2 c κs = search needs
+mul-wide : tie.Need-mul-wide Inv-loop μ-loop
+mul-wide c = search needs
+
+shared-slice-read-wide : tie.Need-shared-slice-read-wide Inv-loop μ-loop
+shared-slice-read-wide c = omega (arith, c .before .before .before .before .loop .inv .0, c .before .before .before .loop-test .taken)
+
+wide-requires : tie.Need-wide-requires Inv-loop μ-loop
+wide-requires c κs = search needs
 
 first-coordinate-requires : tie.Need-first-coordinate-requires Inv-loop μ-loop
-first-coordinate-requires c κs =
-    let s = c .before .before .before .before .before .before .before .before in
-    first-ready _ _ (s .pre .0) _ (search needs) (c .wide2 .ensures) _ (c .before .before .wide .ensures) (c .before .ahead-at .ensures)
+first-coordinate-requires c κs = let l : c .before .before .before .before .before .loop .k < length (c .before .before .before .before .before .before .before .before .args .sizes .now) = omega (arith, c .before .before .before .before .before .loop .inv .0, c .before .before .before .before .loop-test .taken) in first-ready _ _ (c .before .before .before .before .before .before .before .before .pre .0) (c .before .before .before .before .before .loop .k) l (c .wide .ensures) (c .before .before .before .before .before .before .before .before .pre .1 .each (c .before .before .before .before .before .loop .k) l) (c .before .before .ahead-at .ensures)
 
 mul-firsts : tie.Need-mul-firsts Inv-loop μ-loop
 mul-firsts c = search needs
 
 slice-write-firsts : tie.Need-slice-write-firsts Inv-loop μ-loop
-slice-write-firsts c = search needs
+slice-write-firsts c = omega (arith, c .before .before .before .before .before .before .loop .inv .0, c .before .before .before .before .before .before .loop .inv .1 .len, c .before .before .before .before .before .before .before .before .before .pre .0 .dims, c .before .before .before .before .before .loop-test .taken)
 
-div-rest : tie.Need-div-rest Inv-loop μ-loop
-div-rest c = size-some _ _ (c .before .before .before .before .before .before .before .before .before .pre .0) _ (search needs) refl
+add-k : tie.Need-add-k Inv-loop μ-loop
+add-k c = omega (arith, c .before .before .before .before .before .before .loop .inv .0, c .before .before .before .before .before .before .before .before .before .pre .0 .dims, c .before .before .before .before .before .loop-test .taken)
 
 loop-less : tie.Need-loop-less Inv-loop μ-loop
-loop-less c = search needs
+loop-less c = omega (arith, c .before .before .before .before .before .loop-test .taken)
 
 loop-again : tie.Need-loop-again Inv-loop μ-loop
-loop-again c =
-    let s = c .before .before .before .before .before .before .before .before .before in
-    let l = c .before .before .before .before .before .before .loop in (
-      search needs,
-      placing-more _ _ _ (l .firsts) (l .rest) (l .k) _ (s .pre .0 .positive) (l .inv .1) (search needs) (search needs) (c .before .before .before .wide .ensures) (c .before .wide2 .ensures) (c .before .before .ahead-at .ensures) (c .first-coordinate .ensures),
-    )
+loop-again c = (c .before .before .before .before .before .before .loop .inv .0, firsting-more _ _ _ (c .before .before .before .before .before .before .loop .firsts) (c .before .before .before .before .before .before .loop .k) (c .before .before .before .before .before .before .loop .inv .1) (omega (arith, c .before .before .before .before .before .before .loop .inv .0, c .before .before .before .before .before .before .before .before .before .pre .0 .dims, c .before .before .before .before .before .loop-test .taken)) (c .before .wide .ensures) (c .before .before .before .ahead-at .ensures) (c .first-coordinate .ensures))
 
 same-length : tie.Need-same-length Inv-loop μ-loop
 same-length c = c .before .loop .inv .1 .len ∙ sym (c .before .before .before .before .pre .2)
 
 returns : tie.Need-returns Inv-loop μ-loop
-returns c =
-    let l = c .before .loop in
-    placing-done _ _ _ (l .firsts) (l .rest) (l .k) (c .before .before .before .before .pre .1) (l .inv .1) (search needs)
+returns c = firsting-done _ _ _ (c .before .loop .firsts) (c .before .loop .k) (c .before .loop .inv .1) (omega (arith, c .before .loop .inv .0, c .loop-test .left))
 
 pub set-firsts-spec : {M : Type 1} → statement M
 set-firsts-spec =
@@ -77,17 +65,16 @@ set-firsts-spec =
     Inv-loop
     μ-loop
     loop-holds
-    sub-k
-    mul-n
-    shared-slice-read-n
-    rem-wide
-    wide-requires
+    mul-first-coordinate
+    element-copy-out-first-coordinate
     ahead-at-requires
-    wide-requires-2
+    mul-wide
+    shared-slice-read-wide
+    wide-requires
     first-coordinate-requires
     mul-firsts
     slice-write-firsts
-    div-rest
+    add-k
     loop-less
     loop-again
     same-length

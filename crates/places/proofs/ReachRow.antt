@@ -24,7 +24,7 @@ abbrev pub Row : RattleType
 Row = R.the-row
 
 abbrev pub mach : Reach → Val
-mach = R′.lowered
+mach h = LL.val R.the-type R′.the-laws h
 
 abbrev pub vals : Reach → List Val
 vals h = mach h ∷ []

@@ -1,0 +1,81 @@
+use Prim.Native.Nat.{_-_, _*_, _+_}
+use mathlib.Core.Path.{sym}
+use native.Mathlib.Omega.{arith}
+use lib.IntN.{pos}
+use lib.ListN.{getD}
+use Rattle.value.specs.Worked.{decode-of}
+use Rattle.automaton.specs.Listed.{length-list-of, getD-list-of}
+use Rattle.stepper.specs.Fitting.{place-at}
+use Rattle.places.proofs.VectorLaws.{Putting, putting-start, putting-more, putting-done}
+use borrow.Author.Needs.{needs}
+use Rattle.places.proofs.listing.put_place.Statement.{statement}
+use Rattle.places.proofs.listing.put_place.Tie as tie
+
+abbrev Inv-loop : tie.InvT-loop
+Inv-loop places₀ k list e dims d₀ places d = Putting dims k (place-at list dims e) places₀ places d
+
+abbrev μ-loop : tie.MeasureT-loop
+μ-loop places₀ k list e dims d₀ places d = dims - d
+
+loop-holds : tie.Need-loop-holds Inv-loop μ-loop
+loop-holds c = putting-start _ _ _ _
+
+mul-places : tie.Need-mul-places Inv-loop μ-loop
+mul-places c = search needs
+
+add-places : tie.Need-add-places Inv-loop μ-loop
+add-places c = search needs
+
+mul-places-2 : tie.Need-mul-places-2 Inv-loop μ-loop
+mul-places-2 c = search needs
+
+shared-slice-read-places : tie.Need-shared-slice-read-places Inv-loop μ-loop
+shared-slice-read-places c = search needs
+
+mul-places-3 : tie.Need-mul-places-3 Inv-loop μ-loop
+mul-places-3 c = search needs
+
+add-places-2 : tie.Need-add-places-2 Inv-loop μ-loop
+add-places-2 c = search needs
+
+mul-places-4 : tie.Need-mul-places-4 Inv-loop μ-loop
+mul-places-4 c = search needs
+
+slice-write-places : tie.Need-slice-write-places Inv-loop μ-loop
+slice-write-places c = omega (arith, c .before .before .loop .inv .len, c .before .before .before .pre .0, c .before .before .before .pre .1, c .before .before .before .pre .4, c .before .loop-test .taken)
+
+add-d : tie.Need-add-d Inv-loop μ-loop
+add-d c = search needs
+
+loop-less : tie.Need-loop-less Inv-loop μ-loop
+loop-less c = search needs
+
+loop-again : tie.Need-loop-again Inv-loop μ-loop
+loop-again c = putting-more _ _ _ _ (c .before .before .loop .places) (c .before .before .loop .d) _ (c .before .before .loop .inv) (c .before .loop-test .taken) (omega (arith, c .before .before .loop .inv .len, c .before .before .before .pre .0, c .before .before .before .pre .1, c .before .before .before .pre .4, c .before .loop-test .taken)) (sym (getD-list-of (λ d. decode-of (getD (c .before .before .before .args .list .now) (3 * c .before .before .before .args .e + d) 0)) (c .before .before .before .args .dims) (c .before .before .loop .d) (pos 0) (c .before .loop-test .taken)))
+
+same-length : tie.Need-same-length Inv-loop μ-loop
+same-length c = c .before .loop .inv .len
+
+returns : tie.Need-returns Inv-loop μ-loop
+returns c = putting-done _ _ _ _ (c .before .loop .places) (c .before .loop .d) (length-list-of _ _) (c .before .loop .inv) (c .loop-test .left)
+
+pub put-place-spec : {M : Type 1} → statement M
+put-place-spec =
+    tie.close
+    (tie.spec
+    Inv-loop
+    μ-loop
+    loop-holds
+    mul-places
+    add-places
+    mul-places-2
+    shared-slice-read-places
+    mul-places-3
+    add-places-2
+    mul-places-4
+    slice-write-places
+    add-d
+    loop-less
+    loop-again
+    same-length
+    returns)

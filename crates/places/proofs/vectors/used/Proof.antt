@@ -1,0 +1,61 @@
+use Prim.Native.Nat.{_-_}
+use mathlib.Core.Path.{refl}
+use native.Mathlib.Omega.{arith}
+use Rattle.semantics.specs.Stands.{table-of, indices-in}
+use Rattle.places.proofs.ElementLaws.{Using, using-start, using-more, using-done}
+use borrow.Author.Needs.{needs}
+use Rattle.places.proofs.vectors.used.Statement.{statement}
+use Rattle.places.proofs.vectors.used.Tie as tie
+
+abbrev Inv-loop : tie.InvT-loop
+Inv-loop words n dims given depth at r₀ d₀ r d = Using (indices-in (table-of words n dims) dims at) given depth r d
+
+abbrev μ-loop : tie.MeasureT-loop
+μ-loop words n dims given depth at r₀ d₀ r d = depth - d
+
+loop-holds : tie.Need-loop-holds Inv-loop μ-loop
+loop-holds c = using-start _ _ _ _ refl
+
+mul-used-word : tie.Need-mul-used-word Inv-loop μ-loop
+mul-used-word c = search needs
+
+element-copy-out-used-word : tie.Need-element-copy-out-used-word Inv-loop μ-loop
+element-copy-out-used-word c = search needs
+
+used-word-requires : tie.Need-used-word-requires Inv-loop μ-loop
+used-word-requires c κs = search needs
+
+mul-r : tie.Need-mul-r Inv-loop μ-loop
+mul-r c = search needs
+
+array-write-r : tie.Need-array-write-r Inv-loop μ-loop
+array-write-r c = search needs
+
+add-d : tie.Need-add-d Inv-loop μ-loop
+add-d c = search needs
+
+loop-less : tie.Need-loop-less Inv-loop μ-loop
+loop-less c = search needs
+
+loop-again : tie.Need-loop-again Inv-loop μ-loop
+loop-again c = using-more _ _ _ (c .before .before .before .loop .r) (c .before .before .before .loop .d) (c .before .before .before .loop .inv) (omega (arith, c .before .before .loop-test .taken, c .before .before .before .before .before .pre .3)) (c .used-word .ensures)
+
+returns : tie.Need-returns Inv-loop μ-loop
+returns c = using-done _ _ _ (c .before .loop .r) (c .before .loop .d) (c .before .loop .inv) (c .loop-test .left)
+
+pub used-spec : {M : Type 1} → statement M
+used-spec =
+    tie.close
+    (tie.spec
+    Inv-loop
+    μ-loop
+    loop-holds
+    mul-used-word
+    element-copy-out-used-word
+    used-word-requires
+    mul-r
+    array-write-r
+    add-d
+    loop-less
+    loop-again
+    returns)
