@@ -116,7 +116,7 @@ static void marked_examples(void) {
     expect_value("M11", "1 dimensions of -99..99 cell := 7 % -2", 1);
     expect_runs("M12, own cell", "1 dimensions of 0..9 cell := [5]", row, 5, 0, 1, m12_own, 5);
     expect_runs("M12, too far", "1 dimensions of 0..9 cell := [6]", row, 5, 0, 1, m12_far, 0);
-    expect_check("M13", "4 dimensions of 0..1", CELLANG_BAD_NUMBER, 0);
+    expect_check("M13", "4 dimensions of 0..1", CELLANG_BAD_DIMENSIONS, 0);
 }
 
 /* Whether the three numbers of a spelling name these bytes of the source or of the list. */

@@ -1,7 +1,8 @@
 //! The C header names the same replies and kinds.
 
 use cellang::{
-    Difference, Entry, FaultKind, Kind, NotCompared, Objection, Place, Reason, BUILT_IN, NAME_WORDS, WORDS,
+    Difference, Entry, FaultKind, Kind, NotCompared, Objection, Place, Reason, BUILT_IN,
+    NAME_WORDS, WORDS,
 };
 use std::fmt::Debug;
 use std::mem::size_of;

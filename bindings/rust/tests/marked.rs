@@ -43,7 +43,10 @@ fn m1_to_m4_and_m13() {
     );
     let chained = format!("{S}cell := 1 < 2 < 3");
     assert_eq!(reply(&chained), refused(Reason::RelationOnRelation, 35));
-    assert_eq!(reply("4 dimensions of 0..1"), refused(Reason::BadDimensions, 0));
+    assert_eq!(
+        reply("4 dimensions of 0..1"),
+        refused(Reason::BadDimensions, 0)
+    );
 }
 
 #[test]

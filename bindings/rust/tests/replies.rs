@@ -61,7 +61,7 @@ fn refusals() {
             "refused 41 at 19: range reversed",
         ),
         (
-            format!("{S}forall i : 0..4096 end"),
+            "1 dimensions of 0..1 forall i : 0..4096 end".into(),
             42,
             "refused 42 at 35: loop range",
         ),
@@ -76,7 +76,7 @@ fn refusals() {
             "refused 44 at 14: array size",
         ),
         (
-            format!("const a[] for 2 := 1,2,3 {S}"),
+            "const a[] for 2 := 1,2,3 1 dimensions of 0..1".into(),
             45,
             "refused 45 at 22: wrong number of values",
         ),

@@ -10,10 +10,40 @@ use crate::rooms::fill_marks;
 use crate::rooms::fill_scratch;
 use crate::rooms::left_of_marks;
 use crate::rooms::left_of_scratch;
+use iteration::Report;
 
 // Whether the run that a reply is of began.
 fn began(number: u32) -> bool {
     number == 0 || (number >= 30 && number <= 33)
+}
+
+// Runs a source with the built-in list.
+fn run_source(
+    quiet: bool,
+    source: &[u8],
+    words: &mut [u32],
+    names: &mut [u32],
+    sizes: &[u32],
+    grid: &mut [i32],
+    scratch: &mut [i32],
+    marks: &mut [u8],
+    start: i64,
+    steps: i64,
+) -> Report {
+    let list = spelling::BUILT_IN;
+    runner::run(
+        source,
+        &list,
+        words,
+        names,
+        sizes,
+        grid,
+        scratch,
+        marks,
+        start,
+        steps,
+        quiet,
+    )
 }
 
 // Runs a source in the rooms that are lent, and writes the line.
@@ -31,10 +61,9 @@ fn answer_run(
 ) -> bool {
     fill_scratch(scratch);
     fill_marks(marks);
-    let list = spelling::BUILT_IN;
-    let report = runner::run(
+    let report = run_source(
+        quiet,
         source,
-        &list,
         words,
         names,
         sizes,
@@ -43,7 +72,6 @@ fn answer_run(
         marks,
         start,
         steps,
-        quiet,
     );
     let begun = began(report.number);
     let cleared = left_of_scratch(scratch, begun);
