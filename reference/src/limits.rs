@@ -129,7 +129,7 @@ pub fn token_counts() -> Vec<Vec<u8>> {
 /// Constants c0, c1 and so on and the arrays a and b, so many that the declaration's `of`, the last word, is token number `last`.
 pub fn up_to_of(count: usize, last: usize) -> String {
     let left = last - 3 - 4 * count - 12;
-    let sign = if left % 2 == 0 { "" } else { "-" };
+    let sign = if left.is_multiple_of(2) { "" } else { "-" };
     let list = |length: usize| format!("for {length}:={}1", "1,".repeat(length - 1));
     let (long, short) = (list(1_024), list(left / 2 - 1_024));
     let text = format!("{}const a[] {long} const b[] {short}", constants(count));

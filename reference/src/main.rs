@@ -274,10 +274,10 @@ fn count_replies(seed: u64, count: usize) -> io::Result<ExitCode> {
         .chain(30..=33);
     let mut missing = false;
     for number in wanted {
-        let found = if number < 20 || number >= 40 {
-            checks[number]
-        } else {
+        let found = if (20..40).contains(&number) {
             runs[number]
+        } else {
+            checks[number]
         };
         if found == 0 {
             println!("never: {number}");
