@@ -16,6 +16,7 @@ pub use exports::cellang_run_quiet;
 pub use records::Name;
 pub use records::lookup::count;
 pub use records::lookup::find_by_place;
+pub use records::lookup::find_field;
 pub use records::lookup::kind_of;
 pub use records::lookup::record;
 pub use running::run;

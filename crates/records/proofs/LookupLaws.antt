@@ -1,6 +1,6 @@
 -- The lookups in a row of records, record by record.
-use mathlib.Core.Path.{_≡_, refl, sym, ap, subst}
-use mathlib.Core.Bool.{Bool, true, false, not, _&&_}
+use mathlib.Core.Path.{_≡_, refl, sym, subst}
+use mathlib.Core.Bool.{Bool, true, false, not}
 use mathlib.Core.List.{List}
 use Prim.Native.Nat.{ℕ, zero, suc, _+_, _≤_, _<_}
 use native.Mathlib.Nat.{le-antisymm, le-of-suc-le-suc, not-suc-le-zero, lt-irrefl}
@@ -9,9 +9,10 @@ use lib.Dec.{eqb, ltb}
 use lib.ListN.{getD}
 use borrow.Author.Tests.{eq-eqb, ne-eqb, eqb-true, eqb-false, ltb-true, ltb-false}
 use Rattle.value.specs.Choice.{if_then_else_}
+use Rattle.value.specs.Worked.{encode-of}
 use Rattle.names.specs.Names.{most-names}
 use Rattle.records.specs.declared.Name.{Name}
-use Rattle.records.specs.Rows.{no-name, counted-on, count-below, record-count, is-at, found-on, FindsPlace}
+use Rattle.records.specs.Rows.{no-name, counted-on, count-below, record-count, is-at, is-field, found-on, FindsFirst}
 
 -- ---- one record
 
@@ -21,17 +22,31 @@ not-counted n r e = simp (eq-eqb (r .kind) 0 e)
 pub is-counted : (n : ℕ) (r : Name) → (r .kind ≡ 0 → ⊥) → n + 1 ≡ counted-on n r
 is-counted n r e = simp (ne-eqb (r .kind) 0 e)
 
-pub found-before : (n : ℕ) (r : Name) (place k : ℕ) → (n ≡ 256 → ⊥) → n ≡ found-on n r place k
-found-before n r place k e = simp (ne-eqb n 256 e)
+pub found-before : (test : Name → Bool) (n : ℕ) (r : Name) (k : ℕ) → (n ≡ 256 → ⊥) → n ≡ found-on test n r k
+found-before test n r k e = simp (ne-eqb n 256 e)
 
-pub found-undeclared : (n : ℕ) (r : Name) (place k : ℕ) → n ≡ 256 → r .kind ≡ 0 → 256 ≡ found-on n r place k
-found-undeclared n r place k e d = simp (eq-eqb n 256 e, eq-eqb (r .kind) 0 d)
+pub found-here : (test : Name → Bool) (n : ℕ) (r : Name) (k : ℕ) → n ≡ 256 → test r ≡ true → k ≡ found-on test n r k
+found-here test n r k e h = simp (eq-eqb n 256 e, h)
 
-pub found-here : (n : ℕ) (r : Name) (place k : ℕ) → n ≡ 256 → (r .kind ≡ 0 → ⊥) → r .start ≡ place → k ≡ found-on n r place k
-found-here n r place k e d h = simp (eq-eqb n 256 e, ne-eqb (r .kind) 0 d, eq-eqb (r .start) place h)
+pub found-elsewhere : (test : Name → Bool) (n : ℕ) (r : Name) (k : ℕ) → n ≡ 256 → test r ≡ false → 256 ≡ found-on test n r k
+found-elsewhere test n r k e h = simp (eq-eqb n 256 e, h)
 
-pub found-elsewhere : (n : ℕ) (r : Name) (place k : ℕ) → n ≡ 256 → (r .kind ≡ 0 → ⊥) → (r .start ≡ place → ⊥) → 256 ≡ found-on n r place k
-found-elsewhere n r place k e d h = simp (eq-eqb n 256 e, ne-eqb (r .kind) 0 d, ne-eqb (r .start) place h)
+-- ---- the tests
+
+pub undeclared : (place : ℕ) (r : Name) → r .kind ≡ 0 → false ≡ is-at place r
+undeclared place r e = simp (eq-eqb (r .kind) 0 e)
+
+pub declared-at : (place : ℕ) (r : Name) → (r .kind ≡ 0 → ⊥) → eqb (r .start) place ≡ is-at place r
+declared-at place r e = simp (ne-eqb (r .kind) 0 e)
+
+pub plain-field : (number : ℕ) (r : Name) → r .kind ≡ 3 → eqb (encode-of (r .value)) number ≡ is-field number r
+plain-field number r e = simp (eq-eqb (r .kind) 3 e)
+
+pub const-field : (number : ℕ) (r : Name) → r .kind ≡ 6 → eqb (encode-of (r .value)) number ≡ is-field number r
+const-field number r e = simp e
+
+pub no-field : (number : ℕ) (r : Name) → (r .kind ≡ 3 → ⊥) → (r .kind ≡ 6 → ⊥) → false ≡ is-field number r
+no-field number r e f = simp (ne-eqb (r .kind) 3 e, ne-eqb (r .kind) 6 f)
 
 -- ---- the count
 
@@ -47,19 +62,19 @@ pub count-is : (names : List Name) → count-below names 256 ≡ record-count na
 unfolding record-count
 count-is names = refl
 
--- ---- the search for a place
+-- ---- the search for the first record that passes a test
 
 -- the number found among the records below k
-abbrev pub found-below : List Name → ℕ → ℕ → ℕ
-found-below names place zero = 256
-found-below names place (suc k) = found-on (found-below names place k) (getD names k no-name) place k
+abbrev pub found-below : (Name → Bool) → List Name → ℕ → ℕ
+found-below test names zero = 256
+found-below test names (suc k) = found-on test (found-below test names k) (getD names k no-name) k
 
 -- r is what is found among the records below k
-record FoundTo (names : List Name) (place k r : ℕ) : Type 0 where
+record FoundTo (test : Name → Bool) (names : List Name) (k r : ℕ) : Type 0 where
   within : r ≤ 256
   below : r < 256 → r < k
-  here : r < 256 → is-at place (getD names r no-name) ≡ true
-  first : (j : ℕ) → j < k → j < r → is-at place (getD names j no-name) ≡ false
+  here : r < 256 → test (getD names r no-name) ≡ true
+  first : (j : ℕ) → j < k → j < r → test (getD names j no-name) ≡ false
 
 -- a number below suc k is below k, or k
 last-or : (P : ℕ → Type 0) (j k : ℕ) → j < suc k → (j < k → P j) → P k → P j
@@ -76,33 +91,16 @@ not-all r l n = by (ltb r 256) refl
     by true e = ltb-true r 256 e
     by false e = absurd (n (le-antisymm l (ltb-false r 256 e)))
 
-undeclared : (place : ℕ) (r : Name) → eqb (r .kind) 0 ≡ true → is-at place r ≡ false
-undeclared place r e = ap (λ (t : Bool). not t && eqb (r .start) place) e
-
-elsewhere : (place : ℕ) (r : Name) → eqb (r .kind) 0 ≡ false → eqb (r .start) place ≡ false → is-at place r ≡ false
-elsewhere place r e f = λ i. not (e i) && f i
-
-at-place : (place : ℕ) (r : Name) → eqb (r .kind) 0 ≡ false → eqb (r .start) place ≡ true → is-at place r ≡ true
-at-place place r e f = λ i. not (e i) && f i
-
-module _ (names : List Name) (place k r : ℕ) (less : k < 256) (h : FoundTo names place k r) where
+module _ (test : Name → Bool) (names : List Name) (k r : ℕ) (less : k < 256) (h : FoundTo test names k r) where
   abbrev new : Name
   new = getD names k no-name
 
-  -- no record was found, and the new one is not it either
-  none-yet : eqb r 256 ≡ true → is-at place new ≡ false → FoundTo names place (suc k) 256
-  none-yet e f =
-      record {
-        within = omega arith;
-        below = λ l. absurd (lt-irrefl 256 l);
-        here = λ l. absurd (lt-irrefl 256 l);
-        first = λ j l _. last-or (λ (i : ℕ). is-at place (getD names i no-name) ≡ false) j k l (λ m. h .first j m (subst (λ (n : ℕ). j < n) (sym (eqb-true r 256 e))
-            (omega (arith, m, less)))) f;
-      }
+  -- no record was found before
+  before-all : eqb r 256 ≡ true → (j : ℕ) → j < k → test (getD names j no-name) ≡ false
+  before-all e j m = h .first j m (subst (λ (n : ℕ). j < n) (sym (eqb-true r 256 e)) (omega (arith, m, less)))
 
-  one-more : (t : Bool) → eqb r 256 ≡ t → (u : Bool) → eqb (new .kind) 0 ≡ u → (w : Bool) → eqb (new .start) place ≡ w
-      → FoundTo names place (suc k) (if not t then r else if u then most-names else if w then k else most-names)
-  one-more false e u d w p =
+  one-more : (t : Bool) → eqb r 256 ≡ t → (u : Bool) → test new ≡ u → FoundTo test names (suc k) (if not t then r else if u then k else most-names)
+  one-more false e u p =
       record {
         within = h .within;
         below = λ l. omega (arith, h .below l);
@@ -112,28 +110,27 @@ module _ (names : List Name) (place k r : ℕ) (less : k < 256) (h : FoundTo nam
     where
       found : r < 256
       found = not-all r (h .within) (eqb-false r 256 e)
-  one-more true e true d w p = none-yet e (undeclared place new d)
-  one-more true e false d true p =
+  one-more true e true p = record { within = omega (arith, less); below = λ _. omega arith; here = λ _. p; first = λ j _ m. before-all e j m }
+  one-more true e false p =
       record {
-        within = omega (arith, less);
-        below = λ _. omega arith;
-        here = λ _. at-place place new d p;
-        first = λ j _ m. h .first j m (subst (λ (n : ℕ). j < n) (sym (eqb-true r 256 e)) (omega (arith, m, less)));
+        within = omega arith;
+        below = λ l. absurd (lt-irrefl 256 l);
+        here = λ l. absurd (lt-irrefl 256 l);
+        first = λ j l _. last-or (λ (i : ℕ). test (getD names i no-name) ≡ false) j k l (before-all e j) p;
       }
-  one-more true e false d false p = none-yet e (elsewhere place new d p)
 
-  next-found : FoundTo names place (suc k) (found-on r new place k)
-  next-found = one-more (eqb r 256) refl (eqb (new .kind) 0) refl (eqb (new .start) place) refl
+  next-found : FoundTo test names (suc k) (found-on test r new k)
+  next-found = one-more (eqb r 256) refl (test new) refl
 
-found-to : (names : List Name) (place k : ℕ) → k ≤ 256 → FoundTo names place k (found-below names place k)
-found-to names place zero l =
+found-to : (test : Name → Bool) (names : List Name) (k : ℕ) → k ≤ 256 → FoundTo test names k (found-below test names k)
+found-to test names zero l =
     record { within = omega arith; below = λ m. absurd (lt-irrefl 256 m); here = λ m. absurd (lt-irrefl 256 m); first = λ j m _. absurd (not-suc-le-zero m) }
-found-to names place (suc k) l = next-found names place k (found-below names place k) l (found-to names place k (omega (arith, l)))
+found-to test names (suc k) l = next-found test names k (found-below test names k) l (found-to test names k (omega (arith, l)))
 
-pub found-few : (names : List Name) (place k : ℕ) → k ≤ 256 → found-below names place k ≤ 256
-found-few names place k l = found-to names place k l .within
+pub found-few : (test : Name → Bool) (names : List Name) (k : ℕ) → k ≤ 256 → found-below test names k ≤ 256
+found-few test names k l = found-to test names k l .within
 
-pub finds-place : (names : List Name) (place : ℕ) → FindsPlace names place (found-below names place 256)
-finds-place names place =
-    let h = found-to names place 256 (omega arith) in
+pub finds-first : (test : Name → Bool) (names : List Name) → FindsFirst test names (found-below test names 256)
+finds-first test names =
+    let h = found-to test names 256 (omega arith) in
     record { within = h .within; here = h .here; first = λ j l. h .first j (omega (arith, l, h .within)) l }

@@ -1,14 +1,14 @@
 -- The name list as a row of records: 256 records, of which each has four of the flat words.
 use mathlib.Core.Path.{_≡_}
-use mathlib.Core.Bool.{Bool, true, false, not, _&&_}
+use mathlib.Core.Bool.{Bool, true, false, not, _&&_, _||_}
 use mathlib.Core.List.{List, [], _∷_}
 use Prim.Native.Nat.{ℕ, zero, suc, _+_, _*_, _<_, _≤_}
 use lib.Dec.{eqb}
 use lib.IntN.{pos}
 use lib.ListN.{getD}
 use Rattle.value.specs.Choice.{if_then_else_}
-use Rattle.value.specs.Worked.{decode-of}
-use Rattle.names.specs.Names.{most-names}
+use Rattle.value.specs.Worked.{encode-of, decode-of}
+use Rattle.names.specs.Names.{most-names, name-kind}
 use Rattle.records.specs.declared.Name.{Name}
 
 -- a record where no name is declared
@@ -53,12 +53,24 @@ record-count names = count-below names most-names
 abbrev pub is-at : ℕ → Name → Bool
 is-at place r = is-declared r && eqb (r .start) place
 
--- the number of the first record of a name that is declared at a place, with one record more, of which k is the number
-abbrev pub found-on : ℕ → Name → ℕ → ℕ → ℕ
-found-on n r place k = if not (eqb n most-names) then n else if eqb (r .kind) 0 then most-names else if eqb (r .start) place then k else most-names
+-- a record is that of the field that has a number, const or not
+abbrev pub is-field : ℕ → Name → Bool
+is-field number r = (eqb (r .kind) (name-kind .field) || eqb (r .kind) (name-kind .const-field)) && eqb (encode-of (r .value)) number
 
--- r is the number of the first record of a name that is declared at a place; most-names if there is none
-pub record FindsPlace (names : List Name) (place r : ℕ) : Type 0 where
+-- the number of the first record that passes a test, with one record more, of which k is the number
+abbrev pub found-on : (Name → Bool) → ℕ → Name → ℕ → ℕ
+found-on test n r k = if not (eqb n most-names) then n else if test r then k else most-names
+
+-- r is the number of the first record that passes a test; most-names if there is none
+pub record FindsFirst (test : Name → Bool) (names : List Name) (r : ℕ) : Type 0 where
   pub within : r ≤ most-names
-  pub here : r < most-names → is-at place (getD names r no-name) ≡ true
-  pub first : (k : ℕ) → k < r → is-at place (getD names k no-name) ≡ false
+  pub here : r < most-names → test (getD names r no-name) ≡ true
+  pub first : (k : ℕ) → k < r → test (getD names k no-name) ≡ false
+
+-- that of the first name that is declared at a place
+abbrev pub FindsPlace : List Name → ℕ → ℕ → Type 0
+FindsPlace names place r = FindsFirst (is-at place) names r
+
+-- that of the field that has a number
+abbrev pub FindsField : List Name → ℕ → ℕ → Type 0
+FindsField names number r = FindsFirst (is-field number) names r

@@ -3,8 +3,9 @@ ghost use mathlib.Core.Path.{_≡_};
 ghost use Prim.Native.Nat.{_<_};
 ghost use lib.ListN.{getD};
 ghost use Rattle.names.specs.Names.{most-names};
-ghost use Rattle.records.specs.Rows.{no-name, counted-on, found-on, record-count, FindsPlace};
+ghost use Rattle.records.specs.Rows.{no-name, counted-on, is-at, is-field, found-on, record-count, FindsPlace, FindsField};
 use crate::Name;
+use value::Value;
 
 // The record k, zero past the end.
 pub fn record(names: &[Name], k: u32) -> Name
@@ -41,17 +42,52 @@ fn counted(n: u32, r: Name) -> u32
     n + 1
 }
 
-// The number of the first declared record of a place, 256 if there is none, with one record more.
+// Whether a record is of a name that is declared at a place.
+fn is_at(r: Name, place: u32) -> bool
+    ensures { λ t. ⌜ t ≡ is-at place r ⌝ }
+{
+    if r.kind == 0 {
+        return false;
+    }
+    r.start == place
+}
+
+// Whether a record is of the field that has a number.
+fn is_field(r: Name, number: u32) -> bool
+    ensures { λ t. ⌜ t ≡ is-field number r ⌝ }
+{
+    let v = Value { n: r.value };
+    let w = v.encode();
+    if r.kind == 3 {
+        return w == number;
+    }
+    if r.kind == 6 {
+        return w == number;
+    }
+    false
+}
+
+// The number of the first record of a name that is declared at a place, 256 if there is none, with the record k more.
 fn found(n: u32, r: Name, place: u32, k: u32) -> u32
-    ensures { λ x. ⌜ x ≡ found-on n r place k ⌝ }
+    ensures { λ x. ⌜ x ≡ found-on (is-at place) n r k ⌝ }
 {
     if n != 256 {
         return n;
     }
-    if r.kind == 0 {
-        return 256;
+    if is_at(r, place) {
+        return k;
     }
-    if r.start == place {
+    256
+}
+
+// The number of the first record of the field that has a number, 256 if there is none, with the record k more.
+fn field_found(n: u32, r: Name, number: u32, k: u32) -> u32
+    ensures { λ x. ⌜ x ≡ found-on (is-field number) n r k ⌝ }
+{
+    if n != 256 {
+        return n;
+    }
+    if is_field(r, number) {
         return k;
     }
     256
@@ -80,6 +116,20 @@ pub fn find_by_place(names: &[Name], place: u32) -> u32
     while k < 256 {
         let r = record(names, k);
         n = found(n, r, place, k);
+        k = k + 1;
+    }
+    n
+}
+
+// The number of the record of the field that has a number, 256 if there is none.
+pub fn find_field(names: &[Name], number: u32) -> u32
+    ensures { λ r. ⌜ FindsField (now (names .entry)) number r ⌝ }
+{
+    let mut n: u32 = 256;
+    let mut k: u32 = 0;
+    while k < 256 {
+        let r = record(names, k);
+        n = field_found(n, r, number, k);
         k = k + 1;
     }
     n

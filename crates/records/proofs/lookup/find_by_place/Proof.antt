@@ -42,8 +42,8 @@ use denote.Triple.Table.{entered, cited}
 use denote.Triple.Walked.{says, Stays, stay-none, stay-none-slice, walkOf, goes-none, goes-none-slice, Walks, ends-at, walked, walk-meets}
 use denote.Exit.{yes}
 use Rattle.records.specs.declared.Name.{Name}
-use Rattle.records.specs.Rows.{no-name, found-on, FindsPlace}
-use Rattle.records.proofs.LookupLaws.{found-below, found-few, finds-place}
+use Rattle.records.specs.Rows.{no-name, is-at, found-on, FindsPlace}
+use Rattle.records.proofs.LookupLaws.{found-below, found-few, finds-first}
 use Rattle.records.proofs.Name.Laws as N′
 use Rattle.records.proofs.NameRow.{Row, vals, tells, own-vals, makes, typed-at}
 use Rattle.records.proofs.lookup.record as g
@@ -111,7 +111,7 @@ module _ {M : Type 1} (𝓤 : URA M) (H : Heap 𝓤) (A : Atoms 𝓤) (W : Given
 
   -- what the loop has after i records
   abbrev acc : ℕ → ℕ
-  acc i = found-below ys place i
+  acc i = found-below (is-at place) ys i
 
   -- the loop's variant: i with i ≤ 256, ordered by what is left
   abbrev Upto : Type 0
@@ -127,13 +127,13 @@ module _ {M : Type 1} (𝓤 : URA M) (H : Heap 𝓤) (A : Atoms 𝓤) (W : Given
   fits j = lt-of-le-of-lt (j .1) (lit< tt)
 
   acc-fits : (j : Upto) → acc (j .0) < 2 ^ 32
-  acc-fits j = lt-of-le-of-lt (found-few ys place (j .0) (j .1)) (lit< tt)
+  acc-fits j = lt-of-le-of-lt (found-few (is-at place) ys (j .0) (j .1)) (lit< tt)
 
   exits : (i : Upto) → i .0 ≡ 256 → ent 𝓤 (⋆ 𝓤 H A (‵ (flft κ q) ∷ ‵ Own ∷ [])) (Post (vint w32 (acc (i .0))))
   exits i e =
       qed W (‵ (flft κ q) ∷ ‵ Own ∷ []) ∵
       suffices ! _ (ends-at 𝓤 H A f.ended stayed (f.clauses 𝓤 H A mem run) W (((κ, tt), (q, tt), tt, x, at), tt) (vint w32 (acc (i .0))) (acc (i .0)) (tt, (tt, tt))
-      (tt, (tt, tt))) $ says ! (subst (λ (k : ℕ). FindsPlace ys place (acc k)) (sym e) (finds-place ys place)) $
+      (tt, (tt, tt))) $ says ! (subst (λ (k : ℕ). FindsPlace ys place (acc k)) (sym e) (finds-first (is-at place) ys)) $
       nothing ! $ move ! (1 ∷ 0 ∷ []) $ join ! $ frame ! $ nothing ! $ owned ! u32 (Is u32) (uint-makes 𝓤 H A W w32) place _ (refl, gp) $ fjoin ! $ move ! (1 ∷ 0 ∷ []) $ fjoin ! $
       frame ! $ owned ! u32 (Is u32) (uint-makes 𝓤 H A W w32) (acc (i .0)) _ (refl, acc-fits i) $ done !
 
@@ -205,8 +205,8 @@ module _ {M : Type 1} (𝓤 : URA M) (H : Heap 𝓤) (A : Atoms 𝓤) (W : Given
         tt m)))) (id⊢ 𝓤 _) $ await ! tt $ pick ! (λ m.
         split ! $ move ! (1 ∷ []) $
         use1 W (some (λ (zs : Unit {0} × (Unit {0} × (Unit {0} × (Unit {0} × Unit {0})))). ‵ (lasts h.ended tt (acc (i .0), (r, (place, ((i .0), tt)))) zs) ⊛
-        raw (fact 𝓤 (m ≡ found-on (acc (i .0)) r place (i .0))))) (id⊢ 𝓤 _) $ pick ! (λ ws.
-        split ! $ move ! (1 ∷ []) $ heard ! (m ≡ found-on (acc (i .0)) r place (i .0)) (λ is-step. drop ! $ split ! $ drop ! $
+        raw (fact 𝓤 (m ≡ found-on (is-at place) (acc (i .0)) r (i .0))))) (id⊢ 𝓤 _) $ pick ! (λ ws.
+        split ! $ move ! (1 ∷ []) $ heard ! (m ≡ found-on (is-at place) (acc (i .0)) r (i .0)) (λ is-step. drop ! $ split ! $ drop ! $
         peeks ! u32 (Is u32) (shows 𝓤 H A u32) m (u ∷ []) (λ is-m.
         land ! (from ! (stop !)) (store ! 3 refl (uint-lawful 𝓤 H A W w32 .typed m (u ∷ []) is-m .0)) $
         rewrite ! 3 (λ (y : Val). ‵ (fat fullShare num l3 0 y)) (ap only (is-m .0) ∙ ap (vint w32) (is-step ∙ stepped r is-elem)) refl $ drop ! $
@@ -220,8 +220,8 @@ module _ {M : Type 1} (𝓤 : URA M) (H : Heap 𝓤) (A : Atoms 𝓤) (W : Given
         next : Upto
         next = (i .0 + 1, add-one-le less)
 
-        stepped : (r : Name) → r ≡ elem (i .0) → found-on (acc (i .0)) r place (i .0) ≡ acc (i .0 + 1)
-        stepped r h = ap (λ (y : Name). found-on (acc (i .0)) y place (i .0)) h ∙ ap acc (sym (add-one (i .0)))
+        stepped : (r : Name) → r ≡ elem (i .0) → found-on (is-at place) (acc (i .0)) r (i .0) ≡ acc (i .0 + 1)
+        stepped r h = ap (λ (y : Name). found-on (is-at place) (acc (i .0)) y (i .0)) h ∙ ap acc (sym (add-one (i .0)))
 
     -- the turn that leaves the loop, and the rest of the body
     ends : (i : Upto) → ltb (i .0) 256 ≡ false → Sq W (At i) (runs C Λ En mir.turn-1 (anyQ (Turned i)))
