@@ -7,9 +7,9 @@ fn main() {
     let mut source = io::large_buffer();
     let n = io::read_full(STDIN_FILENO, &mut source);
     let mut words = [0u32; 16384];
-    let mut names = [0u32; 1024];
     let list = spelling::BUILT_IN;
-    let reply = checker::check(&source[..n], &list, &mut words, &mut names);
+    let names = naming::no_names();
+    let reply = naming::check(&source[..n], &list, &mut words, names);
     let mut line = [0u8; 33];
     let end = reply_line::write_line(reply.number, reply.place, &mut line);
     let written = io::count(end as isize, &line);

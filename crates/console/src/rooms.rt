@@ -19,17 +19,11 @@ pub fn bytes_room() -> [u8; ROOM]
     [0; ROOM]
 }
 
-// A word table and a name list of the right length.
+// A word table of the right length.
 pub fn table_room() -> [u32; 16384]
     ensures { λ r. ⌜ 16384 ≡ length r ⌝ }
 {
     [0; 16384]
-}
-
-pub fn names_room() -> [u32; 1024]
-    ensures { λ r. ⌜ 1024 ≡ length r ⌝ }
-{
-    [0; 1024]
 }
 
 // Counts of the elements at the start of a slice: n of them, or as many as there are.

@@ -1,36 +1,35 @@
--- The report of a run whose word table and name list are of the right length.
-use mathlib.Core.Path.{_≡_, refl, ap, _∙_, subst₂}
-use mathlib.Core.Bool.{Bool, true}
+-- The report of a run whose word table, row of records and built-in list are right.
+use mathlib.Core.Path.{_≡_, refl, ap, ap₂, _∙_}
+use mathlib.Core.Bool.{Bool, true, _&&_}
 use mathlib.Core.List.{List}
 use Prim.Native.Nat.{ℕ}
 use lib.ListN.{length}
 use lib.IntN.{ℤ}
 use mir.Syntax.{w64}
 use mir.Val.{SFits, toZ, ofZ}
-use mir.Facts.{toZ-ofZ}
-use Rattle.grammar.specs.Checking.{rooms-fit}
+use Rattle.token.specs.Lexeme.{built-in-names}
 use Rattle.services.specs.Services.{run-source}
+use Rattle.services.specs.Calls.{Memory, memory, lent}
 use Rattle.admission.specs.Admitting.{request-of}
 use Rattle.iteration.specs.declared.Report.{Report}
-use Rattle.runner.specs.Sourcewise.{counting-of, RunsSource}
+use Rattle.runner.specs.Sourcewise.{counting-of, RunLeaves}
+use Rattle.runner.proofs.RunLaws.{left-report, the-list, read-times}
+use Rattle.records.specs.declared.Name.{Name}
+use Rattle.cellang.specs.Left.{rows-fit, row-names}
 use Rattle.run_rule.specs.Runs.{Runs}
 
-rooms : {words names : ℕ} → 16384 ≡ words → 1024 ≡ names → rooms-fit words names ≡ true
-unfolding rooms-fit
-rooms w n = rw (← w, ← n) refl
+fit : {words names : ℕ} → 16384 ≡ words → 256 ≡ names → rows-fit words names ≡ true
+unfolding rows-fit
+fit w n = rw (← w, ← n) refl
 
 -- the times as the machine reads them
-pub runs-of : {quiet : Bool} {source ws ns sizes : List ℕ} {grid scratch : List ℤ} {marks : List ℕ} {start steps : ℤ} {r : Report} {ws′ ns′ : List ℕ} {grid′ scratch′ : List ℤ} {marks′ : List ℕ}
-    → 16384 ≡ length ws → 1024 ≡ length ns → SFits w64 start → SFits w64 steps
-    → RunsSource (counting-of quiet) source ws ns sizes grid scratch marks (toZ w64 (ofZ w64 start)) (toZ w64 (ofZ w64 steps)) r ws′ ns′ grid′ scratch′ marks′
-    → Runs quiet source sizes grid (length scratch) (length marks) start steps r grid′
-runs-of {quiet} {source} {ws} {ns} {sizes} {grid} {scratch} {marks} {start} {steps} {r} {ws′} {ns′} {grid′} w n h k runs =
-    subst₂
-    (λ (a b : ℤ). Runs quiet source sizes grid (length scratch) (length marks) a b r grid′)
-    (toZ-ofZ h)
-    (toZ-ofZ k)
-    (record {
+pub runs-of : {quiet : Bool} {source ws : List ℕ} {ns : List Name} {sizes : List ℕ} {grid scratch : List ℤ} {marks : List ℕ} {start steps : ℤ} {r : Report} {left : Memory Name}
+    → 16384 ≡ length ws → 256 ≡ length ns → SFits w64 start → SFits w64 steps
+    → RunLeaves row-names (counting-of quiet) (lent source built-in-names sizes (memory ws ns grid scratch marks) (toZ w64 (ofZ w64 start)) (toZ w64 (ofZ w64 steps))) r left
+    → Runs quiet source sizes grid (length scratch) (length marks) start steps r (left .grid)
+runs-of {quiet} {source} {ws} {ns} {sizes} {grid} {scratch} {marks} {start} {steps} w n h k leaves =
+    record {
       report =
-          runs .report
-          ∙ ap (λ (fit : Bool). run-source (counting-of quiet) fit source (request-of sizes grid (length scratch) (length marks) (toZ w64 (ofZ w64 start)) (toZ w64 (ofZ w64 steps)))) (rooms w n);
-    })
+          left-report (read-times h k leaves)
+          ∙ ap (λ (fits : Bool). run-source (counting-of quiet) fits source (request-of sizes grid (length scratch) (length marks) start steps)) (ap₂ (λ (a b : Bool). a && b) the-list (fit w n));
+    }

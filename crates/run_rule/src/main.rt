@@ -2,9 +2,11 @@
 //     run_rule RULE SHAPE START STEPS full|quiet GRID OUT
 // It writes the report of the run in words to standard output, and the grid that is left to OUT. Where an argument or a file cannot be
 // taken it says so on standard error, and writes nothing else.
+ghost use mathlib.Core.Path.{_≡_};
 ghost use lib.ListN.{length};
 ghost use Rattle.run_rule.specs.Runs.{Runs};
 
+mod fields;
 mod reports;
 mod rows;
 
@@ -15,28 +17,32 @@ use console::grids;
 use console::grids::Grid;
 use console::rooms;
 use console::shapes;
+use console::shapes::fields_of;
 use console::texts;
 use console::texts::Text;
-use iteration::Report;
+use naming::Ran;
 use rows::write_grid;
 
 // A run of a source on a grid, as it was asked for. The report and the grid that is left are those of the definition.
 fn run(
     source: &[u8],
+    words: &mut [u32],
     sizes: &[u32],
     grid: &mut [i32],
     scratch: &mut [i32],
     marks: &mut [u8],
     order: Order,
-) -> Report
-    ensures { λ r. ⌜ Runs (order .quiet) (now (source .entry)) (now (sizes .entry)) (now (grid .entry)) (length (now (scratch .entry))) (length (now (marks .entry))) (order .start) (order .steps) r (now (grid .exit)) ⌝ }
+) -> Ran
+    requires { ⌜ 16384 ≡ length (now words) ⌝ }
+    ensures { λ r. ⌜ Runs (order .quiet) (now (source .entry)) (now (sizes .entry)) (now (grid .entry)) (length (now (scratch .entry))) (length (now (marks .entry))) (order .start) (order .steps) (r .report) (now (grid .exit)) ⌝ }
 {
-    let mut words = rooms::table_room();
-    let mut names = rooms::names_room();
-    runner::run(
+    let list = spelling::BUILT_IN;
+    let names = naming::no_names();
+    naming::run(
         source,
-        &mut words,
-        &mut names,
+        &list,
+        words,
+        names,
         sizes,
         grid,
         scratch,
@@ -60,15 +66,21 @@ fn run_and_tell(
     let entries = grid.len();
     let kept = rooms::of_numbers(entries, scratch);
     let marked = rooms::of_bytes(cells, marks);
-    let report = run(
+    let mut words = rooms::table_room();
+    let ran = run(
         source,
+        &mut words,
         sizes,
         grid,
         &mut scratch[..kept],
         &mut marks[..marked],
         order,
     );
-    reports::tell(report, source, sizes, entries, cells);
+    let report = ran.report;
+    let field = fields::field_told(report, &words, fields_of(entries, cells));
+    let rows = ran.rows;
+    let name = naming::field_record(rows, field);
+    reports::tell(report, name, source, sizes, entries, cells);
     write_grid(grid, shapes::row(sizes, entries, cells));
 }
 

@@ -1,4 +1,5 @@
 // The report of a run in words.
+use console::lines::say_line;
 use console::places::position_of;
 use console::places::say_cell;
 use console::places::say_field;
@@ -8,16 +9,33 @@ use console::shapes::fields_of;
 use console::texts::say;
 use console::texts::say_number;
 use iteration::Report;
+use records::Name;
 
-// Whether a reply has a place in the source.
+// Whether a reply is a fault.
+fn is_fault(number: u32) -> bool {
+    number >= 30 && number <= 33
+}
+
+// Whether a reply has a place in the source: the other refusals of a source are 1 and 2.
 fn has_place(number: u32) -> bool {
-    if number == 0 {
+    if number < 3 {
         return false;
     }
     number < 20 || number == 23 || number >= 30
 }
 
-// Writes a place in a source.
+// Writes the spelling of a refusal of a source, if it has one.
+fn say_spelling(source: &[u8], number: u32, place: u32) {
+    let list = spelling::BUILT_IN;
+    let text = spelling::spelling(source, &list, number, place);
+    if text.len() > 0 {
+        say(b": `");
+        say(text);
+        say(b"`");
+    }
+}
+
+// Writes a place in a source, and its line with a caret under it.
 fn say_place(source: &[u8], place: u32) {
     let p = position_of(source, place as usize);
     say(b"place: byte ");
@@ -27,6 +45,7 @@ fn say_place(source: &[u8], place: u32) {
     say(b", column ");
     say_number(p.column);
     say(b"\n");
+    say_line(source, place as usize);
 }
 
 // Writes an entry of the grid: its number, its cell and its field.
@@ -57,25 +76,55 @@ fn say_faulting(cell: u32, sizes: &[u32]) {
     say(b"\n");
 }
 
-// Writes a report: the reply with its meaning and its place, the faulting cell, the steps done and the cells evaluated.
-pub fn tell(report: Report, source: &[u8], sizes: &[u32], entries: usize, cells: usize) {
-    say(b"reply ");
-    say_number(wide(report.number));
-    say(b": ");
-    say_meaning(report.number);
-    say(b"\n");
-    if has_place(report.number) {
-        say_place(source, report.place);
+// Writes the name of a field as it is declared, if there is one.
+fn say_name(source: &[u8], name: Name) {
+    if name.kind == 0 {
+        return;
     }
+    let start = name.start as usize;
+    let length = name.length as usize;
+    if start <= source.len() {
+        if length <= source.len() - start {
+            say(b"field: ");
+            say(&source[start..start + length]);
+            say(b"\n");
+        }
+    }
+}
+
+// Writes the reply with its meaning, its spelling and its place.
+fn say_reply(number: u32, place: u32, source: &[u8]) {
+    say(b"reply ");
+    say_number(wide(number));
+    say(b": ");
+    say_meaning(number);
+    say_spelling(source, number, place);
+    say(b"\n");
+    if has_place(number) {
+        say_place(source, place);
+    }
+}
+
+// Writes a report: the reply, the entry or the faulting cell with the name of the field that is spoken of, the steps done and the cells evaluated.
+pub fn tell(
+    report: Report,
+    name: Name,
+    source: &[u8],
+    sizes: &[u32],
+    entries: usize,
+    cells: usize,
+) {
+    say_reply(report.number, report.place, source);
     if report.number == 21 {
         say_counts(entries, cells);
     }
     if report.number == 24 {
         say_entry(report.place, sizes, fields_of(entries, cells));
     }
-    if report.number >= 30 {
+    if is_fault(report.number) {
         say_faulting(report.cell, sizes);
     }
+    say_name(source, name);
     say(b"steps done: ");
     say_number(wide(report.steps));
     say(b"\ncells evaluated: ");

@@ -1,20 +1,14 @@
--- `run_rule::run` meets its contract: the word table and the name list that it lends are of the right length.
+-- `run_rule::run` meets its contract: the word table, the row of records and the built-in list that it lends are right.
 use borrow.Author.Needs.{needs}
 use Rattle.run_rule.proofs.RunLaws.{runs-of}
 use Rattle.run_rule.proofs.run.Statement.{statement}
 use Rattle.run_rule.proofs.run.Tie as tie
 
-table-room-requires : tie.Need-table-room-requires
-table-room-requires c κs = search needs
-
-names-room-requires : tie.Need-names-room-requires
-names-room-requires c κs = search needs
+no-names-requires : tie.Need-no-names-requires
+no-names-requires c κs = search needs
 
 slice-aggregate-run : tie.Need-slice-aggregate-run
 slice-aggregate-run c = search needs
-
-slice-aggregate-run-2 : tie.Need-slice-aggregate-run-2
-slice-aggregate-run-2 c = search needs
 
 run-requires : tie.Need-run-requires
 run-requires c κs = search needs
@@ -28,19 +22,15 @@ same-length-2 c = search needs
 same-length-3 : tie.Need-same-length-3
 same-length-3 c = search needs
 
+same-length-4 : tie.Need-same-length-4
+same-length-4 c = search needs
+
 returns : tie.Need-returns
-returns c = runs-of (search needs) (search needs) (search needs) (search needs) (c .before .before .before .before .before .before .run .ensures .0)
+returns c =
+    let ran = c .before .before .before .before .before .before in
+    let s = ran .before .before .before .before .before .before .before .before in
+    let begun = s .before .before .before .before .before in
+    runs-of (begun .pre) (s .no-names .ensures) (search needs) (search needs) (ran .run .ensures)
 
 pub run-spec : {M : Type 1} → statement M
-run-spec =
-    tie.close
-    (tie.spec
-    table-room-requires
-    names-room-requires
-    slice-aggregate-run
-    slice-aggregate-run-2
-    run-requires
-    same-length
-    same-length-2
-    same-length-3
-    returns)
+run-spec = tie.close (tie.spec no-names-requires slice-aggregate-run run-requires same-length same-length-2 same-length-3 same-length-4 returns)

@@ -1,0 +1,71 @@
+// Which field of a rule a report speaks of.
+use console::places::remainder;
+use iteration::Report;
+use program::word_at;
+use token::kind;
+
+// More than any field's number.
+const NONE: u32 = 8;
+
+// The `:=` at a place, with the token i more.
+fn assignment(words: &[u32; 16384], i: usize, place: u32, found: usize) -> usize {
+    if word_at(words, i, 0) != kind::ASSIGN {
+        return found;
+    }
+    if word_at(words, i, 1) % 65536 != place {
+        return found;
+    }
+    i
+}
+
+// The token at a place, if it is a `:=`; else the number of all tokens.
+fn assignment_at(words: &[u32; 16384], place: u32) -> usize {
+    let mut found = 4096;
+    let mut i = 0;
+    while i < 4096 {
+        found = assignment(words, i, place, found);
+        i += 1;
+    }
+    found
+}
+
+// The field that the assignment around a token sets, with the token i more: its first token is a `cell` that says where it ends.
+fn target(words: &[u32; 16384], i: usize, at: usize, field: u32) -> u32 {
+    if word_at(words, i, 0) != kind::CELL {
+        return field;
+    }
+    if (word_at(words, i, 3) as usize) <= at {
+        return field;
+    }
+    word_at(words, i, 2)
+}
+
+// The field that the assignment around a token sets.
+fn target_of(words: &[u32; 16384], at: usize) -> u32 {
+    let mut field = NONE;
+    let mut i = 0;
+    while i < at {
+        field = target(words, i, at, field);
+        i += 1;
+    }
+    field
+}
+
+// The number of the field of an entry, where a cell has so many.
+fn field_of(entry: u32, fields: usize) -> u32 {
+    if fields <= 8 {
+        return remainder(entry, fields as u32);
+    }
+    NONE
+}
+
+// The number of the field that a report speaks of, where a cell has so many: at 24 that of the entry, at 33 the one that is assigned to.
+pub fn field_told(report: Report, words: &[u32; 16384], fields: usize) -> u32 {
+    if report.number == 24 {
+        return field_of(report.place, fields);
+    }
+    if report.number == 33 {
+        return target_of(words, assignment_at(words, report.place));
+    }
+    NONE
+}
