@@ -65,7 +65,7 @@ enum cellang_kind {
 
 /*
  * What a call gives back. 1, then 2, are tried before any token; then the smallest place wins, then
- * the lowest number, where 40 to 45 stand between 9 and 12. 10 and 11 are not given. 20 to 24 are tried in this order once the source is accepted. "At" says which
+ * the lowest number, where 40 to 45 stand between 9 and 12. 20 to 24 are tried in this order once the source is accepted. "At" says which
  * byte of the source the place names, where the end of the source stands at its length; where
  * nothing is said the place is 0.
  */

@@ -27,7 +27,7 @@ fn print(time: i64, grid: &[i32]) {
     }
 }
 
-fn main() -> Result<(), Stop> {
+fn main() -> Result<(), Stop<'static>> {
     let mut grid = vec![0; SIZE * SIZE];
     for (row, column) in [(0, 1), (1, 2), (2, 0), (2, 1), (2, 2)] {
         grid[row * SIZE + column] = 1;

@@ -38,22 +38,26 @@ pub struct Lent<'a> {
 
 /// Checks a source. The rooms hold its program and names afterwards; zeros if
 /// it is refused, but what they held before if it is too long.
-pub fn check(source: &[u8], rooms: &mut Rooms) -> Result<(), Refusal> {
+pub fn check<'a>(source: &'a [u8], rooms: &mut Rooms) -> Result<(), Refusal<'a>> {
     check_in(source, &mut rooms.words, &mut rooms.names)
 }
 
 /// Checks a source as [`check`] does, in memory of the caller's.
-pub fn check_in(source: &[u8], words: &mut [u32], names: &mut [u32]) -> Result<(), Refusal> {
+pub fn check_in<'a>(
+    source: &'a [u8],
+    words: &mut [u32],
+    names: &mut [u32],
+) -> Result<(), Refusal<'a>> {
     check_lent(source, BUILT_IN, words, names)
 }
 
 /// Checks a source beside which a list is lent.
-fn check_lent(
-    source: &[u8],
-    list: &[u8],
+fn check_lent<'a>(
+    source: &'a [u8],
+    list: &'a [u8],
     words: &mut [u32],
     names: &mut [u32],
-) -> Result<(), Refusal> {
+) -> Result<(), Refusal<'a>> {
     let mut reply = [0; foreign::REPLY];
     // SAFETY: each pointer and length is those of a slice, and the slices
     // that are written overlap nothing.
@@ -82,15 +86,15 @@ fn check_lent(
 ///
 /// The grid holds the state after the steps done; it is as it was if the run
 /// doesn't begin. This function allocates scratch and marks; see [`run_in`].
-pub fn run(
-    source: &[u8],
+pub fn run<'a>(
+    source: &'a [u8],
     shape: &[u32],
     grid: &mut [i32],
     rooms: &mut Rooms,
     start: i64,
     steps: i64,
     mode: Mode,
-) -> Outcome {
+) -> Outcome<'a> {
     let lent = Lent {
         words: &mut rooms.words,
         names: &mut rooms.names,
@@ -103,30 +107,30 @@ pub fn run(
 /// Runs a source as [`run`] does, in memory of the caller's. After a run that
 /// began, even with 0 steps, scratch and marks are zero; else they are as they
 /// were.
-pub fn run_in(
-    source: &[u8],
+pub fn run_in<'a>(
+    source: &'a [u8],
     shape: &[u32],
     grid: &mut [i32],
     lent: Lent<'_>,
     start: i64,
     steps: i64,
     mode: Mode,
-) -> Outcome {
+) -> Outcome<'a> {
     run_lent(source, BUILT_IN, shape, grid, lent, start, steps, mode)
 }
 
 /// Runs a source beside which a list is lent.
 #[allow(clippy::too_many_arguments)]
-fn run_lent(
-    source: &[u8],
-    list: &[u8],
+fn run_lent<'a>(
+    source: &'a [u8],
+    list: &'a [u8],
     shape: &[u32],
     grid: &mut [i32],
     lent: Lent<'_>,
     start: i64,
     steps: i64,
     mode: Mode,
-) -> Outcome {
+) -> Outcome<'a> {
     let call: RunCall = match mode {
         Mode::Full => foreign::cellang_run_full,
         Mode::Quiet => foreign::cellang_run_quiet,
@@ -202,8 +206,8 @@ mod tests {
     }
 
     /// Number and place of a refusal, and its spelling.
-    fn told(refusal: &Refusal) -> (u32, u32, &[u8]) {
-        (refusal.number(), refusal.place.0, &refusal.spelling)
+    fn told<'a>(refusal: &Refusal<'a>) -> (u32, u32, &'a [u8]) {
+        (refusal.number(), refusal.place.0, refusal.spelling)
     }
 
     #[test]

@@ -57,8 +57,7 @@ impl fmt::Display for Entry {
     }
 }
 
-/// Why a source is refused: replies 1 to 15 and 40 to 45, of which 10 and 11 are
-/// not given.
+/// Why a source is refused: replies 1 to 9, 12 to 15 and 40 to 45.
 #[derive(Clone, Copy, PartialEq, Eq, Hash, Debug)]
 pub enum Reason {
     /// The word table or the name list is of the wrong length.
@@ -161,30 +160,30 @@ impl fmt::Display for Reason {
     }
 }
 
-/// A source is refused. The refusal has a copy of the token that it names, so
-/// that it may outlive the source.
-#[derive(Clone, PartialEq, Eq, Hash, Debug)]
-pub struct Refusal {
+/// A source is refused. The refusal borrows the source, for the spelling.
+#[derive(Clone, Copy, PartialEq, Eq, Hash, Debug)]
+pub struct Refusal<'a> {
     /// Why.
     pub reason: Reason,
     /// Where: the first byte of the token that is named, or 0 where the
     /// reason is [`Reason::RoomLength`].
     pub place: Place,
-    /// The token at the place, as it is written, but `cell`, `time` and
-    /// `random` in lower case. Where no token can be read it is the one byte at
-    /// the place. It is empty at the end of the source, and for
-    /// [`Reason::RoomLength`] and [`Reason::SourceTooLong`].
-    pub spelling: Vec<u8>,
+    /// The token at the place: a part of the source that was lent, or, for
+    /// `cell`, `time` and `random`, of [`BUILT_IN`](crate::BUILT_IN), in lower
+    /// case. Where no token can be read it is the one byte at the place. It is
+    /// empty at the end of the source, and for [`Reason::RoomLength`] and
+    /// [`Reason::SourceTooLong`].
+    pub spelling: &'a [u8],
 }
 
-impl Refusal {
+impl Refusal<'_> {
     /// The number of the reply.
     pub fn number(&self) -> u32 {
         self.reason as u32
     }
 }
 
-impl fmt::Display for Refusal {
+impl fmt::Display for Refusal<'_> {
     fn fmt(&self, f: &mut fmt::Formatter<'_>) -> fmt::Result {
         let (number, place, reason) = (self.number(), self.place, self.reason);
         write!(f, "refused {number} at {place}: {reason}")?;
@@ -195,7 +194,7 @@ impl fmt::Display for Refusal {
     }
 }
 
-impl Error for Refusal {}
+impl Error for Refusal<'_> {}
 
 /// Why a run is not admitted although its source is accepted: replies 20 to
 /// 24.
@@ -324,16 +323,16 @@ impl Error for Fault {}
 
 /// A run did not do all its steps.
 #[derive(Clone, PartialEq, Eq, Hash, Debug)]
-pub enum Stop {
+pub enum Stop<'a> {
     /// The source is refused.
-    Refused(Refusal),
+    Refused(Refusal<'a>),
     /// The source is accepted, but the run is not admitted.
     NotAdmitted(Objection),
     /// The run began, and a cell faulted.
     Faulted(Fault),
 }
 
-impl Stop {
+impl Stop<'_> {
     /// The number of the reply.
     pub fn number(&self) -> u32 {
         match self {
@@ -354,7 +353,7 @@ impl Stop {
     }
 }
 
-impl fmt::Display for Stop {
+impl fmt::Display for Stop<'_> {
     fn fmt(&self, f: &mut fmt::Formatter<'_>) -> fmt::Result {
         match self {
             Stop::Refused(refusal) => refusal.fmt(f),
@@ -364,7 +363,7 @@ impl fmt::Display for Stop {
     }
 }
 
-impl Error for Stop {}
+impl Error for Stop<'_> {}
 
 /// All steps of a run are done.
 #[derive(Clone, Copy, PartialEq, Eq, Hash, Debug)]
@@ -376,14 +375,14 @@ pub struct Done {
 }
 
 /// What a run gives.
-pub type Outcome = Result<Done, Stop>;
+pub type Outcome<'a> = Result<Done, Stop<'a>>;
 
 /// The answer that the entries of a check tell.
-pub(crate) fn check_answer(
-    source: &[u8],
-    list: &[u8],
+pub(crate) fn check_answer<'a>(
+    source: &'a [u8],
+    list: &'a [u8],
     [number, place, stands, start, length]: [u32; foreign::REPLY],
-) -> Result<(), Refusal> {
+) -> Result<(), Refusal<'a>> {
     if number == 0 {
         return Ok(());
     }
@@ -404,16 +403,20 @@ fn part_of<'a>(source: &'a [u8], list: &'a [u8], stands: u32, start: u32, length
     &whole[start as usize..][..length as usize]
 }
 
-fn refusal_of(number: u32, place: u32, spelling: &[u8]) -> Option<Refusal> {
+fn refusal_of(number: u32, place: u32, spelling: &[u8]) -> Option<Refusal<'_>> {
     Reason::of(number).map(|reason| Refusal {
         reason,
         place: Place(place),
-        spelling: spelling.to_vec(),
+        spelling,
     })
 }
 
 /// The answer that the entries of a run tell.
-pub(crate) fn run_answer(source: &[u8], list: &[u8], report: [u64; foreign::REPORT]) -> Outcome {
+pub(crate) fn run_answer<'a>(
+    source: &'a [u8],
+    list: &'a [u8],
+    report: [u64; foreign::REPORT],
+) -> Outcome<'a> {
     // All but the count are numbers of 32 bits.
     let [number, place, cell, steps, _, stands, start, length] = report.map(|n| n as u32);
     let count = report[4];

@@ -116,7 +116,7 @@ fn compare_check(source: &[u8], seen: &mut [usize; 46]) {
     let expected = reference::check(source).reply;
     let (mut words, mut names) = (vec![BEFORE; WORDS], vec![BEFORE; NAME_WORDS]);
     let (given, spelling) = match check_in(source, &mut words, &mut names) {
-        Ok(()) => ((0, 0), Vec::new()),
+        Ok(()) => ((0, 0), &[][..]),
         Err(refusal) => ((refusal.number(), refusal.place.0), refusal.spelling),
     };
     let text = String::from_utf8_lossy(source);

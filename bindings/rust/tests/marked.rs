@@ -17,7 +17,7 @@ fn refused(reason: Reason, place: u32) -> Result<(), (Reason, Place)> {
 }
 
 /// The outcome of a run on a row of cells, and the grid that it leaves.
-fn on_row(source: &str, row: &[i32], steps: i64, mode: Mode) -> (Outcome, Vec<i32>) {
+fn on_row<'a>(source: &'a str, row: &[i32], steps: i64, mode: Mode) -> (Outcome<'a>, Vec<i32>) {
     let mut grid = row.to_vec();
     let shape = [row.len() as u32];
     let mut rooms = Rooms::new();
@@ -52,7 +52,8 @@ fn m1_to_m4_and_m13() {
 #[test]
 fn m5() {
     for (mode, count) in [(Mode::Full, 10), (Mode::Quiet, 8)] {
-        let (outcome, grid) = on_row(&format!("{S}cell := [-1]"), &[1, 0, 0, 0, 0], 2, mode);
+        let source = format!("{S}cell := [-1]");
+        let (outcome, grid) = on_row(&source, &[1, 0, 0, 0, 0], 2, mode);
         assert_eq!(outcome, Ok(Done { steps: 2, count }));
         assert_eq!(grid, [0, 0, 1, 0, 0]);
     }

@@ -6,7 +6,7 @@ use Prim.Native.Nat.{ℕ, _≤_}
 use lib.ListN.{length}
 use lib.Dec.{leb}
 
--- the numbers that refuse a source once its tokens are looked at: 3 to 15, of which 10 and 11 are struck, and 40 to 45
+-- the numbers that refuse a source once its tokens are looked at: 3 to 9, 12 to 15 and 40 to 45
 abbrev pub is-refusal : ℕ → Bool
 is-refusal n = leb 3 n && leb n 9 || leb 12 n && leb n 15 || leb 40 n && leb n 45
 
