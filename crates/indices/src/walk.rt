@@ -193,7 +193,7 @@ pub fn part(
                 past,
                 now,
             );
-        } else {
+        } else if is_index(words, n, dims, at) {
             now = index_at(words, rule, sizes, lows, highs, depth, at, now);
         }
         at = behind(words, n, dims, at);

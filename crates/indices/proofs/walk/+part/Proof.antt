@@ -5,7 +5,7 @@ use Prim.Native.Nat.{_-_, ℕ, _<_}
 use native.Mathlib.Omega.{arith}
 use borrow.Author.Needs.{needs}
 use Rattle.places.specs.Vectors.{loops-of}
-use Rattle.indices.proofs.WalkLaws.{less-left, opens-deep, loops-length, loops-opened, Going, going-start, going-plain, going-loop, going-done}
+use Rattle.indices.proofs.WalkLaws.{counts-none, less-left, opens-deep, loops-length, loops-opened, Going, going-start, going-plain, going-loop, going-done}
 use Rattle.operands.proofs.TableLaws.{link-bounds}
 use borrow.Fn.Kinds.{In}
 use borrow.Fn.PlainCycle.{Measures, is, falls, and}
@@ -16,6 +16,7 @@ use Rattle.operands.proofs.table.link_at.Reads as link-at-reads
 use Rattle.operands.proofs.table.word_at.Reads as word-at-reads
 use Rattle.indices.proofs.walk.behind.Reads as behind-reads
 use Rattle.indices.proofs.walk.index_at.Reads as index-at-reads
+use Rattle.indices.proofs.walk.is_index.Reads as is-index-reads
 use Rattle.indices.proofs.walk.opened.Reads as opened-reads
 use Rattle.indices.proofs.walk.opens.Reads as opens-reads
 use Rattle.indices.proofs.walk.+part.{statement}
@@ -42,6 +43,8 @@ part-calls t = (
   link-at-reads.Learnt,
   part-below t,
   part.Post,
+  is-index-reads.Asked,
+  is-index-reads.Learnt,
   index-at-reads.Asked,
   index-at-reads.Learnt,
   behind-reads.Asked,
@@ -132,11 +135,15 @@ part-part-requires t c κs =
     let past = link-bounds _ _ _ (c .before .before .link-at2 .ensures) inside in
     (omega (arith, p .0, inner .0, inner .1, l .inv .onward), (record { sized = p .1 .0 .sized; dims = p .1 .0 .dims; deep = omega arith }, past .1))
 
+part-is-index-requires : (t : ℕ) → part-lts.Need-is-index-requires (part-calls t) (part-at t) part.Post part-Inv-loop part-μ-loop
+part-is-index-requires t c κs =
+    let p = c .before .before .before .before .before .before .before .pre in
+    (p .1 .0 .sized .table, p .1 .0 .sized .tokens)
+
 part-index-at-requires : (t : ℕ) → part-lts.Need-index-at-requires (part-calls t) (part-at t) part.Post part-Inv-loop part-μ-loop
 part-index-at-requires t c κs =
-    let pre = c .before .before .before .before .before .before .before .pre in
-    let p = pre in
-    (p .1 .0, omega (arith, p .1 .1, c .before .before .loop-test .taken))
+    let p = c .before .before .before .before .before .before .before .before .before .pre in
+    (p .1 .0, omega (arith, p .1 .1, c .before .before .before .before .loop-test .taken))
 
 part-behind-requires : (t : ℕ) → part-lts.Need-behind-requires (part-calls t) (part-at t) part.Post part-Inv-loop part-μ-loop
 part-behind-requires t c κs =
@@ -162,9 +169,14 @@ part-loop-again t c =
     (w .12) (loops-length (a .lows .now) (a .highs .now) (a .depth)) opens (w .0 .taken)
     (loops-opened (a .words .now) (a .rule) (a .lows .now) (a .highs .now) (a .depth) (l .at) (w .2 .ensures) (w .5 .ensures) (w .3 .ensures) (w .6 .ensures)) (w .7 .ensures)
     (w .8 .ensures) (w .11 .ensures))
+    (⊎-elim
     (λ w.
     going-plain (a .words .now) (a .rule) (a .sizes .now) (loops-of (a .lows .now) (a .highs .now) (a .depth)) (a .from) (a .to) (a .s) (l .inv) (p .1 .1) less (c .behind .ensures)
-    (w .2) (loops-length (a .lows .now) (a .highs .now) (a .depth)) opens (w .0 .left) (w .1 .ensures))
+    (w .4) (loops-length (a .lows .now) (a .highs .now) (a .depth)) opens (w .0 .left) (w .3 .ensures))
+    (λ w.
+    going-plain (a .words .now) (a .rule) (a .sizes .now) (loops-of (a .lows .now) (a .highs .now) (a .depth)) (a .from) (a .to) (a .s) (l .inv) (p .1 .1) less (c .behind .ensures)
+    (w .3) (loops-length (a .lows .now) (a .highs .now) (a .depth)) opens (w .0 .left)
+    (counts-none (a .words .now) (a .rule) (a .sizes .now) (loops-of (a .lows .now) (a .highs .now) (a .depth)) (l .at) (w .1 .ensures) (w .2 .left))))
     (c .before .if1 .came)
 
 part-returns : (t : ℕ) → part-lts.Need-returns (part-calls t) (part-at t) part.Post part-Inv-loop part-μ-loop
@@ -189,6 +201,7 @@ pub +part-spec : {M : Type 1} → statement M
     (part-link-at-requires-2 t)
     (part-add-part t)
     (part-part-requires t)
+    (part-is-index-requires t)
     (part-index-at-requires t)
     (part-behind-requires t)
     (part-loop-less t)
