@@ -1,5 +1,5 @@
 -- What a source means, as a tree. Places are those of bytes in the source.
--- A variable is known by its slot in the name list, an index variable by its loop's depth, 0 for the outermost open loop.
+-- A variable is known by its number, how many were declared before it, an index variable by its loop's depth, 0 for the outermost open loop.
 use mathlib.Core.Bool.{Bool}
 use mathlib.Core.List.{List}
 use mathlib.Core.Option.{Option}
@@ -36,7 +36,7 @@ pub data Expr : Type 0 where
   unary : (op place : ℕ) → Expr → Expr
   binary : (op place : ℕ) → Expr → Expr → Expr
 
--- what is assigned: a field by its number, or a variable by its slot
+-- what is assigned: a field by its number, or a variable by its own
 pub data Target : Type 0 where
   to-field : ℕ → Target
   to-variable : ℕ → Target

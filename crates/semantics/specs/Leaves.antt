@@ -39,7 +39,7 @@ pub record LeafAt (t : Table) (sizes : List ℕ) (n fields slots : ℕ) (w : ℕ
   -- what is noted has no unary operator, and word 2 is the position past it
   pub bare : (w 0 ≡ sort .none → ⊥) → is-unary (t .kind p) ≡ false
   pub onward : (w 0 ≡ sort .none → ⊥) → (p < w 2) × (w 2 ≤ n)
-  -- word 1: the number, the variable's slot, or the field
+  -- word 1: the number, the variable's number, or the field
   pub number : w 0 ≡ sort .number → OperandIs t p (number (decode-of (w 1))) (w 2)
   pub variable : w 0 ≡ sort .variable → (w 1 < slots) × OperandIs t p (variable (w 1)) (w 2)
   pub own : w 0 ≡ sort .own → (w 1 < fields) × OperandIs t p (field [] (w 1)) (w 2)
