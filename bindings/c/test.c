@@ -68,7 +68,8 @@ static void expect_run(const char *what, run_call *run, const char *source, cons
                        int64_t start, int64_t steps, const struct expected *after) {
     uint64_t report[CELLANG_REPORT_LENGTH];
     uint32_t given;
-    int began = after->report[0] == CELLANG_DONE || after->report[0] >= CELLANG_RESULT_OUT_OF_RANGE;
+    int faulted = after->report[0] >= CELLANG_RESULT_OUT_OF_RANGE && after->report[0] <= CELLANG_VALUE_OUTSIDE_FIELD;
+    int began = after->report[0] == CELLANG_DONE || faulted;
     uint8_t left = began ? 0 : UNTOUCHED;
     memcpy(grid, before, cells * sizeof *grid);
     memset(scratch, UNTOUCHED, sizeof scratch);
@@ -156,6 +157,14 @@ static void spellings(void) {
     expect_spelling(S "cell := RanDom", CELLANG_NOT_TAKEN, CELLANG_SPELLING_IN_LIST, "random");
     expect_spelling(S "forall CELL : 0..1 end", CELLANG_NAME_USED, CELLANG_SPELLING_IN_LIST, "cell");
     expect_spelling("const Time := 1", CELLANG_NAME_USED, CELLANG_SPELLING_IN_LIST, "time");
+    expect_spelling("4 dimensions of 0..1", CELLANG_BAD_DIMENSIONS, CELLANG_SPELLING_IN_SOURCE, "4");
+    expect_spelling("1 dimensions of 1..-1", CELLANG_RANGE_REVERSED, CELLANG_SPELLING_IN_SOURCE, "1");
+    expect_spelling(S "forall i : 0..4096 end", CELLANG_LOOP_TOO_LONG, CELLANG_SPELLING_IN_SOURCE, "4096");
+    expect_spelling("1 dimensions of a,b,c,d,e,f,g,h,i of 0..1 end", CELLANG_TOO_MANY_FIELDS, CELLANG_SPELLING_IN_SOURCE, "i");
+    expect_spelling("const a[] for 1025 := 1", CELLANG_BAD_ARRAY_SIZE, CELLANG_SPELLING_IN_SOURCE, "1025");
+    expect_spelling("const a[] for 2 := 1,2,3 " S, CELLANG_VALUE_COUNT, CELLANG_SPELLING_IN_SOURCE, ",");
+    expect_spelling(S "const a[] for 2 := 1 CELL := 1", CELLANG_VALUE_COUNT, CELLANG_SPELLING_IN_LIST, "cell");
+    expect_spelling(S "const a[] for 3 := 1,2", CELLANG_VALUE_COUNT, CELLANG_SPELLING_NONE, "");
     expect_spelling("", CELLANG_NOT_ALLOWED, CELLANG_SPELLING_NONE, "");
     expect_spelling(S "if 1 then", CELLANG_NOT_ALLOWED, CELLANG_SPELLING_NONE, "");
 }

@@ -107,7 +107,7 @@ fn refusals() {
 #[test]
 fn spellings() {
     let s = "1 dimensions of 0..1 ";
-    let cases: [(&str, &[u8], &str); 14] = [
+    let cases: [(&str, &[u8], &str); 17] = [
         ("x := y", b"y", " constant or index: `y`"),
         ("x := Y_1z", b"Y_1z", " constant or index: `Y_1z`"),
         ("cell := RanDom", b"random", " not taken: `random`"),
@@ -120,6 +120,9 @@ fn spellings() {
         ("x := 9_999_999_999", b"9_999_999_999", ": `9_999_999_999`"),
         ("x := 1 +% 2", b"+%", " not taken: `+%`"),
         ("cell := 1 < 2 >= 3", b">=", " bare relation: `>=`"),
+        ("forall i : 0..4_096 end", b"4_096", ": `4_096`"),
+        ("const a[] for 2 := 1,2,3", b",", ": `,`"),
+        ("const a[] for 2 := 1 CELL := 1", b"cell", ": `cell`"),
         ("if 1 then", b"", " the grammar"),
         ("forall x", b"", " not taken"),
     ];
