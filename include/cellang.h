@@ -1,5 +1,5 @@
 /*
- * Checking and running correction rules written in Cellang, and comparing grids.
+ * Checking and running correction rules written in Cellang, setting and writing values by timed lists, and comparing grids.
  *
  * Link libcellang.a (x86-64 Linux). It needs memset and nothing else, allocates nothing and keeps
  * nothing between calls; calls on different memory may run at the same time. A run takes about
@@ -65,7 +65,8 @@ enum cellang_kind {
 
 /*
  * What a call gives back. 1, then 2, are tried before any token; then the smallest place wins, then
- * the lowest number, where 40 to 45 stand between 9 and 12. 20 to 24 are tried in this order once the source is accepted. "At" says which
+ * the lowest number, where 40 to 45 stand between 9 and 12. 20 to 24 are tried in this order once the source is accepted, and then 50 to 56
+ * on the lines of a value list: the lowest line wins, then the lowest number. "At" says which
  * byte of the source the place names, where the end of the source stands at its length; where
  * nothing is said the place is 0.
  */
@@ -109,7 +110,20 @@ enum cellang_reply {
     CELLANG_RESULT_OUT_OF_RANGE = 30,  /* an operation's result out of range; at the operator */
     CELLANG_ZERO_DIVISOR = 31,         /* a zero divisor; at the operator */
     CELLANG_ARRAY_INDEX = 32,          /* an array index out of range; at the [ */
-    CELLANG_VALUE_OUTSIDE_FIELD = 33   /* an assigned value outside the field; at the := before it */
+    CELLANG_VALUE_OUTSIDE_FIELD = 33,  /* an assigned value outside the field; at the := before it */
+
+    /* the source is accepted, but the run's value list is refused: CELLANG_REPORT_LINE is the line */
+    CELLANG_LIST_BAD_LINE = 50,           /* no time and no cell with values, a line without an end, a cell before any time, a wrong
+                                             count of indices, or a number over 2147483647 */
+    CELLANG_LIST_OUTSIDE_GRID = 51,       /* an index that is not below the size of its dimension */
+    CELLANG_LIST_TOO_MANY_VALUES = 52,    /* more values than fields, where missing ones count */
+    CELLANG_LIST_VALUE_OUT_OF_RANGE = 53, /* a value outside the range of its field */
+    CELLANG_LIST_TIME_NOT_RISING = 54,    /* a time that is not above the time before it */
+    CELLANG_LIST_TIME_BEFORE_START = 55,  /* a time below start */
+    CELLANG_LIST_TIME_PAST_END = 56,      /* a time above start plus steps */
+
+    /* the source and both grids are accepted, but the writer writes nothing */
+    CELLANG_ROOM_TOO_SHORT = 57 /* the room is shorter than the text */
 };
 
 /*
@@ -120,8 +134,12 @@ enum cellang_reply {
  *   3 to 15   zero                    as it was                 as they were
  *   40 to 45  zero                    as it was                 as they were
  *   20 to 24  the program, then zero  as it was                 as they were
+ *   50 to 56  the program, then zero  as it was                 as they were
  *   30 to 33  the program, then zero  after the steps done      zero
  *   0         the program, then zero  after all steps           zero, even after 0 steps
+ *
+ * In a run with a value list the block of the faulting step's time is set too (30 to 33), or that of the time behind the last step (0).
+ * The writer leaves words and names as a run does; at 57 they hold the program.
  */
 
 /* ---- spellings */
@@ -169,20 +187,23 @@ enum cellang_report_entry {
     CELLANG_REPORT_SPELLING = 5,        /* where the spelling stands: a cellang_spelling */
     CELLANG_REPORT_SPELLING_START = 6,  /* its first byte */
     CELLANG_REPORT_SPELLING_LENGTH = 7, /* its length in bytes */
-    CELLANG_REPORT_LENGTH = 8           /* entries in all */
+    CELLANG_REPORT_LINE = 8,            /* the refused line of the value list, from 1, at 50 to 56; else 0 */
+    CELLANG_REPORT_LENGTH = 9           /* entries in all */
 };
 
 /*
- * Runs a source on a grid: so many steps, the first at time start. Gives any of the replies.
+ * Runs a source on a grid: so many steps, the first at time start. Gives any of the replies up to 45.
  *
  * shape has the size of each dimension, in order. Cell [i,j,k] of sizes p,q,r has number (i*q+j)*r+k, and
  * likewise for fewer dimensions; its fields lie together in declared order. grid and scratch have cells times
  * fields entries, marks one byte a cell; what scratch and marks hold on entry does not matter.
  *
  * Each step of cellang_run_full evaluates every cell. Each step of cellang_run_quiet evaluates the open cells
- * alone: in the first step all, later those within whose reach a cell changed in the step before, and where
- * `time` stands in the source always all. Reply, place, cell, steps and grid are the same; the count is at
+ * alone: in the first step all, later those within whose reach a cell changed in the step before or by a block since, and where
+ * `time` stands in the source always all. Reply, place, line, cell, steps and grid are the same; the count is at
  * most the full one.
+ *
+ * These two take no value list: no block is set, and the line is 0.
  */
 uint32_t cellang_run_full(
     const uint8_t *source, size_t source_length,
@@ -207,6 +228,93 @@ uint32_t cellang_run_quiet(
     uint8_t *marks, size_t marks_length,
     int64_t start, int64_t steps,
     uint64_t *report, size_t report_length);
+
+/* ---- running with a value list */
+
+/*
+ * A value list sets cells at chosen times. Each line is a time, which begins a block, or a cell with the values of its first fields:
+ *
+ *     40
+ *     [0, 3] = 5, , 1
+ *     [1, 3] = -2
+ *     41
+ *
+ * Every LF and every CR ends a line (so CR LF ends two, the second of them blank); the last line needs an end too, and no line is blank.
+ * Space, tab, VT and FF may stand between numbers and signs. Numbers are written as in a source; a value may have one sign, a time or an
+ * index none. There are no comments. A missing value, and a field behind the last value, is left as it is; const fields may be set.
+ * The list of 0 bytes has no line and passes.
+ *
+ * Both calls are as those without _list, and set the blocks of the list: each before the step at its time, or after the last step where it
+ * is start plus steps; the lines of a block in order. The whole list is checked before the run begins, behind 20 to 24. A list that is refused, 50 to 56,
+ * leaves grid, scratch and marks as they were, and is told with its line: CELLANG_REPORT_LINE, from 1.
+ */
+uint32_t cellang_run_full_list(
+    const uint8_t *source, size_t source_length,
+    const uint8_t *list, size_t list_length,
+    uint32_t *words, size_t words_length,
+    uint32_t *names, size_t names_length,
+    const uint32_t *shape, size_t shape_length,
+    int32_t *grid, size_t grid_length,
+    int32_t *scratch, size_t scratch_length,
+    uint8_t *marks, size_t marks_length,
+    const uint8_t *values, size_t values_length,
+    int64_t start, int64_t steps,
+    uint64_t *report, size_t report_length);
+
+uint32_t cellang_run_quiet_list(
+    const uint8_t *source, size_t source_length,
+    const uint8_t *list, size_t list_length,
+    uint32_t *words, size_t words_length,
+    uint32_t *names, size_t names_length,
+    const uint32_t *shape, size_t shape_length,
+    int32_t *grid, size_t grid_length,
+    int32_t *scratch, size_t scratch_length,
+    uint8_t *marks, size_t marks_length,
+    const uint8_t *values, size_t values_length,
+    int64_t start, int64_t steps,
+    uint64_t *report, size_t report_length);
+
+/* ---- writing a value list */
+
+/* The entries that tell a writing. Where fewer are lent, the first ones are told; any others stay. */
+enum cellang_written_entry {
+    CELLANG_WRITTEN_NUMBER = 0,          /* the reply's number */
+    CELLANG_WRITTEN_PLACE = 1,           /* its place */
+    CELLANG_WRITTEN_TEXT = 2,            /* the length of the text in bytes, at 0; else 0 */
+    CELLANG_WRITTEN_SPELLING = 3,        /* where the spelling stands: a cellang_spelling */
+    CELLANG_WRITTEN_SPELLING_START = 4,  /* its first byte */
+    CELLANG_WRITTEN_SPELLING_LENGTH = 5, /* its length in bytes */
+    CELLANG_WRITTEN_LENGTH = 6           /* entries in all */
+};
+
+/* The most bytes of a text: a time's line, and a line for each cell that differs. */
+#define CELLANG_MOST_TIME_LINE 11
+#define CELLANG_MOST_CELL_LINE(dimensions, fields) (6 * (dimensions) + 13 * (fields) + 2)
+
+/*
+ * Writes the value list that leads from one grid to another: a line with the time, and then, in rising order, a line with all fields for
+ * each cell whose fields differ. Gives 0, 1 to 15, 40 to 45, 20 to 24 or 57.
+ *
+ * Both grids are checked as for a run of 0 steps that starts at the time; the lower number is given, and at 24 the lowest entry of the earlier
+ * grid that is out of range, else of the later. earlier and later may overlap.
+ *
+ * At 0 the text stands at the front of the room, without a 0 behind it, and the rest of the room stays. A room shorter than the text is refused,
+ * 57; this and every other refusal leaves the room as it was. A room of CELLANG_MOST_TIME_LINE bytes and CELLANG_MOST_CELL_LINE for each cell that
+ * differs is always long enough.
+ *
+ * A run with the text as its value list, on the earlier grid and with 0 steps from the time on, leaves the later grid.
+ */
+uint32_t cellang_write_list(
+    const uint8_t *source, size_t source_length,
+    const uint8_t *list, size_t list_length,
+    uint32_t *words, size_t words_length,
+    uint32_t *names, size_t names_length,
+    const uint32_t *shape, size_t shape_length,
+    const int32_t *earlier, size_t earlier_length,
+    const int32_t *later, size_t later_length,
+    int64_t time,
+    uint8_t *room, size_t room_length,
+    uint64_t *reply, size_t reply_length);
 
 /* ---- comparing */
 

@@ -1,8 +1,9 @@
 #!/usr/bin/env bash
-# Compares the proved runs, full and quiet, with the second program on generated runs, and says how many agreed.
+# Compares the proved runs, full and quiet, and the proved writer with the second program on generated cases, and says how many agreed.
 #
-#     tools/agree_runs.sh SEED COUNT
+#     tools/agree_runs.sh SEED COUNT [runs|lists|writings]
 #
+# COUNT cases of each kind, or of the kind named: runs, of which half have a list; runs whose list is at a limit or damaged in most cases; writings.
 # Needs `rt check run_vectors` to have been run, which leaves the program in target/bin.
 set -euo pipefail
 cd "$(dirname "$0")/.."
@@ -12,8 +13,15 @@ cargo build --quiet --release --offline --manifest-path reference/Cargo.toml
 reference=reference/target/release/reference
 work=$(mktemp -d)
 trap 'rm -r "$work"' EXIT
-"$reference" stream runs "$seed" "$count" | target/bin/run_vectors >"$work/proved"
-"$reference" stream runs "$seed" "$count" --replies >"$work/second"
-cmp "$work/proved" "$work/second"
-[ "$(wc -l <"$work/proved")" = "$((2 * count))" ]
-echo "$count runs agreed, full and quiet (seed $seed)"
+for kind in ${3:-runs lists writings}; do
+    "$reference" stream "$kind" "$seed" "$count" | target/bin/run_vectors >"$work/proved"
+    "$reference" stream "$kind" "$seed" "$count" --replies >"$work/second"
+    cmp "$work/proved" "$work/second"
+    case $kind in
+    writings) said='writings agreed' lines=1 ;;
+    lists) said='runs with lists agreed, full and quiet' lines=2 ;;
+    *) said='runs agreed, full and quiet' lines=2 ;;
+    esac
+    [ "$(wc -l <"$work/proved")" = "$((lines * count))" ]
+    echo "$count $said (seed $seed)"
+done

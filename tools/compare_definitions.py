@@ -6,8 +6,9 @@
 A case is one line of JSON, as `reference cases` writes it:
   {"source": [bytes], "check": [number, place]}
   {"source": [bytes], "shape": [..], "grid": [..], "start": s, "steps": n,
-   "full": {"number": .., "place": .., "cell": .., "steps": .., "count": .., "grid": [..]}, "quiet_count": k}
-A run may also have "words", "names", "scratch" and "marks", the lengths of what is lent, where they are not the right ones.
+   "full": {"number": .., "place": .., "line": .., "cell": .., "steps": .., "count": .., "grid": [..]}, "quiet_count": k}
+A run may also have "values", the bytes of its value list, and "words", "names", "scratch" and "marks", the lengths of what is lent, where they are
+not the right ones.
 
 It copies the crates into target/definitions, adds to crate services a module with lists of N cases and for each list the claim that no
 case fails, and checks it. A list that is refused, for a failing case or for the step limit, is checked again case by case. It prints
@@ -30,15 +31,19 @@ use mathlib.Core.Bool.{Bool, true}
 use mathlib.Core.List.{List, [], _∷_}
 use Prim.Native.Nat.{ℕ}
 use lib.IntN.{ℤ, pos, negsuc}
-use Rattle.stepper.specs.Admission.{Request}
-use Rattle.services.specs.Cases.{Lent, Case, checks, runs, report, failing, holds}
+use Rattle.stepper.specs.Report.{Report}
+use Rattle.services.specs.Running.{Asked}
+use Rattle.services.specs.Cases.{Lent, Case, checks, runs, failing, holds}
 
 abbrev lent : List ℕ → ℕ → ℕ → Lent
 lent source words names = record { source = source; words = words; names = names }
 
-abbrev asked : List ℕ → List ℤ → ℤ → ℤ → ℕ → ℕ → Request
-asked sizes grid start n scratch marks =
-    record { sizes = sizes; grid = grid; start = start; steps = n; scratch = scratch; marks = marks }
+abbrev asked : List ℕ → List ℤ → ℤ → ℤ → ℕ → ℕ → List ℕ → Asked
+asked sizes grid start n scratch marks values =
+    record { request = record { sizes = sizes; grid = grid; start = start; steps = n; scratch = scratch; marks = marks }; values = values }
+
+abbrev report : ℕ → ℕ → ℕ → ℕ → ℕ → ℕ → List ℤ → Report
+report n place line cell done count grid = record { number = n; place = place; line = line; cell = cell; steps = done; count = count; grid = grid }
 """
 
 
@@ -61,11 +66,11 @@ def case(c):
     cells = 1
     for n in c["shape"]:
         cells *= n
-    asked = "(asked %s %s (%s) (%s) %d %d)" % (
+    asked = "(asked %s %s (%s) (%s) %d %d %s)" % (
         numbers(c["shape"]), integers(c["grid"]), integer(c["start"]), integer(c["steps"]),
-        c.get("scratch", len(c["grid"])), c.get("marks", cells))
+        c.get("scratch", len(c["grid"])), c.get("marks", cells), numbers(c.get("values", [])))
     f = c["full"]
-    given = "(report %d %d %d %d %d %s)" % (f["number"], f["place"], f["cell"], f["steps"], f["count"], integers(f["grid"]))
+    given = "(report %d %d %d %d %d %d %s)" % (f["number"], f["place"], f.get("line", 0), f["cell"], f["steps"], f["count"], integers(f["grid"]))
     return "runs %s %s %s %d" % (lent, asked, given, c["quiet_count"])
 
 
@@ -101,7 +106,7 @@ def check(text):
 def prepare():
     shutil.rmtree(os.path.join(SCRATCH, "crates"), ignore_errors=True)
     os.makedirs(SCRATCH, exist_ok=True)
-    listed = ["value", "automaton", "token", "names", "program", "grammar", "semantics", "stepper", "services"]
+    listed = ["value", "automaton", "token", "names", "program", "grammar", "semantics", "linking", "stepper", "lists", "services"]
     lines = [l for l in open(os.path.join(ROOT, "crates.txt")) if l.split(":")[0] in listed]
     with open(os.path.join(SCRATCH, "crates.txt"), "w") as f:
         f.writelines(lines)

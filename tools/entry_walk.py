@@ -369,7 +369,9 @@ unfolding code.routine tablesOf
 MEMORY = '(memory {0} {1} {2} {3} {4})'
 ENTRY = MEMORY.format('v2', '{0}', 'v5', 'v6', 'v7')
 EXIT = MEMORY.format('z2', '{0}', 'z5', 'z6', 'z7')
-LENT = '(lent v0 v1 v4 ' + ENTRY + ' v8 v9)'
+LENT = '(lent v0 v1 v4 ' + ENTRY + ' v8 v9 v10)'
+
+WRITER = '(writer-lent v0 v1 (wanted v4 v5 v6 v7) v2 {0} v8)'
 
 CALLS = [
     {
@@ -391,7 +393,7 @@ use Rattle.cellang.proofs.AnswerRow.{OutRow, ReplyRow, reply-mach, out-
     },
     {
         'module': 'running', 'fn': 'run', 'core': 'ran', 'answer': 'report', 'outcome': 'RunAnswer',
-        'params': [('shr', 'u8'), ('shr', 'u8'), ('mut', 'u32'), ('names', 'Row'), ('shr', 'u32'), ('mut', 'i32'), ('mut', 'i32'), ('mut', 'u8'), ('sint', 'w64'), ('sint', 'w64'), ('bool', '')],
+        'params': [('shr', 'u8'), ('shr', 'u8'), ('mut', 'u32'), ('names', 'Row'), ('shr', 'u32'), ('mut', 'i32'), ('mut', 'i32'), ('mut', 'u8'), ('shr', 'u8'), ('sint', 'w64'), ('sint', 'w64'), ('bool', '')],
         'vals': ', vbool, ofZ', 'plains': ', bool-vals, bool-tells, bool-makes, bool-lawful', 'signed': 'use denote.Signed.{sint-vals, sint-tells, sint-makes, sint-lawful}\n',
         'builtins': 'i32, i64, bool, ', 'integers': 'use mathlib.Core.Bool.{Bool}\nuse lib.IntN.{ℤ}\n',
         'uses': '''
@@ -409,9 +411,29 @@ use Rattle.cellang.specs.Promises.{RunsOver}
 use Rattle.cellang.proofs.running.RunAnswer.Laws as O′
 use Rattle.records.proofs.NameRow.{Row, vals, makes}
 use Rattle.cellang.proofs.RunAnswerRow.{OutRow, ReportRow, report-mach, out-tells, rows-is, count-fits, report-is, report-makes, out-typed, report-typed}''',
-        'said': f'RunsOver (counting-of v10) (length v3) (λ m. {LENT.format("m")}) r (λ m. {EXIT.format("m")})',
-        'final': f'RunLeaves row-names (counting-of v10) {LENT.format("v3")} (r .report) {EXIT.format("ns")} × Agree (told (r .report) z5) (run-report row-names full {LENT.format("v3")}) × RangesKept (read-lent row-names {LENT.format("v3")}) (asked {LENT.format("v3")}) z5',
-        'proof': f'let left = subst (λ m. RunLeaves row-names (counting-of v10) {LENT.format("v3")} (r .report) {EXIT.format("m")}) (sym h) (e .stores v3 refl) in (left, run-agrees row-names v10 {LENT.format("v3")} left, run-ranges row-names (counting-of v10) {LENT.format("v3")} left)',
+        'said': f'RunsOver (counting-of v11) (length v3) (λ m. {LENT.format("m")}) r (λ m. {EXIT.format("m")})',
+        'final': f'RunLeaves row-names (counting-of v11) {LENT.format("v3")} (r .report) {EXIT.format("ns")} × Agree (told (r .report) z5) (run-report row-names full {LENT.format("v3")}) × RangesKept (read-lent row-names {LENT.format("v3")}) (asked {LENT.format("v3")}) z5',
+        'proof': f'let left = subst (λ m. RunLeaves row-names (counting-of v11) {LENT.format("v3")} (r .report) {EXIT.format("m")}) (sym h) (e .stores v3 refl) in (left, run-agrees row-names v11 {LENT.format("v3")} left, run-ranges row-names (counting-of v11) {LENT.format("v3")} left)',
+        'may': 'e .few',
+    },
+    {
+        'module': 'writing', 'fn': 'write_list', 'core': 'wrote', 'answer': 'written', 'outcome': 'WriteAnswer',
+        'params': [('shr', 'u8'), ('shr', 'u8'), ('mut', 'u32'), ('names', 'Row'), ('shr', 'u32'), ('shr', 'i32'), ('shr', 'i32'), ('sint', 'w64'), ('mut', 'u8')],
+        'vals': ', ofZ', 'plains': '', 'signed': 'use denote.Signed.{sint-vals, sint-tells, sint-makes, sint-lawful}\n',
+        'builtins': 'i32, i64, ', 'integers': 'use lib.IntN.{ℤ}\n',
+        'uses': '''
+use Rattle.list_writer.specs.WriterCalls.{wanted, writer-lent}
+use Rattle.list_writer.specs.Contracts.Writing.{WriterLeaves}
+use Rattle.records.specs.declared.Name.{Name}
+use Rattle.cellang.specs.declared.writing.WriteAnswer.{WriteAnswer}
+use Rattle.cellang.specs.Left.{row-names}
+use Rattle.cellang.specs.Promises.{WritesOver}
+use Rattle.cellang.proofs.writing.WriteAnswer.Laws as O′
+use Rattle.records.proofs.NameRow.{Row, vals, makes}
+use Rattle.cellang.proofs.WriteAnswerRow.{OutRow, WrittenRow, written-mach, out-tells, rows-is, count-fits, written-is, written-makes, out-typed, written-typed}''',
+        'said': f'WritesOver (length v3) (λ m. {WRITER.format("m")}) r z2 z8',
+        'final': f'WriterLeaves row-names {WRITER.format("v3")} (r .written) z2 ns z8',
+        'proof': f'subst (λ m. WriterLeaves row-names {WRITER.format("v3")} (r .written) z2 m z8) (sym h) (e .stores v3 refl)',
         'may': 'e .few',
     },
 ]

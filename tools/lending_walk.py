@@ -376,7 +376,7 @@ use Rattle.naming.specs.Promises.{ChecksSource}''',
     },
     {
         'fn': 'run', 'callee': 'run', 'answer': 'Report', 'wraps': True,
-        'params': [('shr', 'u8'), ('shr', 'u8'), ('mut', 'u32'), ('rows', 'Row'), ('shr', 'u32'), ('mut', 'i32'), ('mut', 'i32'), ('mut', 'u8'), ('sint', 'w64'), ('sint', 'w64'), ('bool', '')],
+        'params': [('shr', 'u8'), ('shr', 'u8'), ('mut', 'u32'), ('rows', 'Row'), ('shr', 'u32'), ('mut', 'i32'), ('mut', 'i32'), ('mut', 'u8'), ('shr', 'u8'), ('sint', 'w64'), ('sint', 'w64'), ('bool', '')],
         'uses': '''
 use Rattle.stepper.specs.Report.{full}
 use Rattle.services.specs.Calls.{memory, lent, asked, read-lent, run-report}
@@ -388,8 +388,8 @@ use Rattle.runner.specs.Property3.{Agree}
 use Rattle.cellang.specs.Left.{row-names}
 use Rattle.cellang.proofs.RunAnswerRow.{ReportRow}
 use Rattle.naming.specs.declared.Ran.{Ran}''',
-        'said': f'RunLeaves row-names (counting-of v10) {LENT.format("v3")} r {EXIT.format("ns")} × Agree (told r z5) (run-report row-names full {LENT.format("v3")}) × RangesKept (read-lent row-names {LENT.format("v3")}) (asked {LENT.format("v3")}) z5',
-        'final': f'RunLeaves row-names (counting-of v10) {LENT.format("v3")} r {EXIT.format("ns")}',
+        'said': f'RunLeaves row-names (counting-of v11) {LENT.format("v3")} r {EXIT.format("ns")} × Agree (told r z5) (run-report row-names full {LENT.format("v3")}) × RangesKept (read-lent row-names {LENT.format("v3")}) (asked {LENT.format("v3")}) z5',
+        'final': f'RunLeaves row-names (counting-of v11) {LENT.format("v3")} r {EXIT.format("ns")}',
         'proof': 'e .0',
     },
 ]

@@ -17,7 +17,8 @@ DEFINITIONS = [
     ("grammar", ["Complaint", "Reader", "Constants", "Expressions", "Statements", "Source", "Checking"]),
     ("semantics", ["Operators", "Evaluation", "Written", "Places"]),
     ("stepper", ["Reach", "Admission", "Report"]),
-    ("services", ["Services"]),
+    ("lists", ["Text", "Lines", "ListChecking", "Setting"]),
+    ("services", ["Running", "Services"]),
 ]
 
 
@@ -26,7 +27,7 @@ def modules():
     for crate, listed in DEFINITIONS:
         for module in listed:
             text = open(os.path.join(ROOT, "crates", crate, "specs", module + ".antt")).read()
-            yield crate, module, re.findall(r"^ *unfoldable pub (\S+)", text, re.M)
+            yield crate, module, [a or b for a, b in re.findall(r"^ *unfoldable pub (\S+)|^unfoldable mutual\n(?:  --[^\n]*\n)*  pub (\S+)", text, re.M)]
 
 
 def main():

@@ -137,12 +137,24 @@ fn run_proved(mode: Mode, source: &str, grid: &[i32], fields: usize, steps: i64)
 
 /// A full run of the second program.
 fn run_second(source: &str, sizes: &[u32], grid: &[i32], steps: i64) -> Vec<i32> {
+    run_second_with(source, sizes, grid, steps, &[])
+}
+
+/// A full run of the second program with a value list.
+fn run_second_with(
+    source: &str,
+    sizes: &[u32],
+    grid: &[i32],
+    steps: i64,
+    values: &[u8],
+) -> Vec<i32> {
     let lent = reference::Lent {
         source: source.as_bytes(),
         list: reference::BUILT_IN,
         words: WORDS,
         names: NAME_WORDS / 4,
         shape: sizes,
+        values,
         start: 0,
         steps,
     };
@@ -263,7 +275,10 @@ fn quiet(times: usize) {
             f / q
         );
     }
-    println!("a rule that reads [0,9] and [9,0]: one change opens {} cells", opened_by_one_change());
+    println!(
+        "a rule that reads [0,9] and [9,0]: one change opens {} cells",
+        opened_by_one_change()
+    );
 }
 
 /// The seconds of a run of Life on a square grid of some side, for the three programs; so many runs that they evaluate as many cells as on the
@@ -347,7 +362,66 @@ fn growth(times: usize) {
     }
 }
 
-/// `bench [TIMES [full|quiet|growth]]`: the best of so many runs counts.
+/// A value list of so many lines: a time, and a line for each of the first cells.
+fn long_list(lines: usize) -> Vec<u8> {
+    let mut random = Random(88_172_645_463_325_252);
+    let mut text = String::from("0\n");
+    for cell in 0..lines - 1 {
+        let (row, column, value) = (cell / SIDE, cell % SIDE, random.below(256));
+        text += &format!("[{row}, {column}] = {value}\n");
+    }
+    text.into_bytes()
+}
+
+/// The seconds in which the two programs check and set a value list by a run of 0 steps.
+fn on_list(lines: usize, times: usize) -> [f64; 2] {
+    const SOURCE: &str = "2 dimensions of 0..255";
+    let list = long_list(lines);
+    let grid = vec![0; CELLS];
+    let mut rooms = Rooms::new(CELLS, 1);
+    let mut proved = || {
+        let mut left = grid.clone();
+        proved::set(SOURCE, &SIZES, &mut left, &mut rooms, &list);
+        left
+    };
+    let second = || run_second_with(SOURCE, &SIZES, &grid, 0, &list);
+    assert!(proved() == second(), "{lines} lines: the programs differ");
+    // Short runs are made several times, since the system tells the time in coarse steps.
+    let again = (1_000_000 / lines).min(20);
+    let mut proved = || (0..again).for_each(|_| drop(proved()));
+    let mut second = || (0..again).for_each(|_| drop(second()));
+    best_each(times, [&mut proved, &mut second]).map(|t| t / again as f64)
+}
+
+/// Value lists of one block: how the time grows with the lines. What a run takes with the time's line alone is told first, and left out of the
+/// time a line.
+fn lists(times: usize) {
+    println!(
+        "a value list checked and set by a run of 0 steps on {SIDE} x {SIDE} cells, milliseconds"
+    );
+    println!("| lines | proved | second program | second / proved | proved, nanoseconds a line | second, nanoseconds a line |");
+    println!("|---|---|---|---|---|---|");
+    let alone = on_list(1, times);
+    println!(
+        "| 1 | {:.1} | {:.1} | | | |",
+        alone[0] * 1e3,
+        alone[1] * 1e3
+    );
+    for lines in [250_000, 500_000, 1_000_000] {
+        let each = on_list(lines, times);
+        let a_line = |program: usize| (each[program] - alone[program]) * 1e9 / lines as f64;
+        println!(
+            "| {lines} | {:.1} | {:.1} | {:.2} | {:.0} | {:.0} |",
+            each[0] * 1e3,
+            each[1] * 1e3,
+            each[1] / each[0],
+            a_line(0),
+            a_line(1)
+        );
+    }
+}
+
+/// `bench [TIMES [full|quiet|growth|lists]]`: the best of so many runs counts.
 fn main() {
     let words: Vec<String> = env::args().collect();
     let times = words.get(1).and_then(|word| word.parse().ok()).unwrap_or(3);
@@ -360,5 +434,8 @@ fn main() {
     }
     if ["", "growth"].contains(&which) {
         growth(times);
+    }
+    if ["", "lists"].contains(&which) {
+        lists(times);
     }
 }

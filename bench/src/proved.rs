@@ -1,6 +1,6 @@
 //! Runs of the proved library, in memory that is kept from run to run.
 
-use cellang::{run_in, Done, Lent, Mode, NAME_WORDS, WORDS};
+use cellang::{run_in, Done, Lent, Mode, Run, NAME_WORDS, WORDS};
 
 /// The memory that a run is lent, beside the grid.
 pub struct Rooms {
@@ -19,6 +19,15 @@ impl Rooms {
             marks: vec![0; cells],
         }
     }
+
+    fn lent(&mut self) -> Lent<'_> {
+        Lent {
+            words: &mut self.words,
+            names: &mut self.names,
+            scratch: &mut self.scratch,
+            marks: &mut self.marks,
+        }
+    }
 }
 
 /// A run from time 0 that must do all its steps.
@@ -30,12 +39,12 @@ pub fn run(
     rooms: &mut Rooms,
     steps: i64,
 ) -> Done {
-    let lent = Lent {
-        words: &mut rooms.words,
-        names: &mut rooms.names,
-        scratch: &mut rooms.scratch,
-        marks: &mut rooms.marks,
-    };
-    let outcome = run_in(source.as_bytes(), sizes, grid, lent, 0, steps, mode);
+    let outcome = run_in(source.as_bytes(), sizes, grid, rooms.lent(), 0, steps, mode);
     outcome.expect("every step is done")
+}
+
+/// A full run of 0 steps at time 0 that sets the block of a value list.
+pub fn set(source: &str, sizes: &[u32], grid: &mut [i32], rooms: &mut Rooms, list: &[u8]) {
+    let run = Run::new(source.as_bytes(), sizes, 0, 0, Mode::Full).with_list(list);
+    run.on_in(grid, rooms.lent()).expect("a list that passes");
 }

@@ -1,4 +1,5 @@
-/* Calls the library from C: the marked examples M1 to M13, spellings, comparisons of grids, and what the lent memory holds afterwards. */
+/* Calls the library from C: the marked examples M1 to M13, spellings, value lists and their writer, comparisons of grids, and what the lent
+ * memory holds afterwards. */
 #ifndef _DEFAULT_SOURCE
 #define _DEFAULT_SOURCE /* for mmap of memory without a file */
 #endif
@@ -62,6 +63,9 @@ struct expected {
 typedef uint32_t run_call(const uint8_t *, size_t, const uint8_t *, size_t, uint32_t *, size_t, uint32_t *, size_t,
                           const uint32_t *, size_t, int32_t *, size_t, int32_t *, size_t, uint8_t *, size_t, int64_t, int64_t,
                           uint64_t *, size_t);
+typedef uint32_t list_run_call(const uint8_t *, size_t, const uint8_t *, size_t, uint32_t *, size_t, uint32_t *, size_t,
+                               const uint32_t *, size_t, int32_t *, size_t, int32_t *, size_t, uint8_t *, size_t, const uint8_t *,
+                               size_t, int64_t, int64_t, uint64_t *, size_t);
 
 /* Runs a source on a row of cells of one field each. */
 static void expect_run(const char *what, run_call *run, const char *source, const int32_t *before, uint32_t cells,
@@ -177,15 +181,20 @@ static void another_list(void) {
         const uint8_t *list = (const uint8_t *)lists[i];
         const uint32_t shape[] = {1};
         const uint32_t told[CELLANG_REPLY_LENGTH] = {CELLANG_ROOM_LENGTH, 0, 0, 0, 0};
-        const uint64_t told_of_run[CELLANG_REPORT_LENGTH] = {CELLANG_ROOM_LENGTH, 0, 0, 0, 0, 0, 0, 0};
+        const uint64_t told_of_run[CELLANG_REPORT_LENGTH] = {CELLANG_ROOM_LENGTH, 0, 0, 0, 0, 0, 0, 0, 0};
+        const uint64_t told_of_writing[CELLANG_WRITTEN_LENGTH] = {CELLANG_ROOM_LENGTH, 0, 0, 0, 0, 0};
+        const int32_t pair[] = {0, 1};
+        uint8_t room[4];
         uint32_t reply[CELLANG_REPLY_LENGTH];
         uint64_t report[CELLANG_REPORT_LENGTH];
         run_call *runs[] = {cellang_run_full, cellang_run_quiet};
+        list_run_call *listed[] = {cellang_run_full_list, cellang_run_quiet_list};
         memset(words, UNTOUCHED, sizeof words);
         memset(names, UNTOUCHED, sizeof names);
         memset(grid, UNTOUCHED, sizeof grid);
         memset(scratch, UNTOUCHED, sizeof scratch);
         memset(marks, UNTOUCHED, sizeof marks);
+        memset(room, UNTOUCHED, sizeof room);
         expect(cellang_check((const uint8_t *)source, strlen(source), list, strlen(lists[i]), words, CELLANG_WORDS, names,
                              CELLANG_NAME_WORDS, reply, CELLANG_REPLY_LENGTH) == CELLANG_ROOM_LENGTH, "another list");
         expect(memcmp(reply, told, sizeof told) == 0, "another list is told");
@@ -194,10 +203,19 @@ static void another_list(void) {
                            CELLANG_NAME_WORDS, shape, 1, grid, 1, scratch, 1, marks, 1, 0, 1, report, CELLANG_REPORT_LENGTH)
                        == CELLANG_ROOM_LENGTH, "another list in a run");
             expect(memcmp(report, told_of_run, sizeof told_of_run) == 0, "another list in a run is told");
+            expect(listed[k]((const uint8_t *)source, strlen(source), list, strlen(lists[i]), words, CELLANG_WORDS, names,
+                             CELLANG_NAME_WORDS, shape, 1, grid, 1, scratch, 1, marks, 1, (const uint8_t *)"x", 1, 0, 1, report,
+                             CELLANG_REPORT_LENGTH) == CELLANG_ROOM_LENGTH, "another list beside a value list");
+            expect(memcmp(report, told_of_run, sizeof told_of_run) == 0, "another list beside a value list is told");
         }
+        expect(cellang_write_list((const uint8_t *)source, strlen(source), list, strlen(lists[i]), words, CELLANG_WORDS, names,
+                                  CELLANG_NAME_WORDS, shape, 1, pair, 1, pair + 1, 1, 0, room, sizeof room, report,
+                                  CELLANG_WRITTEN_LENGTH) == CELLANG_ROOM_LENGTH, "another list in a writing");
+        expect(memcmp(report, told_of_writing, sizeof told_of_writing) == 0, "another list in a writing is told");
         expect(all_bytes(words, sizeof words, UNTOUCHED) && all_bytes(names, sizeof names, UNTOUCHED)
                    && all_bytes(grid, sizeof grid, UNTOUCHED) && all_bytes(scratch, sizeof scratch, UNTOUCHED)
-                   && all_bytes(marks, sizeof marks, UNTOUCHED), "another list: nothing is touched");
+                   && all_bytes(marks, sizeof marks, UNTOUCHED) && all_bytes(room, sizeof room, UNTOUCHED),
+               "another list: nothing is touched");
     }
 }
 
@@ -220,6 +238,10 @@ static void lengths(void) {
     expect(cellang_check(NULL, 0, NULL, 0, NULL, 0, NULL, 0, NULL, 0) == CELLANG_ROOM_LENGTH, "nothing lent");
     expect(cellang_run_quiet(NULL, 0, NULL, 0, NULL, 0, NULL, 0, NULL, 0, NULL, 0, NULL, 0, NULL, 0, 0, 0, NULL, 0)
                == CELLANG_ROOM_LENGTH, "nothing lent to a run");
+    expect(cellang_run_full_list(NULL, 0, NULL, 0, NULL, 0, NULL, 0, NULL, 0, NULL, 0, NULL, 0, NULL, 0, NULL, 0, 0, 0, NULL, 0)
+               == CELLANG_ROOM_LENGTH, "nothing lent to a run with a value list");
+    expect(cellang_write_list(NULL, 0, NULL, 0, NULL, 0, NULL, 0, NULL, 0, NULL, 0, NULL, 0, 0, NULL, 0, NULL, 0)
+               == CELLANG_ROOM_LENGTH, "nothing lent to the writer");
 }
 
 static void name_list(void) {
@@ -231,6 +253,222 @@ static void name_list(void) {
     expect(memcmp(names, expected, sizeof expected) == 0, "name records");
     expect(all_bytes(names + told, sizeof names - sizeof expected, 0), "zero behind the names");
 }
+
+/* ---- value lists */
+
+#define PLANE "2 dimensions of a of -9..9 b of 0..1 c of 0..100 end"
+#define PLANE_ENTRIES 24
+
+/* Runs with a value list on a grid of 2 by 4 cells with three fields, which is zero, from time 3 on, 5 steps. */
+static void expect_list(const char *list, uint32_t number, uint64_t line, const int32_t *left) {
+    static const int32_t zero[PLANE_ENTRIES] = {0};
+    static uint32_t words_of_check[CELLANG_WORDS], names_of_check[CELLANG_NAME_WORDS];
+    const uint32_t shape[] = {2, 4};
+    list_run_call *runs[] = {cellang_run_full_list, cellang_run_quiet_list};
+    cellang_check((const uint8_t *)PLANE, strlen(PLANE), LIST, words_of_check, CELLANG_WORDS, names_of_check, CELLANG_NAME_WORDS,
+                  NULL, 0);
+    for (size_t k = 0; k < 2; k++) {
+        uint64_t report[CELLANG_REPORT_LENGTH] = {0};
+        const uint64_t refused[CELLANG_REPORT_LENGTH] = {number, 0, 0, 0, 0, 0, 0, 0, line};
+        int32_t plane[PLANE_ENTRIES] = {0}, plane_scratch[PLANE_ENTRIES];
+        uint8_t plane_marks[8], rest = number == CELLANG_DONE ? 0 : UNTOUCHED;
+        uint32_t given;
+        memset(plane_scratch, UNTOUCHED, sizeof plane_scratch);
+        memset(plane_marks, UNTOUCHED, sizeof plane_marks);
+        memset(words, UNTOUCHED, sizeof words);
+        memset(names, UNTOUCHED, sizeof names);
+        given = runs[k]((const uint8_t *)PLANE, strlen(PLANE), LIST, words, CELLANG_WORDS, names, CELLANG_NAME_WORDS, shape, 2,
+                        plane, PLANE_ENTRIES, plane_scratch, PLANE_ENTRIES, plane_marks, 8, (const uint8_t *)list, strlen(list), 3,
+                        5, report, CELLANG_REPORT_LENGTH);
+        expect(given == number && report[CELLANG_REPORT_NUMBER] == number && report[CELLANG_REPORT_LINE] == line, list);
+        if (number == CELLANG_DONE) {
+            expect(report[CELLANG_REPORT_STEPS] == 5, list);
+        } else {
+            expect(memcmp(report, refused, sizeof refused) == 0, list);
+        }
+        expect(memcmp(plane, left == NULL ? zero : left, sizeof plane) == 0, list);
+        expect(all_bytes(plane_scratch, sizeof plane_scratch, rest) && all_bytes(plane_marks, sizeof plane_marks, rest), list);
+        expect(memcmp(words, words_of_check, sizeof words) == 0 && memcmp(names, names_of_check, sizeof names) == 0, list);
+    }
+}
+
+static void value_lists(void) {
+    int32_t set[PLANE_ENTRIES] = {0};
+    expect_list("", CELLANG_DONE, 0, NULL);
+    expect_list("3\n8\n", CELLANG_DONE, 0, NULL);
+    expect_list("3\r[0, 0] =\r", CELLANG_DONE, 0, NULL);
+    set[9] = 5;
+    set[11] = 1;
+    set[21] = -8;
+    set[22] = 1;
+    expect_list("3\n[0, 3] = 5, , 1\n8\n[1, 3] = -9\n\t[ 1,0_3 ] = - 8 , +1\n", CELLANG_DONE, 0, set);
+    expect_list("3\n\n", CELLANG_LIST_BAD_LINE, 2, NULL);
+    expect_list("3\r\n", CELLANG_LIST_BAD_LINE, 2, NULL);
+    expect_list("3\n[0, 3] = 5", CELLANG_LIST_BAD_LINE, 2, NULL);
+    expect_list("[0, 3] = 5\n3\n", CELLANG_LIST_BAD_LINE, 1, NULL);
+    expect_list("3\n[9] = 5\n", CELLANG_LIST_BAD_LINE, 2, NULL);
+    expect_list("3\n[0, 3] = 2147483648\n", CELLANG_LIST_BAD_LINE, 2, NULL);
+    expect_list("3\n[0, 3] = --1\n", CELLANG_LIST_BAD_LINE, 2, NULL);
+    expect_list("3\n[0, 3] = 1_\n", CELLANG_LIST_BAD_LINE, 2, NULL);
+    expect_list("3\n[2, 3] = 5\n", CELLANG_LIST_OUTSIDE_GRID, 2, NULL);
+    expect_list("3\n[0, 4] = 10, 2, , 1\n", CELLANG_LIST_OUTSIDE_GRID, 2, NULL);
+    expect_list("3\n[0, 3] = , , ,\n", CELLANG_LIST_TOO_MANY_VALUES, 2, NULL);
+    expect_list("3\n[1, 3] = 5, 2\n", CELLANG_LIST_VALUE_OUT_OF_RANGE, 2, NULL);
+    expect_list("5\n5\n", CELLANG_LIST_TIME_NOT_RISING, 2, NULL);
+    expect_list("0_2\n", CELLANG_LIST_TIME_BEFORE_START, 1, NULL);
+    expect_list("3\n4\n9\n", CELLANG_LIST_TIME_PAST_END, 3, NULL);
+    expect_list("3\n[0, 3] = 5\n[0, 3] = 5\n[0, 4] = 5\n\n", CELLANG_LIST_OUTSIDE_GRID, 4, NULL);
+}
+
+/* Runs with a value list on two cells that count up, from time 5 on. */
+static void expect_block(const char *what, const char *list, int64_t steps, const uint64_t *told, int32_t first, int32_t second) {
+    const char *source = "1 dimensions of 0..9 cell := cell + 1";
+    const uint32_t shape[] = {2};
+    list_run_call *runs[] = {cellang_run_full_list, cellang_run_quiet_list};
+    for (size_t k = 0; k < 2; k++) {
+        uint64_t report[CELLANG_REPORT_LENGTH];
+        memset(grid, 0, sizeof grid);
+        expect(runs[k]((const uint8_t *)source, strlen(source), LIST, words, CELLANG_WORDS, names, CELLANG_NAME_WORDS, shape, 1, grid,
+                       2, scratch, 2, marks, 2, (const uint8_t *)list, strlen(list), 5, steps, report, CELLANG_REPORT_LENGTH)
+                   == told[0], what);
+        expect(memcmp(report, told, sizeof report) == 0, what);
+        expect(grid[0] == first && grid[1] == second, what);
+    }
+}
+
+static void blocks(void) {
+    const uint64_t none[CELLANG_REPORT_LENGTH] = {0}, two[CELLANG_REPORT_LENGTH] = {0, 0, 0, 2, 4};
+    const uint64_t fault[CELLANG_REPORT_LENGTH] = {CELLANG_VALUE_OUTSIDE_FIELD, 26, 1, 1, 4};
+    expect_block("a block at the start", "5\n[1] = 4\n", 2, two, 2, 6);
+    expect_block("a block before the second step", "6\n[1] = 4\n", 2, two, 2, 5);
+    expect_block("a block after the last step", "7\n[1] = 4\n", 2, two, 2, 4);
+    expect_block("a block of a run of 0 steps", "5\n[1] = 4\n[1] = 3\n", 0, none, 0, 3);
+    expect_block("a fault behind a block", "6\n[0] = 2\n[1] = 9\n7\n[0] = 7\n", 4, fault, 2, 9);
+}
+
+/* Fewer entries than there are: the first ones are told, and the others stay. */
+static void report_lengths(void) {
+    const char *list = "0\n[1] = 1\n";
+    const uint32_t shape[] = {1};
+    const uint64_t told[] = {CELLANG_LIST_OUTSIDE_GRID, 0, 0, 0, 0, 0, 0, 0, 2};
+    for (size_t lent = 0; lent <= CELLANG_REPORT_LENGTH + 1; lent++) {
+        uint64_t report[CELLANG_REPORT_LENGTH + 2], plain[CELLANG_REPORT_LENGTH + 2];
+        for (size_t i = 0; i < CELLANG_REPORT_LENGTH + 2; i++) {
+            report[i] = plain[i] = UNTOUCHED;
+        }
+        grid[0] = 0;
+        expect(cellang_run_quiet_list((const uint8_t *)S, strlen(S), LIST, words, CELLANG_WORDS, names, CELLANG_NAME_WORDS, shape, 1,
+                                      grid, 1, scratch, 1, marks, 1, (const uint8_t *)list, strlen(list), 0, 1, report, lent)
+                   == CELLANG_LIST_OUTSIDE_GRID, "a report of any length");
+        expect(cellang_run_full((const uint8_t *)S, strlen(S), LIST, words, CELLANG_WORDS, names, CELLANG_NAME_WORDS, shape, 1, grid, 1,
+                                scratch, 1, marks, 1, 0, 1, plain, lent) == CELLANG_DONE, "a report of any length, without a list");
+        for (size_t i = 0; i < CELLANG_REPORT_LENGTH + 2; i++) {
+            int is_told = i < lent && i < CELLANG_REPORT_LENGTH;
+            uint64_t of_plain = i == CELLANG_REPORT_STEPS || i == CELLANG_REPORT_COUNT;
+            expect(report[i] == (is_told ? told[i] : UNTOUCHED), "an entry of a report");
+            expect(plain[i] == (is_told ? of_plain : UNTOUCHED), "an entry of a report without a list");
+        }
+    }
+}
+
+/* ---- the writer */
+
+#define MOST_ROOM 64
+
+static const uint32_t no_shape[1] = {0};
+
+/* Writes into the front of a room, of which `length` bytes are lent; the text is to stand there, and the rest of the room is to stay. */
+static void expect_written(const char *what, const char *source, const uint32_t *shape, size_t dimensions, const int32_t *earlier,
+                           size_t earlier_length, const int32_t *later, size_t later_length, int64_t time, size_t length,
+                           uint32_t number, uint64_t place, const char *text) {
+    uint64_t reply[CELLANG_WRITTEN_LENGTH];
+    uint8_t room[MOST_ROOM];
+    uint32_t given;
+    memset(room, UNTOUCHED, sizeof room);
+    memset(words, UNTOUCHED, sizeof words);
+    given = cellang_write_list((const uint8_t *)source, strlen(source), LIST, words, CELLANG_WORDS, names, CELLANG_NAME_WORDS, shape,
+                               dimensions, earlier, earlier_length, later, later_length, time, room, length, reply,
+                               CELLANG_WRITTEN_LENGTH);
+    expect(given == number && reply[CELLANG_WRITTEN_NUMBER] == number && reply[CELLANG_WRITTEN_PLACE] == place, what);
+    expect(reply[CELLANG_WRITTEN_TEXT] == strlen(text), what);
+    expect(memcmp(room, text, strlen(text)) == 0, what);
+    expect(all_bytes(room + strlen(text), sizeof room - strlen(text), UNTOUCHED), what);
+    if (number == CELLANG_NAME_UNKNOWN) {
+        expect(all_bytes(words, sizeof words, 0), what);
+        expect(reply[CELLANG_WRITTEN_SPELLING] == CELLANG_SPELLING_IN_SOURCE && reply[CELLANG_WRITTEN_SPELLING_START] == place
+                   && reply[CELLANG_WRITTEN_SPELLING_LENGTH] == 1, what);
+    } else {
+        expect(words[0] != 0 && words[CELLANG_WORDS - 1] == 0, what);
+        expect(reply[CELLANG_WRITTEN_SPELLING] == CELLANG_SPELLING_NONE && reply[CELLANG_WRITTEN_SPELLING_START] == 0
+                   && reply[CELLANG_WRITTEN_SPELLING_LENGTH] == 0, what);
+    }
+}
+
+/* Writes the list from one grid to another, and reads it back. */
+static void expect_read_back(const char *source, const uint32_t *shape, size_t dimensions, const int32_t *earlier,
+                             const int32_t *later, size_t entries, size_t cells, int64_t time) {
+    uint8_t room[CELLANG_MOST_TIME_LINE + MOST_CELLS * CELLANG_MOST_CELL_LINE(3, 2)];
+    uint64_t reply[CELLANG_WRITTEN_LENGTH], report[CELLANG_REPORT_LENGTH];
+    const uint64_t done[CELLANG_REPORT_LENGTH] = {0};
+    list_run_call *runs[] = {cellang_run_full_list, cellang_run_quiet_list};
+    expect(cellang_write_list((const uint8_t *)source, strlen(source), LIST, words, CELLANG_WORDS, names, CELLANG_NAME_WORDS, shape,
+                              dimensions, earlier, entries, later, entries, time, room, sizeof room, reply, CELLANG_WRITTEN_LENGTH)
+               == CELLANG_DONE, source);
+    for (size_t k = 0; k < 2; k++) {
+        memcpy(grid, earlier, entries * sizeof *grid);
+        expect(runs[k]((const uint8_t *)source, strlen(source), LIST, words, CELLANG_WORDS, names, CELLANG_NAME_WORDS, shape,
+                       dimensions, grid, entries, scratch, entries, marks, cells, room, (size_t)reply[CELLANG_WRITTEN_TEXT], time, 0,
+                       report, CELLANG_REPORT_LENGTH) == CELLANG_DONE, source);
+        expect(memcmp(report, done, sizeof done) == 0, source);
+        expect(memcmp(grid, later, entries * sizeof *grid) == 0, source);
+    }
+}
+
+static void writings(void) {
+    const char *pairs = "2 dimensions of a of 0..9 b of -99..99 end", *bits = S "cell := [3]";
+    const char *text = "40\n[0, 1] = 0, 4\n[1, 1] = 7, -12\n";
+    const char *wide = "3 dimensions of -2147483647..2147483647";
+    const uint32_t square[] = {2, 2}, cube[] = {2, 2, 2}, two[] = {2}, three[] = {3};
+    const int32_t earlier[] = {1, 2, 3, 4, 5, 6, 7, 8}, later[] = {1, 2, 0, 4, 5, 6, 7, -12};
+    const int32_t least[] = {0, 1, -1, -INT32_MAX, -INT32_MAX, -INT32_MAX, INT32_MAX, 10};
+    const int32_t zero[] = {0, 0, 0}, third[] = {0, 0, 2}, second[] = {0, 2, 0}, one[] = {1, 1, 1};
+    uint64_t reply[CELLANG_WRITTEN_LENGTH];
+    uint8_t room[MOST_ROOM];
+    expect_written("a text", pairs, square, 2, earlier, 8, later, 8, 40, 33, CELLANG_DONE, 0, text);
+    expect_written("a text, and the rest of the room", pairs, square, 2, earlier, 8, later, 8, 40, 35, CELLANG_DONE, 0, text);
+    expect_written("a time alone", pairs, square, 2, later, 8, later, 8, 40, 35, CELLANG_DONE, 0, "40\n");
+    expect_written("the last time", pairs, square, 2, later, 8, later, 8, CELLANG_GREATEST_TIME, 11, CELLANG_DONE, 0, "2147483647\n");
+    expect_written("a room too short", pairs, square, 2, earlier, 8, later, 8, 40, 32, CELLANG_ROOM_TOO_SHORT, 0, "");
+    expect_written("no room", pairs, square, 2, earlier, 8, later, 8, 40, 0, CELLANG_ROOM_TOO_SHORT, 0, "");
+    expect_written("a source that is refused", S "x := y", no_shape, 0, NULL, 0, NULL, 0, -1, 9, CELLANG_NAME_UNKNOWN, 26, "");
+    expect_written("sizes", bits, no_shape, 1, zero, 3, third, 3, -5, 9, CELLANG_BAD_SHAPE, 0, "");
+    expect_written("length of the later grid", bits, three, 1, third, 3, zero, 2, 5, 9, CELLANG_LENT_LENGTH, 0, "");
+    expect_written("length of the earlier grid", bits, three, 1, zero, 2, third, 3, 5, 9, CELLANG_LENT_LENGTH, 0, "");
+    expect_written("a negative time", bits, three, 1, third, 3, third, 3, -1, 9, CELLANG_BAD_TIMES, 0, "");
+    expect_written("a time too far", bits, three, 1, zero, 3, one, 3, 2147483648, 9, CELLANG_BAD_TIMES, 0, "");
+    expect_written("an index too far", bits, two, 1, zero, 2, one, 2, 5, 9, CELLANG_INDEX_TOO_FAR, 30, "");
+    expect_written("the earlier grid's entry", bits, three, 1, third, 3, second, 3, 5, 9, CELLANG_ENTRY_OUT_OF_RANGE, 2, "");
+    expect_written("the later grid's entry", bits, three, 1, one, 3, second, 3, 5, 9, CELLANG_ENTRY_OUT_OF_RANGE, 1, "");
+    expect_written("all is in order", bits, three, 1, zero, 3, one, 3, 5, 9, CELLANG_ROOM_TOO_SHORT, 0, "");
+    expect_read_back(pairs, square, 2, earlier, later, 8, 4, 40);
+    expect_read_back(pairs, square, 2, later, earlier, 8, 4, 0);
+    expect_read_back(pairs, square, 2, later, later, 8, 4, 7);
+    expect_read_back(wide, cube, 3, earlier, least, 8, 8, CELLANG_GREATEST_TIME);
+    expect_read_back(wide, cube, 3, least, later, 8, 8, 1);
+    for (size_t lent = 0; lent <= CELLANG_WRITTEN_LENGTH; lent++) {
+        for (size_t i = 0; i < CELLANG_WRITTEN_LENGTH; i++) {
+            reply[i] = UNTOUCHED;
+        }
+        expect(cellang_write_list((const uint8_t *)pairs, strlen(pairs), LIST, words, CELLANG_WORDS, names, CELLANG_NAME_WORDS, square,
+                                  2, earlier, 8, later, 8, 40, room, sizeof room, reply, lent) == CELLANG_DONE, "a reply of any length");
+        for (size_t i = 0; i < CELLANG_WRITTEN_LENGTH; i++) {
+            uint64_t told = i == CELLANG_WRITTEN_TEXT ? strlen(text) : 0;
+            expect(reply[i] == (i < lent ? told : UNTOUCHED), "an entry of a writing");
+        }
+    }
+}
+
+/* ---- comparing */
 
 #define MOST_LISTED 3
 
@@ -288,6 +526,10 @@ int main(void) {
     another_list();
     lengths();
     name_list();
+    value_lists();
+    blocks();
+    report_lengths();
+    writings();
     comparisons();
     printf("%d passed, %d failed\n", passed, failed);
     return failed != 0;

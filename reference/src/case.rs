@@ -1,12 +1,13 @@
 //! Cases, their replies, and their binary form.
 
-use crate::interpret::{run_full, Lent, Report, WORDS};
+use crate::admission::{Lent, Report, WORDS};
+use crate::interpret::run_full;
 use crate::names::MAX_NAMES;
 use crate::open::run_quiet;
 use crate::parse::{check, Reply};
 use crate::spelling::{spelling, BUILT_IN};
 
-/// One run: the source, what is lent, and the times.
+/// One run: the source, what is lent, the times, and the value list.
 #[derive(Clone, Debug)]
 pub struct RunCase {
     pub source: Vec<u8>,
@@ -18,6 +19,7 @@ pub struct RunCase {
     pub marks: usize,
     pub start: i64,
     pub steps: i64,
+    pub values: Vec<u8>,
 }
 
 /// What a run gave: the report, the grid, and the words for scratch and marks.
@@ -31,7 +33,7 @@ pub struct Outcome {
 
 impl RunCase {
     /// A case in which all that is lent has the right length for `shape` and
-    /// `grid`.
+    /// `grid`, with an empty list.
     pub fn new(source: Vec<u8>, shape: &[u32], grid: Vec<i32>, start: i64, steps: i64) -> RunCase {
         RunCase {
             source,
@@ -43,7 +45,14 @@ impl RunCase {
             grid,
             start,
             steps,
+            values: Vec::new(),
         }
+    }
+
+    /// The same case with a list.
+    pub fn with_list(self, values: &[u8]) -> RunCase {
+        let values = values.to_vec();
+        RunCase { values, ..self }
     }
 }
 
@@ -94,6 +103,7 @@ pub fn run_case(case: &RunCase, quiet: bool) -> Outcome {
         words: case.words,
         names: case.names,
         shape: &case.shape,
+        values: &case.values,
         start: case.start,
         steps: case.steps,
     };
@@ -124,9 +134,10 @@ pub fn run_lines(case: &RunCase) -> String {
 fn run_line(outcome: &Outcome) -> String {
     let report = &outcome.report;
     let mut line = format!(
-        "{} {} {} {} {} {} {} :",
+        "{} {} {} {} {} {} {} {} :",
         report.number,
         report.place,
+        report.line,
         report.cell,
         report.steps,
         report.count,
@@ -174,7 +185,7 @@ pub fn check_answer(source: &[u8]) -> String {
     format!("{line}{table} {names}\n")
 }
 
-fn put_u32(out: &mut Vec<u8>, value: u32) {
+pub fn put_u32(out: &mut Vec<u8>, value: u32) {
     out.extend_from_slice(&value.to_le_bytes());
 }
 
@@ -184,21 +195,33 @@ pub fn put_check(out: &mut Vec<u8>, source: &[u8]) {
     out.extend_from_slice(source);
 }
 
-/// The binary form of a run.
-pub fn put_run(out: &mut Vec<u8>, case: &RunCase) {
-    put_check(out, &case.source);
-    put_u32(out, case.words as u32);
-    put_u32(out, case.names as u32);
-    put_u32(out, case.shape.len() as u32);
-    for &size in &case.shape {
+/// The binary form of a source and what is lent beside it, and of the sizes.
+pub fn put_read(out: &mut Vec<u8>, source: &[u8], words: usize, names: usize, shape: &[u32]) {
+    put_check(out, source);
+    put_u32(out, words as u32);
+    put_u32(out, names as u32);
+    put_u32(out, shape.len() as u32);
+    for &size in shape {
         put_u32(out, size);
     }
-    put_u32(out, case.grid.len() as u32);
-    for &value in &case.grid {
+}
+
+/// The binary form of a grid.
+pub fn put_grid(out: &mut Vec<u8>, grid: &[i32]) {
+    put_u32(out, grid.len() as u32);
+    for &value in grid {
         out.extend_from_slice(&value.to_le_bytes());
     }
+}
+
+/// The binary form of a run, which begins with 0 (of a writing, with 1).
+pub fn put_run(out: &mut Vec<u8>, case: &RunCase) {
+    put_u32(out, 0);
+    put_read(out, &case.source, case.words, case.names, &case.shape);
+    put_grid(out, &case.grid);
     put_u32(out, case.scratch as u32);
     put_u32(out, case.marks as u32);
     out.extend_from_slice(&case.start.to_le_bytes());
     out.extend_from_slice(&case.steps.to_le_bytes());
+    put_check(out, &case.values);
 }

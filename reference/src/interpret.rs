@@ -1,24 +1,10 @@
 //! Running a program on a grid by the full definition: every cell of every
 //! step is evaluated.
 
-use crate::names::MAX_NAMES;
-use crate::parse::{check, MAX_FIELDS};
-use crate::spelling::BUILT_IN;
+use crate::admission::{admit, Lent, Report};
+use crate::lists::Waiting;
+use crate::parse::MAX_FIELDS;
 use crate::tree::{Binary, Expression, Offset, Program, Statement, Target, Unary};
-
-pub const WORDS: usize = 16_384;
-pub const MAX_SIZE: u32 = 4_096;
-pub const MAX_CELLS: u64 = 1_048_576;
-pub const GREATEST: i64 = 2_147_483_647;
-
-#[derive(Clone, Copy, PartialEq, Eq, Debug, Default)]
-pub struct Report {
-    pub number: u32,
-    pub place: u32,
-    pub cell: u32,
-    pub steps: u32,
-    pub count: u64,
-}
 
 /// A fault's number and place, in one word.
 #[derive(Clone, Copy, PartialEq, Eq, Debug)]
@@ -229,78 +215,23 @@ pub fn step(
     Ok(())
 }
 
-/// What is lent to a run beside the memory it writes.
-#[derive(Clone, Copy)]
-pub struct Lent<'a> {
-    pub source: &'a [u8],
-    pub list: &'a [u8],
-    pub words: usize,
-    pub names: usize,
-    pub shape: &'a [u32],
-    pub start: i64,
-    pub steps: i64,
-}
-
-fn refused(number: u32, place: u32) -> Report {
-    Report {
-        number,
-        place,
-        ..Report::default()
-    }
-}
-
-/// The program of a run that is admitted, or the refusal 1 to 24.
-pub fn admit(lent: &Lent, grid: &[i32], scratch: &[i32], marks: &[u8]) -> Result<Program, Report> {
-    if lent.list != BUILT_IN || lent.words != WORDS || lent.names != MAX_NAMES {
-        return Err(refused(1, 0));
-    }
-    let checked = check(lent.source);
-    let Some(program) = checked.program else {
-        return Err(refused(checked.reply.number, checked.reply.place));
-    };
-    let sizes_hold = lent
-        .shape
-        .iter()
-        .all(|&size| (1..=MAX_SIZE).contains(&size));
-    if lent.shape.len() != program.dimensions || !sizes_hold {
-        return Err(refused(20, 0));
-    }
-    let cells: u64 = lent.shape.iter().map(|&size| u64::from(size)).product();
-    if cells > MAX_CELLS {
-        return Err(refused(20, 0));
-    }
-    let cells = cells as usize;
-    let entries = cells * program.fields.len();
-    if grid.len() != entries || scratch.len() != entries || marks.len() != cells {
-        return Err(refused(21, 0));
-    }
-    let last = i128::from(lent.start) + i128::from(lent.steps);
-    if lent.start < 0 || lent.steps < 0 || last > i128::from(GREATEST) {
-        return Err(refused(22, 0));
-    }
-    for written in &program.written {
-        let size = i64::from(lent.shape[written.dimension]);
-        if i64::from(written.low).abs() > size || i64::from(written.high).abs() > size {
-            return Err(refused(23, written.place));
-        }
-    }
-    for (entry, value) in grid.iter().enumerate() {
-        let field = program.fields[entry % program.fields.len()];
-        if *value < field.low || *value > field.high {
-            return Err(refused(24, entry as u32));
-        }
-    }
-    Ok(program)
-}
-
-/// The full run.
+/// The full run. A block is set before its time's step, or after the last.
 pub fn run_full(lent: &Lent, grid: &mut [i32], scratch: &mut [i32], marks: &mut [u8]) -> Report {
-    let program = match admit(lent, grid, scratch, marks) {
-        Ok(program) => program,
+    let (program, blocks) = match admit(lent, grid, scratch, marks) {
+        Ok(admitted) => admitted,
         Err(report) => return report,
     };
+    let fields = program.fields.len();
+    let mut waiting = Waiting::new(blocks);
     let mut report = Report::default();
-    for time in lent.start..lent.start + lent.steps {
+    let last = lent.start + lent.steps;
+    for time in lent.start..=last {
+        if let Some(block) = waiting.due(time) {
+            block.set(fields, grid);
+        }
+        if time == last {
+            break;
+        }
         match step(&program, lent.shape, time as i32, grid, scratch) {
             Ok(()) => {
                 grid.copy_from_slice(scratch);

@@ -1,7 +1,7 @@
 //! Cases as lines of JSON, and reading one back.
 
+use crate::admission::WORDS;
 use crate::case::{run_case, RunCase};
-use crate::interpret::WORDS;
 use crate::names::MAX_NAMES;
 use crate::parse::check;
 use std::fmt::Display;
@@ -52,10 +52,13 @@ pub fn run_line(case: &RunCase) -> String {
             line.push_str(&format!("\"{key}\":{lent},"));
         }
     }
+    if !case.values.is_empty() {
+        line.push_str(&format!("\"values\":{},", row(&case.values)));
+    }
     let report = full.report;
     line.push_str(&format!(
-        "\"full\":{{\"number\":{},\"place\":{},\"cell\":{},\"steps\":{},\"count\":{},\"grid\":{}}},\"quiet_count\":{}}}\n",
-        report.number, report.place, report.cell, report.steps, report.count,
+        "\"full\":{{\"number\":{},\"place\":{},\"line\":{},\"cell\":{},\"steps\":{},\"count\":{},\"grid\":{}}},\"quiet_count\":{}}}\n",
+        report.number, report.place, report.line, report.cell, report.steps, report.count,
         row(&full.grid), quiet.report.count
     ));
     line
@@ -216,6 +219,9 @@ pub fn run_case_of(value: &Value) -> Option<RunCase> {
         if let Some(given) = value.get(key) {
             *length = given.number()?;
         }
+    }
+    if let Some(given) = value.get("values") {
+        case.values = given.numbers()?;
     }
     Some(case)
 }

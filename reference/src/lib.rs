@@ -1,6 +1,8 @@
 //! A second, independent reading of the rules: it checks sources, runs them
 //! full or quiet, and makes test cases with their replies.
 
+pub mod admission;
+pub mod blocks;
 pub mod case;
 pub mod compare;
 pub mod damage;
@@ -9,6 +11,10 @@ pub mod interpret;
 pub mod json;
 pub mod lex;
 pub mod limits;
+pub mod list_limits;
+pub mod list_text;
+pub mod listed;
+pub mod lists;
 pub mod names;
 pub mod open;
 pub mod pairs;
@@ -22,9 +28,15 @@ pub mod spelling;
 pub mod text;
 pub mod tree;
 pub mod vectors;
+pub mod write_case;
+pub mod writing;
+pub mod writings;
 pub mod written;
+pub mod written_lists;
 
-pub use interpret::{run_full, Lent, Report};
+pub use admission::{Lent, Report};
+pub use interpret::run_full;
 pub use open::run_quiet;
 pub use parse::{check, Checked, Reply};
 pub use spelling::{check_lent, spelling, Spelling, BUILT_IN};
+pub use writing::write_list;

@@ -1,7 +1,8 @@
 //! The program: `reference SUBCOMMAND ...`; see `USAGE`.
 
-use reference::case::{check_answer, check_line, put_check, put_run, run_case, run_lines};
+use reference::case::{check_answer, check_line, put_check, put_run, run_case, run_lines, RunCase};
 use reference::places::places;
+use reference::write_case::{put_writing, write_case, writing_line};
 use reference::{check, json, vectors, Report};
 use std::io::{self, BufWriter, Read, Write};
 use std::path::Path;
@@ -12,8 +13,8 @@ usage: reference check                        one source on standard input
        reference names                        one source on standard input
        reference answer                       sources on standard input, as in the vectors of checks
        reference run FILE                     one run, as JSON
-       reference cases checks|runs SEED COUNT [--small]
-       reference stream checks|runs SEED COUNT [--small] [--replies]
+       reference cases checks|runs|lists SEED COUNT [--small]
+       reference stream checks|runs|lists|writings SEED COUNT [--small] [--replies]
        reference vectors DIR
        reference verify ROOT
        reference count SEED COUNT
@@ -34,14 +35,18 @@ fn main() -> ExitCode {
         ["names"] => names_input(),
         ["answer"] => answer_input(),
         ["run", file] => run_file(file),
-        ["cases", what @ ("checks" | "runs"), seed, count] => match numbers(seed, count) {
-            Some((seed, count)) => cases(*what == "runs", seed, count, small),
-            None => return usage(),
-        },
-        ["stream", what @ ("checks" | "runs"), seed, count] => match numbers(seed, count) {
-            Some((seed, count)) => stream(*what == "runs", seed, count, small, replies),
-            None => return usage(),
-        },
+        ["cases", what @ ("checks" | "runs" | "lists"), seed, count] => {
+            match numbers(seed, count) {
+                Some((seed, count)) => cases(what, seed, count, small),
+                None => return usage(),
+            }
+        }
+        ["stream", what @ ("checks" | "runs" | "lists" | "writings"), seed, count] => {
+            match numbers(seed, count) {
+                Some((seed, count)) => stream(what, seed, count, small, replies),
+                None => return usage(),
+            }
+        }
         ["vectors", folder] => write_vectors(Path::new(folder)),
         ["verify", root] => verify(Path::new(root)),
         ["count", seed, count] => match numbers(seed, count) {
@@ -111,8 +116,8 @@ fn names_input() -> io::Result<ExitCode> {
 
 fn print_report(title: &str, report: &Report) {
     println!(
-        "{title} number {} place {} cell {} steps {} count {}",
-        report.number, report.place, report.cell, report.steps, report.count
+        "{title} number {} place {} line {} cell {} steps {} count {}",
+        report.number, report.place, report.line, report.cell, report.steps, report.count
     );
 }
 
@@ -131,15 +136,24 @@ fn run_file(file: &str) -> io::Result<ExitCode> {
     Ok(ExitCode::SUCCESS)
 }
 
-fn cases(of_runs: bool, seed: u64, count: usize, small: bool) -> io::Result<ExitCode> {
-    let mut out = BufWriter::new(io::stdout().lock());
-    if of_runs {
-        for case in vectors::runs(seed, count, small) {
-            out.write_all(json::run_line(&case).as_bytes())?;
-        }
+/// Generated runs; those of `lists` all have a list.
+fn runs_of(what: &str, seed: u64, count: usize, small: bool) -> Box<dyn Iterator<Item = RunCase>> {
+    if what == "lists" {
+        Box::new(vectors::lists(seed, count, small))
     } else {
+        Box::new(vectors::runs(seed, count, small))
+    }
+}
+
+fn cases(what: &str, seed: u64, count: usize, small: bool) -> io::Result<ExitCode> {
+    let mut out = BufWriter::new(io::stdout().lock());
+    if what == "checks" {
         for source in vectors::checks(seed, count, small) {
             out.write_all(json::check_line(&source).as_bytes())?;
+        }
+    } else {
+        for case in runs_of(what, seed, count, small) {
+            out.write_all(json::run_line(&case).as_bytes())?;
         }
     }
     out.flush()?;
@@ -147,34 +161,34 @@ fn cases(of_runs: bool, seed: u64, count: usize, small: bool) -> io::Result<Exit
 }
 
 /// Generated cases in their binary form, or the lines that answer them.
-fn stream(
-    of_runs: bool,
-    seed: u64,
-    count: usize,
-    small: bool,
-    replies: bool,
-) -> io::Result<ExitCode> {
+fn stream(what: &str, seed: u64, count: usize, small: bool, replies: bool) -> io::Result<ExitCode> {
     let mut out = BufWriter::new(io::stdout().lock());
-    let mut bytes = Vec::new();
-    if of_runs {
-        for case in vectors::runs(seed, count, small) {
-            bytes.clear();
-            if replies {
-                bytes.extend(run_lines(&case).bytes());
-            } else {
-                put_run(&mut bytes, &case);
-            }
-            out.write_all(&bytes)?;
+    let mut put = |binary: &dyn Fn(&mut Vec<u8>), line: &dyn Fn() -> String| {
+        let mut bytes = Vec::new();
+        if replies {
+            bytes.extend(line().bytes());
+        } else {
+            binary(&mut bytes);
         }
-    } else {
-        for source in vectors::checks(seed, count, small) {
-            bytes.clear();
-            if replies {
-                bytes.extend(check_answer(&source).bytes());
-            } else {
-                put_check(&mut bytes, &source);
+        out.write_all(&bytes)
+    };
+    match what {
+        "checks" => {
+            for source in vectors::checks(seed, count, small) {
+                put(&|bytes| put_check(bytes, &source), &|| {
+                    check_answer(&source)
+                })?;
             }
-            out.write_all(&bytes)?;
+        }
+        "writings" => {
+            for case in vectors::writings(seed, count) {
+                put(&|bytes| put_writing(bytes, &case), &|| writing_line(&case))?;
+            }
+        }
+        _ => {
+            for case in runs_of(what, seed, count, small) {
+                put(&|bytes| put_run(bytes, &case), &|| run_lines(&case))?;
+            }
         }
     }
     out.flush()?;
@@ -194,7 +208,10 @@ fn write_vectors(folder: &Path) -> io::Result<ExitCode> {
         std::fs::write(folder.join(name), content)?;
         println!("{name}: {} bytes", content.len());
     }
-    println!("{} checks, {} runs", files.checks, files.runs);
+    println!(
+        "{} checks, {} runs, {} writings",
+        files.checks, files.runs, files.writings
+    );
     Ok(ExitCode::SUCCESS)
 }
 
@@ -226,62 +243,124 @@ fn verify(root: &Path) -> io::Result<ExitCode> {
     Ok(ExitCode::SUCCESS)
 }
 
+/// How often something was seen in generated runs.
+#[derive(Default)]
+struct Seen {
+    quieter: usize,
+    shorter: usize,
+    many: usize,
+    /// Runs with a list that leave another grid without it, that evaluate
+    /// other cells without it, and that fault and leave another grid.
+    changed: usize,
+    opened: usize,
+    left: usize,
+}
+
+/// Runs a case full and quiet, and gives the number.
+fn see_run(case: &RunCase, seen: &mut Seen) -> u32 {
+    let outcome = run_case(case, false);
+    let (full, quiet) = (outcome.report, run_case(case, true).report);
+    if quiet.count < full.count {
+        seen.quieter += 1;
+    }
+    if full.number != 0 && !(30..40).contains(&full.number) {
+        return full.number;
+    }
+    if !case.values.is_empty() {
+        let bare = case.clone().with_list(&[]);
+        let without = run_case(&bare, false).grid != outcome.grid;
+        seen.changed += usize::from(without);
+        seen.opened += usize::from(run_case(&bare, true).report.count != quiet.count);
+        seen.left += usize::from(without && full.number != 0);
+    }
+    let Some(program) = check(&case.source).program else {
+        return full.number;
+    };
+    let widths = program.bounds().into_iter();
+    let vectors: i64 = widths
+        .map(|bound| i64::from(bound.1) - i64::from(bound.0) + 1)
+        .product();
+    match places(&program) {
+        Some(list) => seen.shorter += usize::from((list.len() as i64) < vectors),
+        None => seen.many += 1,
+    }
+    full.number
+}
+
 fn count_replies(seed: u64, count: usize) -> io::Result<ExitCode> {
-    let mut checks = [0usize; 64];
-    let mut runs = [0usize; 64];
+    let [mut checks, mut runs, mut lists, mut writings] = [[0usize; 64]; 4];
     for source in vectors::checks(seed, count, false) {
         checks[check(&source).reply.number as usize] += 1;
     }
-    let mut quieter = 0;
-    let mut shorter = 0;
-    let mut many = 0;
+    let mut seen = Seen::default();
     for case in vectors::runs(seed, count / 10, false) {
-        let full = run_case(&case, false).report;
-        let quiet = run_case(&case, true).report;
-        runs[full.number as usize] += 1;
-        if quiet.count < full.count {
-            quieter += 1;
-        }
-        if full.number == 0 || full.number >= 30 {
-            let Some(program) = check(&case.source).program else {
-                continue;
-            };
-            let widths = program.bounds().into_iter();
-            let vectors: i64 = widths
-                .map(|bound| i64::from(bound.1) - i64::from(bound.0) + 1)
-                .product();
-            match places(&program) {
-                Some(list) => shorter += usize::from((list.len() as i64) < vectors),
-                None => many += 1,
-            }
-        }
+        runs[see_run(&case, &mut seen) as usize] += 1;
     }
-    println!("number checks runs");
+    for case in vectors::lists(seed, count / 10, false) {
+        lists[see_run(&case, &mut seen) as usize] += 1;
+    }
+    for case in vectors::writings(seed, count / 10) {
+        writings[write_case(&case).0.number as usize] += 1;
+    }
+    println!("number checks runs lists writings");
     for number in 0..64 {
-        if checks[number] + runs[number] > 0 {
-            println!("{number} {} {}", checks[number], runs[number]);
+        let each = [&checks, &runs, &lists, &writings].map(|row| row[number]);
+        if each != [0; 4] {
+            println!("{number} {} {} {} {}", each[0], each[1], each[2], each[3]);
         }
     }
-    println!("runs whose quiet count is less than the full one: {quieter}");
-    println!("runs that begin, with fewer places than the box: {shorter}");
-    println!("runs that begin, with more than 256 places: {many}");
-    let wanted = [0]
-        .into_iter()
-        .chain(2..=9)
-        .chain(40..=45)
-        .chain(12..=15)
-        .chain(20..=24)
-        .chain(30..=33);
+    println!(
+        "runs whose quiet count is less than the full one: {}",
+        seen.quieter
+    );
+    println!(
+        "runs that begin, with fewer places than the box: {}",
+        seen.shorter
+    );
+    println!("runs that begin, with more than 256 places: {}", seen.many);
+    println!("runs whose list changes what is left: {}", seen.changed);
+    println!("runs whose list changes the quiet count: {}", seen.opened);
+    println!(
+        "runs that fault, whose list changes what is left: {}",
+        seen.left
+    );
+    let rows: [(&str, &[usize; 64], Vec<usize>); 4] = [
+        (
+            "checks",
+            &checks,
+            [0].into_iter()
+                .chain(2..=9)
+                .chain(12..=15)
+                .chain(40..=45)
+                .collect(),
+        ),
+        (
+            "runs",
+            &runs,
+            [0].into_iter()
+                .chain(20..=24)
+                .chain(30..=33)
+                .chain(50..=56)
+                .collect(),
+        ),
+        (
+            "lists",
+            &lists,
+            [0].into_iter().chain(30..=33).chain(50..=56).collect(),
+        ),
+        (
+            "writings",
+            &writings,
+            [0, 1].into_iter().chain(20..=24).chain([57]).collect(),
+        ),
+    ];
     let mut missing = false;
-    for number in wanted {
-        let found = if (20..40).contains(&number) {
-            runs[number]
-        } else {
-            checks[number]
-        };
-        if found == 0 {
-            println!("never: {number}");
-            missing = true;
+    for (what, found, wanted) in rows {
+        for number in wanted {
+            if found[number] == 0 {
+                println!("never among {what}: {number}");
+                missing = true;
+            }
         }
     }
     Ok(if missing {

@@ -1,8 +1,10 @@
 //! The quiet run, as the definition of open cells has it: the full definition
-//! is run, the grids before and after each step are compared, and the open
-//! cells are counted.
+//! is run, the grids before and after each step and each block are compared,
+//! and the open cells are counted.
 
-use crate::interpret::{admit, step, Lent, Report};
+use crate::admission::{admit, Lent, Report};
+use crate::interpret::step;
+use crate::lists::Waiting;
 use crate::places::{reach, Reach};
 
 /// For each cell, whether some cell in its reach is marked as changed.
@@ -64,30 +66,48 @@ fn closed_cells_keep(open: &[bool], fields: usize, old: &[i32], new: &[i32]) -> 
         .all(|(&is_open, (old, new))| is_open || old == new)
 }
 
-/// The quiet run.
+/// Marks the cells that differ in two grids.
+fn mark_changed(changed: &mut [bool], fields: usize, old: &[i32], new: &[i32]) {
+    let cells = old.chunks(fields).zip(new.chunks(fields));
+    for (mark, (old, new)) in changed.iter_mut().zip(cells) {
+        *mark |= old != new;
+    }
+}
+
+/// The quiet run. In its first step all cells are open.
 pub fn run_quiet(lent: &Lent, grid: &mut [i32], scratch: &mut [i32], marks: &mut [u8]) -> Report {
-    let program = match admit(lent, grid, scratch, marks) {
-        Ok(program) => program,
+    let (program, blocks) = match admit(lent, grid, scratch, marks) {
+        Ok(admitted) => admitted,
         Err(report) => return report,
     };
     let reach = reach(&program);
     let fields = program.fields.len();
-    let mut open = vec![true; marks.len()];
+    let mut waiting = Waiting::new(blocks);
+    // The cells that the last step, or a block since then, changed.
+    let mut changed = vec![true; marks.len()];
     let mut report = Report::default();
-    for time in lent.start..lent.start + lent.steps {
+    let last = lent.start + lent.steps;
+    for time in lent.start..=last {
+        if let Some(block) = waiting.due(time) {
+            let before = grid.to_vec();
+            block.set(fields, grid);
+            mark_changed(&mut changed, fields, &before, grid);
+        }
+        if time == last {
+            break;
+        }
+        let open = if time == lent.start || program.uses_time {
+            vec![true; marks.len()]
+        } else {
+            open_cells(lent.shape, &reach, &changed)
+        };
         match step(&program, lent.shape, time as i32, grid, scratch) {
             Ok(()) => {
                 report.count += open.iter().filter(|&&is_open| is_open).count() as u64;
                 report.steps += 1;
                 debug_assert!(closed_cells_keep(&open, fields, grid, scratch));
-                if !program.uses_time {
-                    let changed: Vec<bool> = grid
-                        .chunks(fields)
-                        .zip(scratch.chunks(fields))
-                        .map(|(old, new)| old != new)
-                        .collect();
-                    open = open_cells(lent.shape, &reach, &changed);
-                }
+                changed.fill(false);
+                mark_changed(&mut changed, fields, grid, scratch);
                 grid.copy_from_slice(scratch);
             }
             Err((cell, fault)) => {

@@ -1,9 +1,9 @@
 //! Runs: programs that do something, on grids of few cells.
 
+use crate::admission::GREATEST;
 use crate::case::{cells_of, RunCase};
 use crate::damage::damage_tokens;
 use crate::generate::{program, Wish};
-use crate::interpret::GREATEST;
 use crate::parse::check;
 use crate::random::Random;
 use crate::text::{any_style, write};
@@ -93,7 +93,7 @@ fn sizes(random: &mut Random, program: &Program, most: usize) -> Vec<u32> {
     shape
 }
 
-fn entries(random: &mut Random, program: &Program, cells: usize) -> Vec<i32> {
+pub fn entries(random: &mut Random, program: &Program, cells: usize) -> Vec<i32> {
     let style = random.below(4);
     let mut base = Vec::new();
     for field in &program.fields {

@@ -8,7 +8,7 @@
 //! | "else from the source" | `spelling`, at its end |
 //! | "For 3 it is the one byte at the place." | `spelling` |
 //! | "At the end of the source, and for all other replies, it is empty." | `spelling` |
-//! | "Any other built-in list than `cell time random` is refused 1." | `check_lent`, `interpret::admit` |
+//! | "Any other built-in list than `cell time random` is refused 1." | `check_lent`, `admission::program_of` |
 
 use crate::lex::lex;
 use crate::parse::{check, Reply};

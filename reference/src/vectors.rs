@@ -4,12 +4,16 @@ use crate::case::{check_answer, put_check, put_run, run_lines, RunCase};
 use crate::damage::{damage_bytes, damage_tokens, VOCABULARY};
 use crate::generate::{program, Wish};
 use crate::limits;
+use crate::listed;
 use crate::random::Random;
 use crate::runs;
 use crate::soup::{soup, HALVES};
 use crate::spelled;
 use crate::text::{any_style, write, Style};
+use crate::write_case::{put_writing, writing_line, WriteCase};
+use crate::writings;
 use crate::written;
+use crate::written_lists;
 
 /// A generated source. In `small` ones there are at most about 120 tokens.
 pub fn any_check(random: &mut Random, small: bool) -> Vec<u8> {
@@ -70,10 +74,34 @@ pub fn checks(seed: u64, count: usize, small: bool) -> impl Iterator<Item = Vec<
     (0..count).map(move |_| any_check(&mut random, small))
 }
 
-/// Generated runs, in order.
-pub fn runs(seed: u64, count: usize, small: bool) -> impl Iterator<Item = RunCase> {
+/// Generated runs without lists, in order.
+fn unlisted_runs(seed: u64, count: usize, small: bool) -> impl Iterator<Item = RunCase> {
     let mut random = Random::new(seed.wrapping_add(1 << 40));
     (0..count).map(move |_| runs::any(&mut random, small, 120))
+}
+
+/// Generated runs, in order; half of them have a list, most often one that
+/// passes.
+pub fn runs(seed: u64, count: usize, small: bool) -> impl Iterator<Item = RunCase> {
+    let mut random = Random::new(seed.wrapping_add(1 << 42));
+    unlisted_runs(seed, count, small).map(move |mut case| {
+        if random.chance(50) {
+            listed::give_list(&mut random, &mut case, 35);
+        }
+        case
+    })
+}
+
+/// Generated runs with lists, in order; most lists are at a limit or damaged.
+pub fn lists(seed: u64, count: usize, small: bool) -> impl Iterator<Item = RunCase> {
+    let mut random = Random::new(seed.wrapping_add(1 << 43));
+    (0..count).map(move |_| listed::any(&mut random, small))
+}
+
+/// Generated writings, in order.
+pub fn writings(seed: u64, count: usize) -> impl Iterator<Item = WriteCase> {
+    let mut random = Random::new(seed.wrapping_add(1 << 44));
+    (0..count).map(move |_| writings::any(&mut random))
 }
 
 /// Sources from the papers' own examples.
@@ -153,8 +181,8 @@ pub fn stored_checks() -> Vec<Vec<u8>> {
 /// The stored runs.
 pub fn stored_runs() -> Vec<RunCase> {
     let mut row = written::runs();
-    row.extend(runs(4, 2_100, false));
-    row.extend(runs(5, 300, true));
+    row.extend(unlisted_runs(4, 2_100, false));
+    row.extend(unlisted_runs(5, 300, true));
     let mut random = Random::new(6);
     let mut large = 0;
     while large < 16 {
@@ -166,6 +194,17 @@ pub fn stored_runs() -> Vec<RunCase> {
     }
     // Sources that are refused.
     row.extend(checks(7, 60, true).map(|source| RunCase::new(source, &[2], vec![0, 1], 0, 2)));
+    // Runs with lists.
+    row.extend(written_lists::runs());
+    row.extend(lists(8, 300, true));
+    row.extend(runs(9, 240, true).filter(|case| !case.values.is_empty()));
+    row
+}
+
+/// The stored writings.
+pub fn stored_writings() -> Vec<WriteCase> {
+    let mut row = written_lists::writings();
+    row.extend(writings(10, 130));
     row
 }
 
@@ -177,11 +216,13 @@ pub struct Files {
     pub run_out: Vec<u8>,
     pub checks: usize,
     pub runs: usize,
+    pub writings: usize,
 }
 
 pub fn files() -> Files {
     let checks = stored_checks();
     let runs = stored_runs();
+    let writings = stored_writings();
     let mut files = Files {
         check_in: Vec::new(),
         check_out: Vec::new(),
@@ -189,6 +230,7 @@ pub fn files() -> Files {
         run_out: Vec::new(),
         checks: checks.len(),
         runs: runs.len(),
+        writings: writings.len(),
     };
     for source in &checks {
         put_check(&mut files.check_in, source);
@@ -197,6 +239,10 @@ pub fn files() -> Files {
     for case in &runs {
         put_run(&mut files.run_in, case);
         files.run_out.extend(run_lines(case).bytes());
+    }
+    for case in &writings {
+        put_writing(&mut files.run_in, case);
+        files.run_out.extend(writing_line(case).bytes());
     }
     files
 }

@@ -247,6 +247,7 @@ fn another_list() {
                 words: 16_384,
                 names: 256,
                 shape: &[1],
+                values: &[],
                 start: 0,
                 steps: 1,
             };

@@ -1,6 +1,6 @@
 //! Checking and running.
 
-use crate::foreign::{self, RunCall};
+use crate::foreign::{self, ListRunCall, RunCall};
 use crate::replies::{check_answer, run_answer, Outcome, Refusal};
 use crate::rooms::Rooms;
 
@@ -16,9 +16,9 @@ pub enum Mode {
     /// Every step evaluates every cell.
     Full,
     /// Every step evaluates the open cells alone: in the first step all, later
-    /// those within whose reach a cell changed in the step before, and where
-    /// `time` stands in the source always all. The count is at most the full
-    /// one.
+    /// those within whose reach a cell changed in the step before or by a block
+    /// since, and where `time` stands in the source always all. The count is at
+    /// most the full one.
     Quiet,
 }
 
@@ -86,6 +86,7 @@ fn check_lent<'a>(
 ///
 /// The grid holds the state after the steps done; it is as it was if the run
 /// doesn't begin. This function allocates scratch and marks; see [`run_in`].
+/// [`Run`] makes a run with a value list.
 pub fn run<'a>(
     source: &'a [u8],
     shape: &[u32],
@@ -95,13 +96,7 @@ pub fn run<'a>(
     steps: i64,
     mode: Mode,
 ) -> Outcome<'a> {
-    let lent = Lent {
-        words: &mut rooms.words,
-        names: &mut rooms.names,
-        scratch: &mut vec![0; grid.len()],
-        marks: &mut vec![0; cells_of(shape)],
-    };
-    run_in(source, shape, grid, lent, start, steps, mode)
+    Run::new(source, shape, start, steps, mode).on(grid, rooms)
 }
 
 /// Runs a source as [`run`] does, in memory of the caller's. After a run that
@@ -116,58 +111,182 @@ pub fn run_in<'a>(
     steps: i64,
     mode: Mode,
 ) -> Outcome<'a> {
-    run_lent(source, BUILT_IN, shape, grid, lent, start, steps, mode)
+    Run::new(source, shape, start, steps, mode).on_in(grid, lent)
 }
 
-/// Runs a source beside which a list is lent.
-#[allow(clippy::too_many_arguments)]
-fn run_lent<'a>(
+/// A run of a source that can be given a value list.
+///
+/// A value list sets cells at chosen times. Each line is a time, which begins a
+/// block, or a cell with the values of its first fields; `[0, 3] = 5, , 1`
+/// leaves the second field as it is. A block is set before the step at its
+/// time, or after the last step where its time is start plus steps. The list is
+/// checked before the run begins.
+///
+/// ```
+/// use cellang::{Line, ListReason, ListRefusal, Mode, Rooms, Run, Stop};
+///
+/// let source = b"1 dimensions of 0..9 cell := cell + 1";
+/// let mut rooms = Rooms::new();
+/// let mut grid = [0, 0, 0];
+///
+/// // Two steps, at the times 5 and 6.
+/// let run = Run::new(source, &[3], 5, 2, Mode::Quiet);
+/// run.with_list(b"6\n[1] = 4\n7\n[2] = 9\n").on(&mut grid, &mut rooms)?;
+/// assert_eq!(grid, [2, 5, 9]);
+///
+/// // A list that is refused leaves the grid as it was.
+/// let stop = run.with_list(b"6\n[3] = 4\n").on(&mut grid, &mut rooms).unwrap_err();
+/// let refusal = ListRefusal { reason: ListReason::OutsideGrid, line: Line(2) };
+/// assert_eq!(stop, Stop::ListRefused(refusal));
+/// assert_eq!(stop.to_string(), "list refused 51 at line 2: cell outside the grid");
+/// assert_eq!(grid, [2, 5, 9]);
+/// # Ok::<(), Stop>(())
+/// ```
+#[derive(Clone, Copy, Debug)]
+pub struct Run<'a, 'l> {
     source: &'a [u8],
-    list: &'a [u8],
-    shape: &[u32],
-    grid: &mut [i32],
-    lent: Lent<'_>,
+    shape: &'l [u32],
     start: i64,
     steps: i64,
     mode: Mode,
-) -> Outcome<'a> {
-    let call: RunCall = match mode {
-        Mode::Full => foreign::cellang_run_full,
-        Mode::Quiet => foreign::cellang_run_quiet,
-    };
-    let mut report = [0; foreign::REPORT];
-    // SAFETY: each pointer and length is those of a slice, and the slices
-    // that are written overlap nothing.
-    unsafe {
-        call(
-            source.as_ptr(),
-            source.len(),
-            list.as_ptr(),
-            list.len(),
-            lent.words.as_mut_ptr(),
-            lent.words.len(),
-            lent.names.as_mut_ptr(),
-            lent.names.len(),
-            shape.as_ptr(),
-            shape.len(),
-            grid.as_mut_ptr(),
-            grid.len(),
-            lent.scratch.as_mut_ptr(),
-            lent.scratch.len(),
-            lent.marks.as_mut_ptr(),
-            lent.marks.len(),
+    values: Option<&'l [u8]>,
+}
+
+impl<'a, 'l> Run<'a, 'l> {
+    /// A run without a value list, as [`run`] makes it.
+    pub fn new(
+        source: &'a [u8],
+        shape: &'l [u32],
+        start: i64,
+        steps: i64,
+        mode: Mode,
+    ) -> Run<'a, 'l> {
+        Run {
+            source,
+            shape,
             start,
             steps,
-            report.as_mut_ptr(),
-            report.len(),
-        );
+            mode,
+            values: None,
+        }
     }
-    run_answer(source, list, report)
+
+    /// The same run with a value list. One without a line, of 0 bytes, is as
+    /// none.
+    pub fn with_list(self, values: &'l [u8]) -> Run<'a, 'l> {
+        Run {
+            values: Some(values),
+            ..self
+        }
+    }
+
+    /// Makes the run on a grid, with scratch and marks that are allocated.
+    pub fn on(&self, grid: &mut [i32], rooms: &mut Rooms) -> Outcome<'a> {
+        let lent = Lent {
+            words: &mut rooms.words,
+            names: &mut rooms.names,
+            scratch: &mut vec![0; grid.len()],
+            marks: &mut vec![0; cells_of(self.shape)],
+        };
+        self.on_in(grid, lent)
+    }
+
+    /// Makes the run on a grid, in memory of the caller's, as [`run_in`] does.
+    pub fn on_in(&self, grid: &mut [i32], lent: Lent<'_>) -> Outcome<'a> {
+        self.lent(BUILT_IN, grid, lent)
+    }
+
+    /// Makes the run where a built-in list is lent beside the source.
+    fn lent(&self, list: &'a [u8], grid: &mut [i32], lent: Lent<'_>) -> Outcome<'a> {
+        let report = match self.values {
+            None => self.call(list, grid, lent),
+            Some(values) => self.call_with_list(list, grid, lent, values),
+        };
+        run_answer(self.source, list, report)
+    }
+
+    fn call(&self, list: &[u8], grid: &mut [i32], lent: Lent<'_>) -> [u64; foreign::REPORT] {
+        let call: RunCall = match self.mode {
+            Mode::Full => foreign::cellang_run_full,
+            Mode::Quiet => foreign::cellang_run_quiet,
+        };
+        let mut report = [0; foreign::REPORT];
+        // SAFETY: each pointer and length is those of a slice, and the slices
+        // that are written overlap nothing.
+        unsafe {
+            call(
+                self.source.as_ptr(),
+                self.source.len(),
+                list.as_ptr(),
+                list.len(),
+                lent.words.as_mut_ptr(),
+                lent.words.len(),
+                lent.names.as_mut_ptr(),
+                lent.names.len(),
+                self.shape.as_ptr(),
+                self.shape.len(),
+                grid.as_mut_ptr(),
+                grid.len(),
+                lent.scratch.as_mut_ptr(),
+                lent.scratch.len(),
+                lent.marks.as_mut_ptr(),
+                lent.marks.len(),
+                self.start,
+                self.steps,
+                report.as_mut_ptr(),
+                report.len(),
+            );
+        }
+        report
+    }
+
+    fn call_with_list(
+        &self,
+        list: &[u8],
+        grid: &mut [i32],
+        lent: Lent<'_>,
+        values: &[u8],
+    ) -> [u64; foreign::REPORT] {
+        let call: ListRunCall = match self.mode {
+            Mode::Full => foreign::cellang_run_full_list,
+            Mode::Quiet => foreign::cellang_run_quiet_list,
+        };
+        let mut report = [0; foreign::REPORT];
+        // SAFETY: each pointer and length is those of a slice, and the slices
+        // that are written overlap nothing.
+        unsafe {
+            call(
+                self.source.as_ptr(),
+                self.source.len(),
+                list.as_ptr(),
+                list.len(),
+                lent.words.as_mut_ptr(),
+                lent.words.len(),
+                lent.names.as_mut_ptr(),
+                lent.names.len(),
+                self.shape.as_ptr(),
+                self.shape.len(),
+                grid.as_mut_ptr(),
+                grid.len(),
+                lent.scratch.as_mut_ptr(),
+                lent.scratch.len(),
+                lent.marks.as_mut_ptr(),
+                lent.marks.len(),
+                values.as_ptr(),
+                values.len(),
+                self.start,
+                self.steps,
+                report.as_mut_ptr(),
+                report.len(),
+            );
+        }
+        report
+    }
 }
 
 /// The number of cells of a shape; 0 where there are too many, which is
 /// refused before the marks are looked at.
-fn cells_of(shape: &[u32]) -> usize {
+pub(crate) fn cells_of(shape: &[u32]) -> usize {
     shape
         .iter()
         .try_fold(1usize, |cells, &size| cells.checked_mul(size as usize))
@@ -230,8 +349,11 @@ mod tests {
     #[test]
     fn another_list_is_refused_by_runs() {
         let source = b"1 dimensions of 0..1 cell := 1";
+        let modes = [Mode::Full, Mode::Quiet];
+        let runs = modes.map(|mode| Run::new(source, &[1], 0, 1, mode));
+        let listed = runs.map(|run| run.with_list(b"0\n"));
         for list in lists() {
-            for mode in [Mode::Full, Mode::Quiet] {
+            for run in runs.iter().chain(&listed) {
                 let (mut words, mut names) = ([BEFORE; WORDS], [BEFORE; NAME_WORDS]);
                 let (mut grid, mut scratch, mut marks) = ([0], [7], [7]);
                 let lent = Lent {
@@ -240,7 +362,7 @@ mod tests {
                     scratch: &mut scratch,
                     marks: &mut marks,
                 };
-                let outcome = run_lent(source, &list, &[1], &mut grid, lent, 0, 1, mode);
+                let outcome = run.lent(&list, &mut grid, lent);
                 if list == BUILT_IN {
                     assert_eq!(outcome.map(|done| done.steps), Ok(1));
                     continue;

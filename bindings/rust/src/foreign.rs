@@ -4,9 +4,13 @@
 /// stands, its first byte and its length.
 pub const REPLY: usize = 5;
 
-/// How many entries tell a run: number, place, cell, steps, count, and the
-/// spelling's three.
-pub const REPORT: usize = 8;
+/// How many entries tell a run: number, place, cell, steps, count, the
+/// spelling's three, and the line of a value list.
+pub const REPORT: usize = 9;
+
+/// How many entries tell a writing: number, place, the length of the text, and
+/// the spelling's three.
+pub const WRITTEN: usize = 6;
 
 /// The spelling stands in the source.
 pub const IN_SOURCE: u32 = 1;
@@ -35,6 +39,32 @@ pub type RunCall = unsafe extern "C" fn(
     scratch_length: usize,
     marks: *mut u8,
     marks_length: usize,
+    start: i64,
+    steps: i64,
+    report: *mut u64,
+    report_length: usize,
+) -> u32;
+
+/// A function that runs a source with a value list.
+pub type ListRunCall = unsafe extern "C" fn(
+    source: *const u8,
+    source_length: usize,
+    list: *const u8,
+    list_length: usize,
+    words: *mut u32,
+    words_length: usize,
+    names: *mut u32,
+    names_length: usize,
+    sizes: *const u32,
+    sizes_length: usize,
+    grid: *mut i32,
+    grid_length: usize,
+    scratch: *mut i32,
+    scratch_length: usize,
+    marks: *mut u8,
+    marks_length: usize,
+    values: *const u8,
+    values_length: usize,
     start: i64,
     steps: i64,
     report: *mut u64,
@@ -101,6 +131,78 @@ extern "C" {
         report_length: usize,
     ) -> u32;
 
+    pub fn cellang_run_full_list(
+        source: *const u8,
+        source_length: usize,
+        list: *const u8,
+        list_length: usize,
+        words: *mut u32,
+        words_length: usize,
+        names: *mut u32,
+        names_length: usize,
+        sizes: *const u32,
+        sizes_length: usize,
+        grid: *mut i32,
+        grid_length: usize,
+        scratch: *mut i32,
+        scratch_length: usize,
+        marks: *mut u8,
+        marks_length: usize,
+        values: *const u8,
+        values_length: usize,
+        start: i64,
+        steps: i64,
+        report: *mut u64,
+        report_length: usize,
+    ) -> u32;
+
+    pub fn cellang_run_quiet_list(
+        source: *const u8,
+        source_length: usize,
+        list: *const u8,
+        list_length: usize,
+        words: *mut u32,
+        words_length: usize,
+        names: *mut u32,
+        names_length: usize,
+        sizes: *const u32,
+        sizes_length: usize,
+        grid: *mut i32,
+        grid_length: usize,
+        scratch: *mut i32,
+        scratch_length: usize,
+        marks: *mut u8,
+        marks_length: usize,
+        values: *const u8,
+        values_length: usize,
+        start: i64,
+        steps: i64,
+        report: *mut u64,
+        report_length: usize,
+    ) -> u32;
+
+    pub fn cellang_write_list(
+        source: *const u8,
+        source_length: usize,
+        list: *const u8,
+        list_length: usize,
+        words: *mut u32,
+        words_length: usize,
+        names: *mut u32,
+        names_length: usize,
+        sizes: *const u32,
+        sizes_length: usize,
+        earlier: *const i32,
+        earlier_length: usize,
+        later: *const i32,
+        later_length: usize,
+        time: i64,
+        room: *mut u8,
+        room_length: usize,
+        reply: *mut u64,
+        reply_length: usize,
+    ) -> u32;
+
     pub fn cellang_compare(
         left: *const i32,
         left_length: usize,
@@ -116,15 +218,15 @@ extern "C" {
 
 #[cfg(test)]
 mod tests {
-    use super::{IN_LIST, IN_SOURCE, REPLY, REPORT};
+    use super::{COMPARISON, IN_LIST, IN_SOURCE, REPLY, REPORT, WRITTEN};
 
     #[test]
     fn the_header_says_the_same() {
         let header = include_str!("../../../include/cellang.h");
+        let words: Vec<&str> = header.split_whitespace().collect();
         let named = |name: &str| {
-            let mut words = header.split_whitespace().skip_while(|&word| word != name);
-            let number = words.nth(2)?.trim_end_matches(',');
-            number.parse::<usize>().ok()
+            let at = words.windows(2).position(|two| two == [name, "="])?;
+            words[at + 2].trim_end_matches(',').parse::<usize>().ok()
         };
         assert_eq!(named("CELLANG_REPLY_LENGTH"), Some(REPLY));
         assert_eq!(named("CELLANG_REPLY_SPELLING"), Some(2));
@@ -134,6 +236,13 @@ mod tests {
         assert_eq!(named("CELLANG_REPORT_SPELLING"), Some(5));
         assert_eq!(named("CELLANG_REPORT_SPELLING_START"), Some(6));
         assert_eq!(named("CELLANG_REPORT_SPELLING_LENGTH"), Some(7));
+        assert_eq!(named("CELLANG_REPORT_LINE"), Some(8));
+        assert_eq!(named("CELLANG_WRITTEN_LENGTH"), Some(WRITTEN));
+        assert_eq!(named("CELLANG_WRITTEN_TEXT"), Some(2));
+        assert_eq!(named("CELLANG_WRITTEN_SPELLING"), Some(3));
+        assert_eq!(named("CELLANG_WRITTEN_SPELLING_START"), Some(4));
+        assert_eq!(named("CELLANG_WRITTEN_SPELLING_LENGTH"), Some(5));
+        assert_eq!(named("CELLANG_COMPARISON_LENGTH"), Some(COMPARISON));
         assert_eq!(named("CELLANG_SPELLING_NONE"), Some(0));
         assert_eq!(
             named("CELLANG_SPELLING_IN_SOURCE"),

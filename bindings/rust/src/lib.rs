@@ -1,6 +1,6 @@
 //! Checks sources written in Cellang, a small language for cellular automata,
-//! runs them on grids, and compares grids, by a library that is proved to do
-//! what the rules say.
+//! runs them on grids, also with timed value lists, writes such lists, and
+//! compares grids, by a library that is proved to do what the rules say.
 //!
 //! ```
 //! use cellang::{check, run, Cell, Fault, FaultKind, Mode, Place, Rooms, Stop};
@@ -51,11 +51,14 @@ mod foreign;
 mod names;
 mod replies;
 mod rooms;
+mod writing;
 
-pub use calls::{check, check_in, run, run_in, Lent, Mode, BUILT_IN};
+pub use calls::{check, check_in, run, run_in, Lent, Mode, Run, BUILT_IN};
 pub use comparing::{compare, compare_flat, Difference, NotCompared};
 pub use names::{Kind, Name, Names};
 pub use replies::{
-    Cell, Done, Entry, Fault, FaultKind, Objection, Outcome, Place, Reason, Refusal, Stop,
+    Cell, Done, Entry, Fault, FaultKind, Line, ListReason, ListRefusal, NotWritten, Objection,
+    Outcome, Place, Reason, Refusal, Stop,
 };
 pub use rooms::{Rooms, NAME_WORDS, WORDS};
+pub use writing::{write_list, write_list_in, WriterLent};

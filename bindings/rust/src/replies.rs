@@ -18,6 +18,10 @@ pub struct Cell(pub u32);
 #[derive(Clone, Copy, PartialEq, Eq, PartialOrd, Ord, Hash, Debug, Default)]
 pub struct Entry(pub u32);
 
+/// The number of a line of a value list, from 1.
+#[derive(Clone, Copy, PartialEq, Eq, PartialOrd, Ord, Hash, Debug)]
+pub struct Line(pub u64);
+
 impl Place {
     /// As an index of the source.
     pub fn index(self) -> usize {
@@ -52,6 +56,12 @@ impl fmt::Display for Cell {
 }
 
 impl fmt::Display for Entry {
+    fn fmt(&self, f: &mut fmt::Formatter<'_>) -> fmt::Result {
+        self.0.fmt(f)
+    }
+}
+
+impl fmt::Display for Line {
     fn fmt(&self, f: &mut fmt::Formatter<'_>) -> fmt::Result {
         self.0.fmt(f)
     }
@@ -215,6 +225,17 @@ pub enum Objection {
 }
 
 impl Objection {
+    fn of(number: u32, place: u32) -> Option<Objection> {
+        Some(match number {
+            20 => Objection::BadShape,
+            21 => Objection::LentLength,
+            22 => Objection::BadTimes,
+            23 => Objection::IndexTooFar(Place(place)),
+            24 => Objection::EntryOutOfRange(Entry(place)),
+            _ => return None,
+        })
+    }
+
     /// The number of the reply.
     pub fn number(&self) -> u32 {
         match self {
@@ -247,6 +268,84 @@ impl fmt::Display for Objection {
 }
 
 impl Error for Objection {}
+
+/// Why a line of a value list is refused: replies 50 to 56.
+#[derive(Clone, Copy, PartialEq, Eq, Hash, Debug)]
+pub enum ListReason {
+    /// The line is no time and no cell with values, or has no end; it is a
+    /// cell before any time; its count of indices is wrong; or a number in it
+    /// is over 2147483647.
+    BadLine = 50,
+    /// An index is not below the size of its dimension.
+    OutsideGrid = 51,
+    /// There are more values than fields, where missing ones count.
+    TooManyValues = 52,
+    /// A value lies outside the range of its field.
+    ValueOutOfRange = 53,
+    /// The time is not above the time before it.
+    TimeNotRising = 54,
+    /// The time is below the start.
+    TimeBeforeStart = 55,
+    /// The time is above start plus steps.
+    TimePastEnd = 56,
+}
+
+impl ListReason {
+    fn of(number: u32) -> Option<ListReason> {
+        Some(match number {
+            50 => ListReason::BadLine,
+            51 => ListReason::OutsideGrid,
+            52 => ListReason::TooManyValues,
+            53 => ListReason::ValueOutOfRange,
+            54 => ListReason::TimeNotRising,
+            55 => ListReason::TimeBeforeStart,
+            56 => ListReason::TimePastEnd,
+            _ => return None,
+        })
+    }
+}
+
+impl fmt::Display for ListReason {
+    fn fmt(&self, f: &mut fmt::Formatter<'_>) -> fmt::Result {
+        f.write_str(match self {
+            ListReason::BadLine => {
+                "no time and no cell with values, no line end, cell before any time, wrong index count, or number over 2147483647"
+            }
+            ListReason::OutsideGrid => "cell outside the grid",
+            ListReason::TooManyValues => "more values than fields",
+            ListReason::ValueOutOfRange => "value outside the range of its field",
+            ListReason::TimeNotRising => "time not above the time before it",
+            ListReason::TimeBeforeStart => "time before the start",
+            ListReason::TimePastEnd => "time past start plus steps",
+        })
+    }
+}
+
+/// A value list is refused, although the run would be admitted without it. The
+/// line is the lowest one that is wrong.
+#[derive(Clone, Copy, PartialEq, Eq, Hash, Debug)]
+pub struct ListRefusal {
+    /// Why.
+    pub reason: ListReason,
+    /// In which line.
+    pub line: Line,
+}
+
+impl ListRefusal {
+    /// The number of the reply.
+    pub fn number(&self) -> u32 {
+        self.reason as u32
+    }
+}
+
+impl fmt::Display for ListRefusal {
+    fn fmt(&self, f: &mut fmt::Formatter<'_>) -> fmt::Result {
+        let (number, line, reason) = (self.number(), self.line, self.reason);
+        write!(f, "list refused {number} at line {line}: {reason}")
+    }
+}
+
+impl Error for ListRefusal {}
 
 /// What a cell can do wrong: replies 30 to 33.
 #[derive(Clone, Copy, PartialEq, Eq, Hash, Debug)]
@@ -328,6 +427,8 @@ pub enum Stop<'a> {
     Refused(Refusal<'a>),
     /// The source is accepted, but the run is not admitted.
     NotAdmitted(Objection),
+    /// The source is accepted, but the value list is refused.
+    ListRefused(ListRefusal),
     /// The run began, and a cell faulted.
     Faulted(Fault),
 }
@@ -338,6 +439,7 @@ impl Stop<'_> {
         match self {
             Stop::Refused(refusal) => refusal.number(),
             Stop::NotAdmitted(objection) => objection.number(),
+            Stop::ListRefused(refusal) => refusal.number(),
             Stop::Faulted(fault) => fault.number(),
         }
     }
@@ -347,8 +449,16 @@ impl Stop<'_> {
         match self {
             Stop::Refused(refusal) => Some(refusal.place),
             Stop::NotAdmitted(Objection::IndexTooFar(place)) => Some(*place),
-            Stop::NotAdmitted(_) => None,
+            Stop::NotAdmitted(_) | Stop::ListRefused(_) => None,
             Stop::Faulted(fault) => Some(fault.place),
+        }
+    }
+
+    /// The line of the value list, where the reply names one.
+    pub fn line(&self) -> Option<Line> {
+        match self {
+            Stop::ListRefused(refusal) => Some(refusal.line),
+            _ => None,
         }
     }
 }
@@ -358,6 +468,7 @@ impl fmt::Display for Stop<'_> {
         match self {
             Stop::Refused(refusal) => refusal.fmt(f),
             Stop::NotAdmitted(objection) => objection.fmt(f),
+            Stop::ListRefused(refusal) => refusal.fmt(f),
             Stop::Faulted(fault) => fault.fmt(f),
         }
     }
@@ -376,6 +487,57 @@ pub struct Done {
 
 /// What a run gives.
 pub type Outcome<'a> = Result<Done, Stop<'a>>;
+
+/// A value list is not written.
+#[derive(Clone, PartialEq, Eq, Hash, Debug)]
+pub enum NotWritten<'a> {
+    /// The source is refused.
+    Refused(Refusal<'a>),
+    /// The source is accepted, but one of the grids would not be admitted to a
+    /// run of 0 steps that starts at the time. An entry out of range is the
+    /// lowest one of the earlier grid, else of the later.
+    NotAdmitted(Objection),
+    /// 57: the room is shorter than the text.
+    RoomTooShort,
+}
+
+impl NotWritten<'_> {
+    /// The number of the reply.
+    pub fn number(&self) -> u32 {
+        match self {
+            NotWritten::Refused(refusal) => refusal.number(),
+            NotWritten::NotAdmitted(objection) => objection.number(),
+            NotWritten::RoomTooShort => 57,
+        }
+    }
+
+    /// The place in the source, where the reply names one.
+    pub fn place(&self) -> Option<Place> {
+        match self {
+            NotWritten::Refused(refusal) => Some(refusal.place),
+            NotWritten::NotAdmitted(Objection::IndexTooFar(place)) => Some(*place),
+            NotWritten::NotAdmitted(_) | NotWritten::RoomTooShort => None,
+        }
+    }
+}
+
+impl fmt::Display for NotWritten<'_> {
+    fn fmt(&self, f: &mut fmt::Formatter<'_>) -> fmt::Result {
+        match self {
+            NotWritten::Refused(refusal) => refusal.fmt(f),
+            NotWritten::NotAdmitted(objection) => objection.fmt(f),
+            NotWritten::RoomTooShort => {
+                write!(
+                    f,
+                    "not written {}: room shorter than the text",
+                    self.number()
+                )
+            }
+        }
+    }
+}
+
+impl Error for NotWritten<'_> {}
 
 /// The answer that the entries of a check tell.
 pub(crate) fn check_answer<'a>(
@@ -417,33 +579,55 @@ pub(crate) fn run_answer<'a>(
     list: &'a [u8],
     report: [u64; foreign::REPORT],
 ) -> Outcome<'a> {
-    // All but the count are numbers of 32 bits.
-    let [number, place, cell, steps, _, stands, start, length] = report.map(|n| n as u32);
-    let count = report[4];
-    let objection = |objection| Err(Stop::NotAdmitted(objection));
+    // All but the count and the line are numbers of 32 bits.
+    let [number, place, cell, steps, _, stands, start, length, _] = report.map(|n| n as u32);
+    let (count, line) = (report[4], Line(report[8]));
+    if number == 0 {
+        return Ok(Done { steps, count });
+    }
+    let spelling = part_of(source, list, stands, start, length);
+    if let Some(refusal) = refusal_of(number, place, spelling) {
+        return Err(Stop::Refused(refusal));
+    }
+    if let Some(objection) = Objection::of(number, place) {
+        return Err(Stop::NotAdmitted(objection));
+    }
+    if let Some(reason) = ListReason::of(number) {
+        return Err(Stop::ListRefused(ListRefusal { reason, line }));
+    }
+    let Some(kind) = FaultKind::of(number) else {
+        unreachable!("reply {number} to a run");
+    };
+    let (place, cell) = (Place(place), Cell(cell));
+    Err(Stop::Faulted(Fault {
+        kind,
+        place,
+        cell,
+        steps,
+        count,
+    }))
+}
+
+/// The answer that the entries of a writing tell: the length of the text.
+pub(crate) fn written_answer<'a>(
+    source: &'a [u8],
+    list: &'a [u8],
+    reply: [u64; foreign::WRITTEN],
+) -> Result<usize, NotWritten<'a>> {
+    // All but the text's length are numbers of 32 bits; it is no more than the
+    // room's.
+    let [number, place, _, stands, start, length] = reply.map(|n| n as u32);
     match number {
-        0 => Ok(Done { steps, count }),
-        20 => objection(Objection::BadShape),
-        21 => objection(Objection::LentLength),
-        22 => objection(Objection::BadTimes),
-        23 => objection(Objection::IndexTooFar(Place(place))),
-        24 => objection(Objection::EntryOutOfRange(Entry(place))),
-        _ => {
-            let spelling = part_of(source, list, stands, start, length);
-            if let Some(refusal) = refusal_of(number, place, spelling) {
-                return Err(Stop::Refused(refusal));
-            }
-            let Some(kind) = FaultKind::of(number) else {
-                unreachable!("reply {number} to a run");
-            };
-            let (place, cell) = (Place(place), Cell(cell));
-            Err(Stop::Faulted(Fault {
-                kind,
-                place,
-                cell,
-                steps,
-                count,
-            }))
-        }
+        0 => return Ok(reply[2] as usize),
+        57 => return Err(NotWritten::RoomTooShort),
+        _ => {}
+    }
+    let spelling = part_of(source, list, stands, start, length);
+    if let Some(refusal) = refusal_of(number, place, spelling) {
+        return Err(NotWritten::Refused(refusal));
+    }
+    match Objection::of(number, place) {
+        Some(objection) => Err(NotWritten::NotAdmitted(objection)),
+        None => unreachable!("reply {number} to the writer"),
     }
 }

@@ -1,19 +1,29 @@
-//! The library and the second program on the same checks and runs.
+//! The library and the second program on the same checks, runs and writings.
 
-use cellang::{check_in, run_in, Lent, Mode, Names, Outcome, Stop, BUILT_IN, NAME_WORDS, WORDS};
+use cellang::{
+    check_in, write_list, write_list_in, Lent, Mode, Names, NotWritten, Objection, Outcome, Rooms,
+    Run, Stop, WriterLent, BUILT_IN, NAME_WORDS, WORDS,
+};
 use reference::case::{marks_on_entry, run_case, scratch_on_entry, RunCase};
 use reference::lex::{lex, Keyword, Kind};
 use reference::names::Record;
 use reference::tree::Program;
+use reference::write_case::{room_on_entry, write_case, WriteCase};
+use reference::writing::{text_of, Written};
 use reference::{vectors, Reply, Report};
 
 const CHECKS: usize = 30_000;
-const RUNS: usize = 10_000;
+const RUNS: usize = 16_000;
+const LISTS: usize = 12_000;
+const WRITINGS: usize = 20_000;
+
+/// How many cases gave each number.
+type Seen = [usize; 58];
 
 /// What the rooms hold on entry.
 const BEFORE: u32 = 0x5A5A_5A5A;
 
-/// The five numbers of an outcome.
+/// The six numbers of an outcome.
 fn report_of(outcome: &Outcome) -> Report {
     let stop = match outcome {
         Ok(done) => {
@@ -28,10 +38,11 @@ fn report_of(outcome: &Outcome) -> Report {
     let mut report = Report {
         number: stop.number(),
         place: stop.place().map_or(0, |place| place.0),
+        line: stop.line().map_or(0, |line| line.0),
         ..Report::default()
     };
     match stop {
-        Stop::NotAdmitted(cellang::Objection::EntryOutOfRange(entry)) => report.place = entry.0,
+        Stop::NotAdmitted(Objection::EntryOutOfRange(entry)) => report.place = entry.0,
         Stop::Faulted(fault) => {
             report.cell = fault.cell.0;
             report.steps = fault.steps;
@@ -112,7 +123,7 @@ fn compare_words(source: &[u8], words: &[u32], program: &Program) {
     }
 }
 
-fn compare_check(source: &[u8], seen: &mut [usize; 46]) {
+fn compare_check(source: &[u8], seen: &mut Seen) {
     let expected = reference::check(source).reply;
     let (mut words, mut names) = (vec![BEFORE; WORDS], vec![BEFORE; NAME_WORDS]);
     let (given, spelling) = match check_in(source, &mut words, &mut names) {
@@ -126,7 +137,8 @@ fn compare_check(source: &[u8], seen: &mut [usize; 46]) {
     seen[expected.number as usize] += 1;
 }
 
-fn compare_run(case: &RunCase, mode: Mode, seen: &mut [usize; 46]) {
+/// Compares a run; one whose list is empty is made with a list or without one.
+fn compare_run(case: &RunCase, mode: Mode, listed: bool, seen: &mut Seen) {
     let expected = run_case(case, mode == Mode::Quiet);
     let (mut words, mut names) = (vec![BEFORE; case.words], vec![BEFORE; 4 * case.names]);
     let mut grid = case.grid.clone();
@@ -138,17 +150,13 @@ fn compare_run(case: &RunCase, mode: Mode, seen: &mut [usize; 46]) {
         scratch: &mut scratch,
         marks: &mut marks,
     };
-    let (start, steps) = (case.start, case.steps);
-    let outcome = run_in(
-        &case.source,
-        &case.shape,
-        &mut grid,
-        lent,
-        start,
-        steps,
-        mode,
-    );
-    let text = String::from_utf8_lossy(&case.source);
+    let mut run = Run::new(&case.source, &case.shape, case.start, case.steps, mode);
+    if listed {
+        run = run.with_list(&case.values);
+    }
+    let outcome = run.on_in(&mut grid, lent);
+    let [source, values] = [&case.source, &case.values].map(|text| String::from_utf8_lossy(text));
+    let text = format!("{source} {values:?}");
     assert_eq!(report_of(&outcome), expected.report, "{mode:?} {text}");
     assert_eq!(grid, expected.grid, "{mode:?} {text}");
     if let Err(Stop::Refused(refusal)) = &outcome {
@@ -175,9 +183,9 @@ fn compare_run(case: &RunCase, mode: Mode, seen: &mut [usize; 46]) {
     seen[expected.report.number as usize] += 1;
 }
 
-fn print_seen(what: &str, seen: &[usize; 46]) {
+fn print_seen(what: &str, seen: &Seen) {
     let total: usize = seen.iter().sum();
-    let each: Vec<String> = (0..34)
+    let each: Vec<String> = (0..seen.len())
         .filter(|&number| seen[number] > 0)
         .map(|number| format!("{number}: {}", seen[number]))
         .collect();
@@ -186,7 +194,7 @@ fn print_seen(what: &str, seen: &[usize; 46]) {
 
 #[test]
 fn checks() {
-    let mut seen = [0; 46];
+    let mut seen = [0; 58];
     for source in vectors::stored_checks() {
         compare_check(&source, &mut seen);
     }
@@ -204,16 +212,106 @@ fn checks() {
 #[test]
 fn runs() {
     for mode in [Mode::Full, Mode::Quiet] {
-        let mut seen = [0; 46];
-        for case in vectors::stored_runs() {
-            compare_run(&case, mode, &mut seen);
+        let mut seen = [0; 58];
+        let mut listed = [0; 58];
+        let cases = vectors::stored_runs().into_iter();
+        let cases = cases.chain(vectors::runs(20_002, RUNS, false));
+        for case in cases.chain(vectors::lists(20_004, LISTS, false)) {
+            if case.values.is_empty() {
+                compare_run(&case, mode, false, &mut seen);
+            }
+            compare_run(&case, mode, true, &mut listed);
         }
-        for case in vectors::runs(20_002, RUNS, false) {
-            compare_run(&case, mode, &mut seen);
-        }
-        print_seen(&format!("{mode:?} runs"), &seen);
+        print_seen(&format!("{mode:?} runs without a list"), &seen);
+        print_seen(&format!("{mode:?} runs with one"), &listed);
         for number in [0, 1, 20, 21, 22, 23, 24, 30, 31, 32, 33] {
             assert!(seen[number] > 0, "no run gave {number}");
+            assert!(listed[number] > 0, "no run with a list gave {number}");
         }
+        for number in [50, 51, 52, 53, 54, 55, 56] {
+            assert!(listed[number] > 0, "no list gave {number}");
+        }
+    }
+}
+
+/// The three numbers of a writing.
+fn written_of(answer: &Result<usize, NotWritten>) -> Written {
+    let refusal = match answer {
+        Ok(length) => {
+            return Written {
+                length: *length as u64,
+                ..Written::default()
+            }
+        }
+        Err(refusal) => refusal,
+    };
+    let place = match refusal {
+        NotWritten::NotAdmitted(Objection::EntryOutOfRange(entry)) => entry.0,
+        _ => refusal.place().map_or(0, |place| place.0),
+    };
+    Written {
+        number: refusal.number(),
+        place,
+        length: 0,
+    }
+}
+
+fn compare_writing(case: &WriteCase, seen: &mut Seen) {
+    let (expected, expected_room) = write_case(case);
+    let (mut words, mut names) = (vec![BEFORE; case.words], vec![BEFORE; 4 * case.names]);
+    let mut room = room_on_entry(case.room);
+    let lent = WriterLent {
+        words: &mut words,
+        names: &mut names,
+        room: &mut room,
+    };
+    let (shape, earlier, later) = (&case.shape, &case.earlier, &case.later);
+    let answer = write_list_in(&case.source, shape, earlier, later, case.time, lent);
+    assert_eq!(written_of(&answer), expected, "{case:?}");
+    assert_eq!(room, expected_room, "{case:?}");
+    if let Err(NotWritten::Refused(refusal)) = &answer {
+        let (number, place) = (refusal.number(), refusal.place.0);
+        let spelling = spelling_of(&case.source, Reply { number, place });
+        assert_eq!(refusal.spelling, spelling, "{case:?}");
+    }
+    compare_rooms(&case.source, expected.number, &words, &names);
+    if expected.number != 1 {
+        compare_text(case, expected.number);
+    }
+    seen[expected.number as usize] += 1;
+}
+
+/// The text in a room of the crate's, and what a run with it leaves.
+fn compare_text(case: &WriteCase, number: u32) {
+    let mut rooms = Rooms::new();
+    let (shape, earlier, later) = (&case.shape, &case.earlier, &case.later);
+    let answer = write_list(&case.source, shape, earlier, later, case.time, &mut rooms);
+    let Ok(text) = answer else {
+        let given = answer.map_err(|refusal| refusal.number());
+        assert!(given == Err(number) && number != 57, "{case:?}");
+        return;
+    };
+    assert!(matches!(number, 0 | 57), "{case:?}");
+    let program = reference::check(&case.source).program.expect("accepted");
+    let expected = text_of(program.fields.len(), &case.wanted());
+    assert_eq!(text, expected.as_bytes());
+    for mode in [Mode::Full, Mode::Quiet] {
+        let mut grid = earlier.clone();
+        let run = Run::new(&case.source, shape, case.time, 0, mode).with_list(&text);
+        run.on(&mut grid, &mut rooms).expect("a list that passes");
+        assert_eq!(&grid, later, "{case:?}");
+    }
+}
+
+#[test]
+fn writings() {
+    let mut seen = [0; 58];
+    let cases = vectors::stored_writings().into_iter();
+    for case in cases.chain(vectors::writings(20_005, WRITINGS)) {
+        compare_writing(&case, &mut seen);
+    }
+    print_seen("writings", &seen);
+    for number in [0, 1, 7, 8, 20, 21, 22, 23, 24, 57] {
+        assert!(seen[number] > 0, "no writing gave {number}");
     }
 }

@@ -1,8 +1,8 @@
 //! The C header names the same replies and kinds.
 
 use cellang::{
-    Difference, Entry, FaultKind, Kind, NotCompared, Objection, Place, Reason, BUILT_IN,
-    NAME_WORDS, WORDS,
+    Difference, Entry, FaultKind, Kind, ListReason, NotCompared, NotWritten, Objection, Place,
+    Reason, BUILT_IN, NAME_WORDS, WORDS,
 };
 use std::fmt::Debug;
 use std::mem::size_of;
@@ -84,6 +84,23 @@ fn replies() {
         assert_eq!(fault as u32, number);
         assert_eq!(named(&name_of(fault)), Some(number), "{fault:?}");
     }
+    let lists = [
+        ListReason::BadLine,
+        ListReason::OutsideGrid,
+        ListReason::TooManyValues,
+        ListReason::ValueOutOfRange,
+        ListReason::TimeNotRising,
+        ListReason::TimeBeforeStart,
+        ListReason::TimePastEnd,
+    ];
+    for (reason, number) in lists.into_iter().zip(50..) {
+        assert_eq!(reason as u32, number);
+        let name = name_of(reason).replacen("CELLANG", "CELLANG_LIST", 1);
+        assert_eq!(named(&name), Some(number), "{reason:?}");
+    }
+    let short = NotWritten::RoomTooShort;
+    assert_eq!(short.number(), 57);
+    assert_eq!(named(&name_of(short)), Some(57));
     assert_eq!(named("CELLANG_DONE"), Some(0));
 }
 

@@ -66,7 +66,7 @@ larger zero p h = absurd (omega arith)
 larger (suc m) p h = omega (arith, suc-mul m p)
 
 -- the number of cells, by the two tests
-cells-in : (ns : List ℕ) → all-between 1 4096 ns ≡ true → product ns ≤ 1048576 → cells-of ns ≡ product ns
+pub cells-in : (ns : List ℕ) → all-between 1 4096 ns ≡ true → product ns ≤ 1048576 → cells-of ns ≡ product ns
 unfolding cells-of
 cells-in ns a l = simp (a, le-leb (product ns) 1048576 l)
 

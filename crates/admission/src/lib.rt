@@ -44,7 +44,7 @@ fn times(n: u32, total: u64) -> u64
 }
 
 // The number of cells of a grid with these sizes; 0 where a size is not 1 to 4,096, or there are more than 1,048,576 cells.
-fn cells(sizes: &[u32]) -> u64
+pub fn cells(sizes: &[u32]) -> u64
     requires { ⌜ length (now sizes) ≤ 3 ⌝ }
     ensures { λ r. ⌜ r ≡ cells-of (now (sizes .entry)) ⌝ }
 {

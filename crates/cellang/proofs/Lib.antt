@@ -2,4 +2,5 @@
 pub mod StoreLaws
 pub mod AnswerRow
 pub mod RunAnswerRow
+pub mod WriteAnswerRow
 pub mod Telling

@@ -26,11 +26,17 @@ use Rattle.iteration.specs.declared.Report.{Report}
 use Rattle.runner.specs.Sourcewise.{RunLeaves}
 use Rattle.runner.proofs.RunLaws.{left-by, left-report, unlisted-run}
 use Rattle.checker.specs.declared.checking.Reply.{Reply}
+use Rattle.lists.specs.Writing.{Wanted, write-source}
+use Rattle.list_writer.specs.declared.Written.{Written}
+use Rattle.list_writer.specs.WriterCalls.{WriterLent, writer-lent, writer-left}
+use Rattle.list_writer.specs.Contracts.Writing.{WriterLeaves}
+use Rattle.list_writer.proofs.WritingLaws.{unlisted-writer}
 use Rattle.records.specs.declared.Name.{Name}
 use Rattle.cellang.specs.declared.running.RunAnswer.{RunAnswer}
+use Rattle.cellang.specs.declared.writing.WriteAnswer.{WriteAnswer}
 use Rattle.records.specs.Rows.{no-name, rows-of}
 use Rattle.cellang.specs.Left.{rows-fit, lent-rows-fit, row-fits, row-names, stored-of}
-use Rattle.cellang.specs.Promises.{ChecksOver, RunsOver, TurnedAway}
+use Rattle.cellang.specs.Promises.{ChecksOver, RunsOver, TurnedAway, WritesOver, NothingWritten}
 use Rattle.records.proofs.RowLaws.{filled-all, length-rows, rows-of-zeros}
 
 -- ---- how many records are stored
@@ -202,9 +208,9 @@ row-check list source ws ws′ flat names reply rows count n m c r =
 
 -- ---- a run
 
-module _ (counting : Counting) (source list ws : List ℕ) (names : ℕ) (sizes : List ℕ) (grid scratch : List ℤ) (marks : List ℕ) (start steps : ℤ) where
+module _ (counting : Counting) (source list ws : List ℕ) (names : ℕ) (sizes : List ℕ) (grid scratch : List ℤ) (marks values : List ℕ) (start steps : ℤ) where
   abbrev lends : List Name → Lent Name
-  lends ns = lent source list sizes (memory ws ns grid scratch marks) start steps
+  lends ns = lent source list sizes (memory ws ns grid scratch marks) values start steps
 
   pub no-row-run : (r : RunAnswer) → not (row-fits list names) ≡ true → TurnedAway r → RunsOver counting names lends r (λ ns. memory ws ns grid scratch marks)
   no-row-run r n t =
@@ -217,7 +223,7 @@ module _ (counting : Counting) (source list ws : List ℕ) (names : ℕ) (sizes 
 
   pub row-run : (ws′ flat : List ℕ) (grid′ scratch′ : List ℤ) (marks′ : List ℕ) (report : Report) (rows : List Name) (count : ℕ) → not (row-fits list names) ≡ false
       → count ≡ stored-of (length source) (length ws)
-      → RunLeaves flat-names counting (lent source list sizes (memory ws zeros grid scratch marks) start steps) report (memory ws′ flat grid′ scratch′ marks′) → rows ≡ rows-of flat
+      → RunLeaves flat-names counting (lent source list sizes (memory ws zeros grid scratch marks) values start steps) report (memory ws′ flat grid′ scratch′ marks′) → rows ≡ rows-of flat
       → RunsOver counting names lends (record { report = report; rows = rows; count = count }) (λ ns. memory ws′ ns grid′ scratch′ marks′)
   unfolding run-left lent-fit
   row-run ws′ flat grid′ scratch′ marks′ report rows count n m c r =
@@ -233,6 +239,46 @@ module _ (counting : Counting) (source list ws : List ℕ) (names : ℕ) (sizes 
             ∙ ap (λ (k : ℕ). names-left row-names (lent-rows-fit list (length ws) k) source ns) (sym l))
             (ap (λ x. x .memory .scratch) (c .is) ∙ ap (λ (t : Bool). room-after (pos 0) t source q scratch) fit)
             (ap (λ x. x .memory .marks) (c .is) ∙ ap (λ (t : Bool). room-after 0 t source q marks) fit);
+      }
+    where
+      there : (is-built-in list ≡ true) × (names ≡ 256)
+      there = row-there list names n
+
+      few : count ≤ 256
+      few = subst (λ (k : ℕ). k ≤ 256) (sym m) (stored-few (length source) (length ws))
+
+-- ---- the writer
+
+module _ (source list ws : List ℕ) (names : ℕ) (q : Wanted) (room : List ℕ) where
+  abbrev writer-lends : List Name → WriterLent Name
+  writer-lends ns = writer-lent source list q ws ns room
+
+  pub no-row-written : (r : WriteAnswer) → not (row-fits list names) ≡ true → NothingWritten r → WritesOver names writer-lends r ws room
+  no-row-written r n t =
+      record {
+        few = (subst (λ (k : ℕ). k ≤ 256) (sym (t .count)) zero-le, subst (λ (k : ℕ). k ≤ names) (sym (t .count)) zero-le);
+        stores = λ ns l.
+            subst₂ (λ (said : Written) (k : ℕ). WriterLeaves row-names (writer-lends ns) said ws (take k (r .rows) ++ drop k ns) room) (sym (t .written)) (sym (t .count))
+            (unlisted-writer row-names (writer-lends ns) (ap (lent-rows-fit list (length ws)) l ∙ no-row list (length ws) names n));
+      }
+
+  pub row-written : (ws′ flat room′ : List ℕ) (written : Written) (rows : List Name) (count : ℕ) → not (row-fits list names) ≡ false → count ≡ stored-of (length source) (length ws)
+      → WriterLeaves flat-names (writer-lent source list q ws zeros room) written ws′ flat room′ → rows ≡ rows-of flat
+      → WritesOver names writer-lends (record { written = written; rows = rows; count = count }) ws′ room′
+  unfolding writer-left lent-fit
+  row-written ws′ flat room′ written rows count n m c r =
+      record {
+        few = (few, subst (λ (k : ℕ). count ≤ k) (sym (there .1)) few);
+        stores = λ ns l.
+            let fit = fits-flat list ws names there ∙ ap (lent-rows-fit list (length ws)) (sym l) in
+            record {
+              is = λ i. record {
+                wrote = (ap (λ x. x .wrote) (c .is) ∙ ap (λ (t : Bool). write-source t source q room) fit) i;
+                words = (ap (λ x. x .words) (c .is) ∙ ap (λ (t : Bool). words-after t source ws) fit) i;
+                names = ((λ j. take (m j) (r j) ++ drop (m j) ns) ∙ stores-lent list source ws flat names there ns l (flat-left list source ws (ap (λ x. x .names) (c .is)))
+                    ∙ ap (λ (k : ℕ). names-left row-names (lent-rows-fit list (length ws) k) source ns) (sym l)) i;
+              };
+            };
       }
     where
       there : (is-built-in list ≡ true) × (names ≡ 256)

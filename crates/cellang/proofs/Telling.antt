@@ -1,11 +1,12 @@
 -- What the calls tell.
 use mathlib.Core.Path.{_≡_, ap, _∙_, subst}
 use mathlib.Core.Bool.{Bool}
-use mathlib.Core.List.{List, [], _∷_}
+use mathlib.Core.List.{List, [], _∷_, _++_}
 use Prim.Native.Nat.{ℕ}
 use lib.IntN.{ℤ}
 use mir.Syntax.{w64}
 use mir.Val.{SFits, toZ, ofZ}
+use mir.Facts.{toZ-ofZ}
 use Rattle.spelling.specs.declared.Told.{Told}
 use Rattle.spelling.specs.Spelling.{part-at, part-entries, told-entries}
 use Rattle.grammar.specs.Complaint.{Complaint}
@@ -16,10 +17,13 @@ use Rattle.services.specs.Calls.{flat-names, Memory, lent}
 use Rattle.iteration.specs.declared.Report.{Report}
 use Rattle.runner.specs.Sourcewise.{RunLeaves}
 use Rattle.runner.proofs.RunLaws.{left-report, read-times}
+use Rattle.list_writer.specs.declared.Written.{Written}
+use Rattle.list_writer.specs.WriterCalls.{wanted, writer-lent}
+use Rattle.list_writer.specs.Contracts.Writing.{WriterLeaves}
 use Rattle.entries.specs.Over.{over}
 use Rattle.comparison.specs.declared.Comparison.{Comparison}
 use Rattle.comparison.specs.Contracts.Comparing.{Compares}
-use Rattle.cellang.specs.Told.{reply-entries, TellsCheck, report-entries, TellsRun, comparison-entries, TellsComparison}
+use Rattle.cellang.specs.Told.{reply-entries, TellsCheck, report-entries, TellsRun, written-entries, TellsWritten, comparison-entries, TellsComparison}
 
 -- ---- a check
 
@@ -35,16 +39,39 @@ tells-check {fit} {source} {ws} {ns} {reply} {number} {place} {ws′} {ns′} h 
 -- ---- a run
 
 -- the times as the machine reads them
-pub tells-run : {counting : Counting} {source list sizes : List ℕ} {m m′ : Memory ℕ} {start steps : ℤ} {entries entries′ : List ℕ} {said : Report} {t : Told} → SFits w64 start → SFits w64 steps
-    → RunLeaves flat-names counting (lent source list sizes m (toZ w64 (ofZ w64 start)) (toZ w64 (ofZ w64 steps))) said m′ → told-entries t ≡ part-entries (part-at source (said .number) (said .place))
-    → entries′ ≡ over (said .number ∷ said .place ∷ said .cell ∷ said .steps ∷ said .count ∷ told-entries t) entries → TellsRun counting (lent source list sizes m start steps) entries (said .number) m′ entries′
-tells-run {counting} {source} {list} {sizes} {m} {m′} {start} {steps} {entries} {entries′} {said} a b h p e =
+pub tells-run : {counting : Counting} {source list sizes values : List ℕ} {m m′ : Memory ℕ} {start steps : ℤ} {entries entries′ : List ℕ} {said : Report} {t : Told} → SFits w64 start → SFits w64 steps
+    → RunLeaves flat-names counting (lent source list sizes m values (toZ w64 (ofZ w64 start)) (toZ w64 (ofZ w64 steps))) said m′ → told-entries t ≡ part-entries (part-at source (said .number) (said .place))
+    → entries′ ≡ over (said .number ∷ said .place ∷ said .cell ∷ said .steps ∷ said .count ∷ told-entries t ++ said .line ∷ []) entries → TellsRun counting (lent source list sizes m values start steps) entries (said .number) m′ entries′
+tells-run {counting} {source} {list} {sizes} {values} {m} {m′} {start} {steps} {entries} {entries′} {said} a b h p e =
     let k = read-times a b h in
     record {
       number = ap (λ (x : report.Report). x .number) (left-report k);
-      told = e ∙ ap (λ (l : List ℕ). over (said .number ∷ said .place ∷ said .cell ∷ said .steps ∷ said .count ∷ l) entries) p
+      told = e ∙ ap (λ (l : List ℕ). over (said .number ∷ said .place ∷ said .cell ∷ said .steps ∷ said .count ∷ l ++ said .line ∷ []) entries) p
           ∙ ap (λ (x : report.Report). over (report-entries source x) entries) (left-report k);
       memory = ap (λ x. x .memory) (k .is);
+    }
+
+-- ---- the writer
+
+-- the time as the machine reads it
+pub read-time : {source list sizes : List ℕ} {earlier later : List ℤ} {time : ℤ} {ws ns room ws′ ns′ room′ : List ℕ} {said : Written} → SFits w64 time
+    → WriterLeaves flat-names (writer-lent source list (wanted sizes earlier later (toZ w64 (ofZ w64 time))) ws ns room) said ws′ ns′ room′
+    → WriterLeaves flat-names (writer-lent source list (wanted sizes earlier later time) ws ns room) said ws′ ns′ room′
+read-time {source} {list} {sizes} {earlier} {later} {time} {ws} {ns} {room} {ws′} {ns′} {room′} {said} a =
+    subst (λ (z : ℤ). WriterLeaves flat-names (writer-lent source list (wanted sizes earlier later z) ws ns room) said ws′ ns′ room′) (toZ-ofZ a)
+
+pub tells-written : {source list : List ℕ} {sizes : List ℕ} {earlier later : List ℤ} {time : ℤ} {ws ns room entries ws′ ns′ room′ entries′ : List ℕ} {said : Written} {t : Told} → SFits w64 time
+    → WriterLeaves flat-names (writer-lent source list (wanted sizes earlier later (toZ w64 (ofZ w64 time))) ws ns room) said ws′ ns′ room′ → told-entries t ≡ part-entries (part-at source (said .number) (said .place))
+    → entries′ ≡ over (said .number ∷ said .place ∷ said .length ∷ told-entries t) entries
+    → TellsWritten (writer-lent source list (wanted sizes earlier later time) ws ns room) entries (said .number) ws′ ns′ room′ entries′
+tells-written {source} {entries = entries} {said = said} a h p e =
+    let k = read-time a h in
+    record {
+      number = ap (λ x. x .wrote .number) (k .is);
+      told = e ∙ ap (λ (l : List ℕ). over (said .number ∷ said .place ∷ said .length ∷ l) entries) p ∙ ap (λ x. over (written-entries source (x .wrote)) entries) (k .is);
+      room-is = ap (λ x. x .wrote .room) (k .is);
+      words-are = ap (λ x. x .words) (k .is);
+      names-are = ap (λ x. x .names) (k .is);
     }
 
 -- ---- a comparison

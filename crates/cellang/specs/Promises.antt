@@ -11,9 +11,12 @@ use Rattle.stepper.specs.Report.{Counting}
 use Rattle.services.specs.Calls.{Memory, Lent, names-left}
 use Rattle.checker.specs.declared.checking.Reply.{Reply}
 use Rattle.runner.specs.Sourcewise.{RunLeaves}
+use Rattle.list_writer.specs.WriterCalls.{WriterLent}
+use Rattle.list_writer.specs.Contracts.Writing.{WriterLeaves}
 use Rattle.records.specs.declared.Name.{Name}
 use Rattle.cellang.specs.declared.checking.Answer.{Answer}
 use Rattle.cellang.specs.declared.running.RunAnswer.{RunAnswer}
+use Rattle.cellang.specs.declared.writing.WriteAnswer.{WriteAnswer}
 use Rattle.cellang.specs.Left.{row-names}
 
 -- ---- a check
@@ -41,5 +44,18 @@ pub record RunsOver (counting : Counting) (names : ℕ) (lends : List Name → L
 
 -- a run that is turned away stores nothing
 pub record TurnedAway (r : RunAnswer) : Type 0 where
-  pub report : r .report ≡ record { number = 1; place = 0; cell = 0; steps = 0; count = 0 }
+  pub report : r .report ≡ record { number = 1; place = 0; line = 0; cell = 0; steps = 0; count = 0 }
+  pub count : r .count ≡ 0
+
+-- ---- the writer
+
+-- a call whose records are given and not yet stored: stored over any row of that length, they leave what the definition leaves. `lends` is what is lent, by
+-- the row
+pub record WritesOver (names : ℕ) (lends : List Name → WriterLent Name) (r : WriteAnswer) (ws′ room′ : List ℕ) : Type 0 where
+  pub few : (r .count ≤ most-names) × (r .count ≤ names)
+  pub stores : (ns : List Name) → length ns ≡ names → WriterLeaves row-names (lends ns) (r .written) ws′ (take (r .count) (r .rows) ++ drop (r .count) ns) room′
+
+-- a call that is turned away stores nothing
+pub record NothingWritten (r : WriteAnswer) : Type 0 where
+  pub written : r .written ≡ record { number = 1; place = 0; length = 0 }
   pub count : r .count ≡ 0

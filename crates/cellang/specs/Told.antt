@@ -1,7 +1,7 @@
 -- What the calls tell: the number that is given back, every entry of the slice for a call's numbers, and the rest of the memory that is lent.
 use mathlib.Core.Path.{_≡_}
 use mathlib.Core.Bool.{Bool}
-use mathlib.Core.List.{List, [], _∷_}
+use mathlib.Core.List.{List, [], _∷_, _++_}
 use Prim.Native.Nat.{ℕ}
 use lib.IntN.{ℤ}
 use Rattle.spelling.specs.Spelling.{part-at, part-entries}
@@ -10,6 +10,8 @@ use Rattle.grammar.specs.Checking.{check}
 use Rattle.stepper.specs.Report.{Counting, Report}
 use Rattle.services.specs.Calls.{flat-names, Memory, Lent, run-report, run-left}
 use Rattle.checker.specs.Promises.{Checks}
+use Rattle.lists.specs.Writing.{Wrote}
+use Rattle.list_writer.specs.WriterCalls.{WriterLent, writer-left}
 use Rattle.entries.specs.Over.{over}
 use Rattle.comparison.specs.declared.Comparison.{Comparison}
 use Rattle.comparison.specs.Differences.{compared, compared-room}
@@ -27,15 +29,30 @@ pub record TellsCheck (fit : Bool) (source ws ns reply : List ℕ) (r : ℕ) (ws
 
 -- ---- a run
 
--- the entries that tell a run's numbers, and where its reply's spelling stands
+-- the entries that tell a run's numbers, where its reply's spelling stands, and the line of the value list
 abbrev pub report-entries : List ℕ → Report → List ℕ
-report-entries source said = said .number ∷ said .place ∷ said .cell ∷ said .steps ∷ said .count ∷ part-entries (part-at source (said .number) (said .place))
+report-entries source said =
+    said .number ∷ said .place ∷ said .cell ∷ said .steps ∷ said .count ∷ part-entries (part-at source (said .number) (said .place)) ++ said .line ∷ []
 
 -- the number that is given back, the entries that are told, and the rest of the memory
 pub record TellsRun (counting : Counting) (l : Lent ℕ) (entries : List ℕ) (r : ℕ) (m : Memory ℕ) (entries′ : List ℕ) : Type 0 where
   pub number : r ≡ run-report flat-names counting l .number
   pub told : entries′ ≡ over (report-entries (l .source) (run-report flat-names counting l)) entries
   pub memory : m ≡ run-left flat-names counting l .memory
+
+-- ---- the writer
+
+-- the entries that tell the writer's numbers, and where its reply's spelling stands
+abbrev pub written-entries : List ℕ → Wrote → List ℕ
+written-entries source said = said .number ∷ said .place ∷ said .length ∷ part-entries (part-at source (said .number) (said .place))
+
+-- the number that is given back, the entries that are told, and the memory
+pub record TellsWritten (l : WriterLent ℕ) (entries : List ℕ) (r : ℕ) (ws′ ns′ room′ entries′ : List ℕ) : Type 0 where
+  pub number : r ≡ writer-left flat-names l .wrote .number
+  pub told : entries′ ≡ over (written-entries (l .source) (writer-left flat-names l .wrote)) entries
+  pub room-is : room′ ≡ writer-left flat-names l .wrote .room
+  pub words-are : ws′ ≡ writer-left flat-names l .words
+  pub names-are : ns′ ≡ writer-left flat-names l .names
 
 -- ---- a comparison
 

@@ -2,9 +2,14 @@
 
 mod checking;
 mod comparing;
+mod listing;
 mod running;
+mod writing;
 
 pub use checking::cellang_check;
 pub use comparing::cellang_compare;
+pub use listing::cellang_run_full_list;
+pub use listing::cellang_run_quiet_list;
 pub use running::cellang_run_full;
 pub use running::cellang_run_quiet;
+pub use writing::cellang_write_list;

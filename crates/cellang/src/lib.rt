@@ -1,10 +1,11 @@
-// Rules in Cellang, checked and run: with the names of a source as a row of records, and for programs in other languages. And two grids
-// compared.
+// Rules in Cellang, checked and run, and value lists written: with the names of a source as a row of records, and for programs in other languages.
+// And two grids compared.
 
 mod checking;
 mod exports;
 mod rows;
 mod running;
+mod writing;
 
 pub use checking::check;
 pub use comparison::Comparison;
@@ -12,7 +13,11 @@ pub use comparison::compare;
 pub use exports::cellang_check;
 pub use exports::cellang_compare;
 pub use exports::cellang_run_full;
+pub use exports::cellang_run_full_list;
 pub use exports::cellang_run_quiet;
+pub use exports::cellang_run_quiet_list;
+pub use exports::cellang_write_list;
+pub use list_writer::Written;
 pub use records::Name;
 pub use records::lookup::count;
 pub use records::lookup::find_by_place;
@@ -20,3 +25,4 @@ pub use records::lookup::find_field;
 pub use records::lookup::kind_of;
 pub use records::lookup::record;
 pub use running::run;
+pub use writing::write_list;

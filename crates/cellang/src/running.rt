@@ -32,6 +32,7 @@ fn turned_away() -> RunAnswer
     let report = Report {
         number: 1,
         place: 0,
+        line: 0,
         cell: 0,
         steps: 0,
         count: 0,
@@ -53,11 +54,12 @@ fn ran(
     grid: &mut [i32],
     scratch: &mut [i32],
     marks: &mut [u8],
+    values: &[u8],
     start: i64,
     steps: i64,
     quiet: bool,
 ) -> RunAnswer
-    ensures { λ r. ⌜ RunsOver (counting-of quiet) names (λ (ns : List Name). (lent (now (source .entry)) (now (list .entry)) (now (sizes .entry)) (memory (now (words .entry)) ns (now (grid .entry)) (now (scratch .entry)) (now (marks .entry))) start steps)) r (λ (ns : List Name). (memory (now (words .exit)) ns (now (grid .exit)) (now (scratch .exit)) (now (marks .exit)))) ⌝ }
+    ensures { λ r. ⌜ RunsOver (counting-of quiet) names (λ (ns : List Name). (lent (now (source .entry)) (now (list .entry)) (now (sizes .entry)) (memory (now (words .entry)) ns (now (grid .entry)) (now (scratch .entry)) (now (marks .entry))) (now (values .entry)) start steps)) r (λ (ns : List Name). (memory (now (words .exit)) ns (now (grid .exit)) (now (scratch .exit)) (now (marks .exit)))) ⌝ }
 {
     if !row_fits(list, names) {
         return turned_away();
@@ -73,6 +75,7 @@ fn ran(
         grid,
         scratch,
         marks,
+        values,
         start,
         steps,
         quiet,
@@ -85,7 +88,7 @@ fn ran(
     }
 }
 
-// Runs a source on a grid: so many steps from a start time. A full run evaluates every cell in each step, a quiet one only the cells that are open in
+// Runs a source on a grid: so many steps from a start time, with the blocks of a value list, which is empty where there is none. A full run evaluates every cell in each step, a quiet one only the cells that are open in
 // it: the answer and the grid are the same, and the count is of the open cells.
 pub fn run(
     source: &[u8],
@@ -96,11 +99,12 @@ pub fn run(
     grid: &mut [i32],
     scratch: &mut [i32],
     marks: &mut [u8],
+    values: &[u8],
     start: i64,
     steps: i64,
     quiet: bool,
 ) -> Report
-    ensures { λ r. ⌜ (RunLeaves row-names (counting-of quiet) (lent (now (source .entry)) (now (list .entry)) (now (sizes .entry)) (memory (now (words .entry)) (now (names .entry)) (now (grid .entry)) (now (scratch .entry)) (now (marks .entry))) start steps) r (memory (now (words .exit)) (now (names .exit)) (now (grid .exit)) (now (scratch .exit)) (now (marks .exit)))) × (Agree (told r (now (grid .exit))) (run-report row-names full (lent (now (source .entry)) (now (list .entry)) (now (sizes .entry)) (memory (now (words .entry)) (now (names .entry)) (now (grid .entry)) (now (scratch .entry)) (now (marks .entry))) start steps))) × (RangesKept (read-lent row-names (lent (now (source .entry)) (now (list .entry)) (now (sizes .entry)) (memory (now (words .entry)) (now (names .entry)) (now (grid .entry)) (now (scratch .entry)) (now (marks .entry))) start steps)) (asked (lent (now (source .entry)) (now (list .entry)) (now (sizes .entry)) (memory (now (words .entry)) (now (names .entry)) (now (grid .entry)) (now (scratch .entry)) (now (marks .entry))) start steps)) (now (grid .exit))) ⌝ }
+    ensures { λ r. ⌜ (RunLeaves row-names (counting-of quiet) (lent (now (source .entry)) (now (list .entry)) (now (sizes .entry)) (memory (now (words .entry)) (now (names .entry)) (now (grid .entry)) (now (scratch .entry)) (now (marks .entry))) (now (values .entry)) start steps) r (memory (now (words .exit)) (now (names .exit)) (now (grid .exit)) (now (scratch .exit)) (now (marks .exit)))) × (Agree (told r (now (grid .exit))) (run-report row-names full (lent (now (source .entry)) (now (list .entry)) (now (sizes .entry)) (memory (now (words .entry)) (now (names .entry)) (now (grid .entry)) (now (scratch .entry)) (now (marks .entry))) (now (values .entry)) start steps))) × (RangesKept (read-lent row-names (lent (now (source .entry)) (now (list .entry)) (now (sizes .entry)) (memory (now (words .entry)) (now (names .entry)) (now (grid .entry)) (now (scratch .entry)) (now (marks .entry))) (now (values .entry)) start steps)) (asked (lent (now (source .entry)) (now (list .entry)) (now (sizes .entry)) (memory (now (words .entry)) (now (names .entry)) (now (grid .entry)) (now (scratch .entry)) (now (marks .entry))) (now (values .entry)) start steps)) (now (grid .exit))) ⌝ }
 {
     let c = ran(
         source,
@@ -111,6 +115,7 @@ pub fn run(
         grid,
         scratch,
         marks,
+        values,
         start,
         steps,
         quiet,

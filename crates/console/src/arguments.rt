@@ -3,7 +3,7 @@ use crate::numbers::Entry;
 use crate::numbers::value_in;
 use crate::texts::argument;
 use crate::texts::complain;
-use crate::texts::is_word;
+use crate::texts::is_argument;
 
 // What is asked of a run: the time it starts at, the steps, and whether it is quiet.
 pub struct Order {
@@ -27,17 +27,22 @@ enum Way {
 
 // Whether all arguments are there and none is over. If not, how to call the program is said.
 pub fn all_there() -> bool {
-    if os::arg_count() == 8 {
-        return true;
+    let count = os::arg_count();
+    if count >= 8 {
+        if count <= 10 {
+            return true;
+        }
     }
-    complain(b"usage: run_rule RULE SHAPE START STEPS full|quiet GRID OUT\n");
-    complain(b"  RULE   the file of the rule\n");
-    complain(b"  SHAPE  the sizes of the grid, joined by x, as 8x8 or 5 or 2x3x4\n");
-    complain(b"  START  the time of the first step\n");
-    complain(b"  STEPS  how many steps to run\n");
-    complain(b"  full   evaluates every cell in every step, quiet the open cells alone\n");
-    complain(b"  GRID   the file of the grid's entries, - for standard input\n");
-    complain(b"  OUT    the file to write the grid to, - for standard output\n");
+    complain(b"usage: run_rule RULE SHAPE START STEPS full|quiet GRID OUT [LIST [CHANGES]]\n");
+    complain(b"  RULE     the file of the rule\n");
+    complain(b"  SHAPE    the sizes of the grid, joined by x, as 8x8 or 5 or 2x3x4\n");
+    complain(b"  START    the time of the first step\n");
+    complain(b"  STEPS    how many steps to run\n");
+    complain(b"  full     evaluates every cell in every step, quiet the open cells alone\n");
+    complain(b"  GRID     the file of the grid's entries, - for standard input\n");
+    complain(b"  OUT      the file to write the grid to, - for standard output\n");
+    complain(b"  LIST     the file of a value list, - for none\n");
+    complain(b"  CHANGES  the file to write the list of changes to, - for standard output\n");
     false
 }
 
@@ -55,12 +60,10 @@ fn number_argument(i: usize) -> Entry {
 
 // The way that the fifth argument names.
 fn way_argument() -> Way {
-    let mut text = [0u8; 64];
-    let n = argument(5, &mut text);
-    if is_word(&text[..n], b"full") {
+    if is_argument(5, b"full") {
         return Way::Full;
     }
-    if is_word(&text[..n], b"quiet") {
+    if is_argument(5, b"quiet") {
         return Way::Quiet;
     }
     Way::Unknown

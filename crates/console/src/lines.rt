@@ -1,4 +1,4 @@
-// The line of a source in which a place stands, with a caret under it.
+// The line of a text in which a place stands, with a caret under it, or how a line of a text begins.
 use crate::texts::say;
 use std::num::wrapping_add_usize;
 use std::num::wrapping_sub_usize;
@@ -31,10 +31,10 @@ fn bytes_before(source: &[u8], place: usize) -> usize {
     k
 }
 
-// How many bytes of its line stand at a place and behind it; at most 60 are looked at.
-fn bytes_behind(source: &[u8], place: usize) -> usize {
+// How many bytes of its line stand at a place and behind it; at most so many are looked at.
+fn bytes_behind(source: &[u8], place: usize, most: usize) -> usize {
     let mut k: usize = 0;
-    while k < 60 {
+    while k < most {
         if breaks(byte_at(source, wrapping_add_usize(place, k))) {
             return k;
         }
@@ -115,11 +115,18 @@ fn say_width(source: &[u8], start: usize, count: usize) {
 // Writes the line of a source in which a place stands, and below it a caret under the place. Of a long line the part around the place is shown.
 pub fn say_line(source: &[u8], place: usize) {
     let before = bytes_before(source, place);
-    let behind = bytes_behind(source, place);
+    let behind = bytes_behind(source, place, 60);
     let start = wrapping_sub_usize(place, before);
     say(b"    ");
     say_text(source, start, wrapping_add_usize(before, behind));
     say(b"\n    ");
     say_width(source, start, before);
     say(b"^\n");
+}
+
+// Writes the line of a text that begins at a place. Of a long line the first 120 bytes are shown.
+pub fn say_line_from(text: &[u8], start: usize) {
+    say(b"    ");
+    say_text(text, start, bytes_behind(text, start, 120));
+    say(b"\n");
 }

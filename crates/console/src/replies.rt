@@ -50,6 +50,20 @@ fn say_fault(number: u32) {
     }
 }
 
+// What a refusal of a value list means.
+fn say_list(number: u32) {
+    match number {
+        50 => say(b"a line of the list cannot be read"),
+        51 => say(b"the place lies outside the grid"),
+        52 => say(b"more values than fields"),
+        53 => say(b"a value out of its field's range"),
+        54 => say(b"the time does not rise"),
+        55 => say(b"the time is before the start"),
+        56 => say(b"the time is past start plus steps"),
+        _ => say(b"a reply without a meaning"),
+    }
+}
+
 // What a reply means.
 pub fn say_meaning(number: u32) {
     if number == 0 {
@@ -60,7 +74,9 @@ pub fn say_meaning(number: u32) {
         say_run(number);
     } else if number < 40 {
         say_fault(number);
-    } else {
+    } else if number < 50 {
         say_source(number);
+    } else {
+        say_list(number);
     }
 }

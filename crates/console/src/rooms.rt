@@ -19,6 +19,20 @@ pub fn bytes_room() -> [u8; ROOM]
     [0; ROOM]
 }
 
+// A room for a value list: as much as the stack has beside the other rooms.
+pub fn list_room() -> [u8; 524288]
+    ensures { λ r. ⌜ 524288 ≡ length r ⌝ }
+{
+    [0; 524288]
+}
+
+// A room for a text that is written when scratch and marks are given back.
+pub fn text_room() -> [u8; 3145728]
+    ensures { λ r. ⌜ 3145728 ≡ length r ⌝ }
+{
+    [0; 3145728]
+}
+
 // A word table of the right length.
 pub fn table_room() -> [u32; 16384]
     ensures { λ r. ⌜ 16384 ≡ length r ⌝ }

@@ -52,6 +52,13 @@ pub fn argument(i: usize, buffer: &mut [u8]) -> usize
     os::arg(i, buffer)
 }
 
+// Whether an argument is a word.
+pub fn is_argument(i: usize, word: &[u8]) -> bool {
+    let mut text = [0u8; 64];
+    let n = argument(i, &mut text);
+    is_word(&text[..n], word)
+}
+
 // Whether a name is there. If not, that is said.
 fn is_named(length: usize) -> bool {
     if length == 0 {
@@ -94,19 +101,26 @@ pub fn open_output(i: usize) -> i32 {
     file
 }
 
-// Reads the rule, as much as there is room for.
-pub fn read_rule(source: &mut [u8]) -> Text {
-    let file = open_input(1);
+// Closes a file that was opened to write; standard output stays open for what is still to be written.
+pub fn close_output(file: i32) {
+    if file != STDOUT_FILENO {
+        libc::close(file);
+    }
+}
+
+// Reads the file that an argument names, as much as there is room for. If it cannot be opened or read, that is said, with the argument's name.
+pub fn read_file(i: usize, name: &[u8], room: &mut [u8]) -> Text {
+    let file = open_input(i);
     if file < 0 {
         return Text::Unread;
     }
-    let got = libc::read(file, source);
+    let got = libc::read(file, room);
     if got < 0 {
-        os::fail(b"RULE");
+        os::fail(name);
         return Text::Unread;
     }
-    let first = io::count(got, source);
-    let more = io::read_full(file, &mut source[first..]);
+    let first = io::count(got, room);
+    let more = io::read_full(file, &mut room[first..]);
     libc::close(file);
     Text::Read(first + more)
 }

@@ -33,7 +33,7 @@ pub fn put_reply(entries: &mut [u32], number: u32, place: u32, stands: u32, star
     put_word(entries, 4, len);
 }
 
-// Tells a run's numbers in the first entries, and where its reply's spelling stands.
+// Tells a run's numbers in the first entries, where its reply's spelling stands, and the line of the value list.
 pub fn put_report(
     entries: &mut [u64],
     number: u32,
@@ -44,8 +44,9 @@ pub fn put_report(
     stands: u32,
     start: u32,
     len: u32,
+    line: u64,
 )
-    ensures { λ _. ⌜ now (entries .exit) ≡ over (number ∷ place ∷ cell ∷ steps ∷ count ∷ stands ∷ start ∷ len ∷ []) (now (entries .entry)) ⌝ }
+    ensures { λ _. ⌜ now (entries .exit) ≡ over (number ∷ place ∷ cell ∷ steps ∷ count ∷ stands ∷ start ∷ len ∷ line ∷ []) (now (entries .entry)) ⌝ }
 {
     put_number(entries, 0, number as u64);
     put_number(entries, 1, place as u64);
@@ -55,6 +56,27 @@ pub fn put_report(
     put_number(entries, 5, stands as u64);
     put_number(entries, 6, start as u64);
     put_number(entries, 7, len as u64);
+    put_number(entries, 8, line);
+}
+
+// Tells the writer's numbers in the first entries, and where its reply's spelling stands.
+pub fn put_written(
+    entries: &mut [u64],
+    number: u32,
+    place: u32,
+    length: u64,
+    stands: u32,
+    start: u32,
+    len: u32,
+)
+    ensures { λ _. ⌜ now (entries .exit) ≡ over (number ∷ place ∷ length ∷ stands ∷ start ∷ len ∷ []) (now (entries .entry)) ⌝ }
+{
+    put_number(entries, 0, number as u64);
+    put_number(entries, 1, place as u64);
+    put_number(entries, 2, length);
+    put_number(entries, 3, stands as u64);
+    put_number(entries, 4, start as u64);
+    put_number(entries, 5, len as u64);
 }
 
 // Tells a comparison in the first entries.

@@ -24,7 +24,7 @@ rooms-fit words names = eqb words table-words && eqb names name-words
 unfoldable pub lent-fit : List ℕ → ℕ → ℕ → Bool
 lent-fit list words names = is-built-in list && rooms-fit words names
 
--- how reading a source ends: turned away before any token, with 1 or 2; refused, with 3 to 15; or accepted
+-- how reading a source ends: turned away before any token, with 1 or 2; refused, with 3 to 15 or 40 to 45; or accepted
 pub data Outcome : Type 0 where
   turned-away : (number place : ℕ) → Outcome
   refused : (number place : ℕ) → Outcome
@@ -51,7 +51,7 @@ reply-of (accepted a) = no-complaint
 unfoldable pub check : Bool → List ℕ → Complaint
 check fit source = reply-of (read-source fit source)
 
--- a room after reading, where `old` stood before: 1 and 2 touch nothing; 3 to 15 leave empty entries; an accepted source leaves `new` of it
+-- a room after reading, where `old` stood before: 1 and 2 touch nothing; 3 to 15 and 40 to 45 leave empty entries; an accepted source leaves `new` of it
 abbrev pub room-left : {A : Type 0} → A → List A → (Accepted → List A) → Outcome → List A
 room-left none old new (turned-away number place) = old
 room-left none old new (refused number place) = replicate (length old) none

@@ -1,5 +1,6 @@
 -- The loop over the steps of a run: how it begins, goes on and ends.
 use Prim.Native.Nat.{ℕ, zero, suc, _+_, _*_, _<_, _≤_}
+use native.Mathlib.Nat.{add-assoc, add-zero, mul-le-mul-right}
 use native.Mathlib.Numerals.{add-one}
 use native.Mathlib.Omega.{arith}
 use mathlib.Core.Path.{_≡_, refl, sym, ap, ap₂, _∙_, subst, subst₂, fun-ext}
@@ -12,7 +13,7 @@ use lib.IntN.{ℤ}
 use borrow.Author.Tests.{not-true, not-false}
 use Rattle.value.specs.Laws.{never}
 use Rattle.automaton.specs.Listed.{list-of, length-list-of, getD-list-of, list-of-ext}
-use Rattle.automaton.specs.Step.{Fault, any-of, marks-of, non-zero, marked, Quiet, every-cell, no-blocks, changed, touched, open-in}
+use Rattle.automaton.specs.Step.{Fault, Blocks, any-of, marks-of, non-zero, marked, Quiet, every-cell, changed, touched, open-in}
 use Rattle.automaton.specs.Quiet.{marked-marks-of, any-of-false, any-none}
 use Rattle.automaton.specs.Shape.{product, Bound, width, neighbour, reach-of, box-indices}
 use Rattle.automaton.specs.ShapeLaws.{Positive, Alike, neighbour-lt, neighbour-zeros}
@@ -37,7 +38,13 @@ use Rattle.stepping.specs.Stepping as stepping
 use Rattle.stepping.specs.Stepping.{Stepped}
 use Rattle.marking.specs.Opened as marking
 use Rattle.marking.specs.Opened.{opened, pending-is, indices-of, Prepared, Ways, Marks, Sound, WayOf}
-use Rattle.iteration.specs.Stepwise.{Begins, Runs, Renewed, Underway, told, steps-report, Ran}
+use Rattle.token.specs.Promises.{Sorts}
+use Rattle.lists.specs.Setting.{set-block}
+use Rattle.iteration.specs.declared.Report.{Report}
+use Rattle.iteration.specs.declared.blocks.Next.{Next}
+use Rattle.iteration.specs.Blockwise.{NextOf, is-due, Settable, DueSet}
+use Rattle.iteration.specs.Stepwise.{Begins, blocks-in, Runs, Renewed, Standing, Halfway, Begun, Underway, Placed, told, without-fault, steps-report, RanMarked}
+use Rattle.iteration.proofs.BlockLaws.{Follows, follows-start, follows-within, follows-stay, follows-set}
 
 -- ---- marks
 
@@ -125,15 +132,6 @@ open-all : (p : Program) (sizes : List ℕ) (o : ℕ → Bool) (old new : List �
 unfolding running automaton open-in
 open-all p sizes o old new e = fun-ext (λ c. ap (λ (b : Bool). b || (o c || touched (running p sizes) old new c)) e)
 
--- every cell is pending
-open-every : (p : Program) (sizes : List ℕ) (old new : List ℤ) (c : ℕ) → open-in (running p sizes) every-cell old new c ≡ true
-unfolding open-in
-open-every p sizes old new c = or-yes (running p sizes .timed)
-  where
-    or-yes : (b : Bool) → (b || true) ≡ true
-    or-yes true = refl
-    or-yes false = refl
-
 -- where no block is set and `time` does not stand in the source, the open cells are those that are pending
 touched-self : (p : Program) (sizes : List ℕ) (grid : List ℤ) (c : ℕ) → touched (running p sizes) grid grid c ≡ false
 unfolding running automaton touched changed
@@ -147,6 +145,50 @@ open-pending : (p : Program) (sizes : List ℕ) (o : ℕ → Bool) (grid : List 
 unfolding running automaton open-in
 open-pending p sizes o grid c e = ap₂ (λ (a b : Bool). a || (o c || b)) e (touched-self p sizes grid c) ∙ or-no (o c)
 
+timed-is : (p : Program) (sizes : List ℕ) → running p sizes .timed ≡ p .timed
+unfolding running automaton
+timed-is p sizes = refl
+
+-- every cell is marked
+pub all-standing : {rule : Rule} {sizes : List ℕ} {all-open : Bool} {grid scratch : List ℤ} {n : ℕ} {marks : List ℕ} → n ≡ product sizes → marks ≡ replicate n 1
+    → Standing rule sizes all-open grid scratch marks
+all-standing {rule} {sizes} {all-open} {grid} {scratch} {n} {marks} e m =
+    record {
+      plain = marks-plain every-cell (product sizes) marks is;
+      still = λ c l z. absurd (let q = shut every-cell (product sizes) marks is c l z in let w : _≡_ {A = ℕ} 0 1 = cc in omega arith);
+      all-marked = λ _. is;
+    }
+  where
+    is : marks ≡ marks-of every-cell (product sizes)
+    is = m ∙ ap (λ (k : ℕ). replicate k 1) e ∙ all-ones (product sizes)
+
+-- a run can begin with other marks
+pub begins-marked : {words : List ℕ} {rule : Rule} {sizes : List ℕ} {r : Reach} {grid scratch : List ℤ} {marks marks′ text : List ℕ} {start steps : ℕ} → Begins words rule sizes r grid scratch marks text start steps
+    → marks′ ≡ replicate (length marks) 1 → Begins words rule sizes r grid scratch marks′ text start steps
+begins-marked {marks = marks} b e = record {
+  rule-fits = b .rule-fits;
+  some-dims = b .some-dims;
+  shaped = b .shaped;
+  scratch-fits = b .scratch-fits;
+  marks-fit = ap length e ∙ length-replicate {A = ℕ} (length marks) 1 ∙ b .marks-fit;
+  near = b .near;
+  sound = b .sound;
+  times = b .times;
+  dimensions = b .dimensions;
+  listed = b .listed;
+}
+
+pub all-begun : (sizes : List ℕ) {n : ℕ} {marks : List ℕ} (all-open : Bool) → n ≡ product sizes → marks ≡ replicate n 1 → Begun sizes all-open marks every-cell
+all-begun sizes all-open e m = m ∙ ap (λ (k : ℕ). replicate k 1) e ∙ all-ones (product sizes) ∙ marks-same _ _ (product sizes) (λ c l. sym (or-yes all-open))
+  where
+    or-yes : (b : Bool) → (b || true) ≡ true
+    or-yes true = refl
+    or-yes false = refl
+
+-- the entries of a grid are few
+entries-few : {cells fields entries : ℕ} → cells * fields ≡ entries → cells ≤ 1048576 → fields ≤ 8 → entries ≤ 8388608
+entries-few {cells} {fields} {entries} e a b = omega (arith, mul-le-mul-right fields a)
+
 -- the reach record of a program has the own cell, and is its box if it has as many places
 pub runs-sound : {words : List ℕ} {rule : Rule} {r : Reach} {all-open : Bool} {p : Program} → Runs words rule r all-open p → Sound r (rule .dims)
 unfolding reach
@@ -158,12 +200,12 @@ runs-sound {words} {rule} {r} {all-open} {p} h = record {
 }
 
 -- the leaf table can be filled
-pub fill-ready : {words : List ℕ} {rule : Rule} {sizes : List ℕ} {r : Reach} {grid scratch : List ℤ} {marks : List ℕ} {start steps : ℕ} → Begins words rule sizes r grid scratch marks start steps
+pub fill-ready : {words : List ℕ} {rule : Rule} {sizes : List ℕ} {r : Reach} {grid scratch : List ℤ} {marks text : List ℕ} {start steps : ℕ} → Begins words rule sizes r grid scratch marks text start steps
     → (4 * rule .tokens ≤ length words) × (rule .tokens ≤ 4096) × (length sizes ≤ 3) × Positive sizes
 fill-ready b = (b .rule-fits .table, b .rule-fits .tokens, omega (arith, b .shaped .dims, b .rule-fits .dims), b .shaped .positive)
 
 -- the way that the open cells are marked can be set
-pub prepared : {words : List ℕ} {rule : Rule} {sizes : List ℕ} {r : Reach} {grid scratch : List ℤ} {marks : List ℕ} {start steps : ℕ} → Begins words rule sizes r grid scratch marks start steps
+pub prepared : {words : List ℕ} {rule : Rule} {sizes : List ℕ} {r : Reach} {grid scratch : List ℤ} {marks text : List ℕ} {start steps : ℕ} → Begins words rule sizes r grid scratch marks text start steps
     → Prepared sizes (r .bounds)
 prepared b = record {
   dims = omega (arith, b .shaped .dims, b .rule-fits .dims);
@@ -173,75 +215,225 @@ prepared b = record {
   near = b .near;
 }
 
-module _ {words : List ℕ} {rule : Rule} {sizes : List ℕ} {r : Reach} {all-open : Bool} {grid₀ scratch₀ : List ℤ} {marks₀ : List ℕ} {start steps : ℕ}
-    (begins : Begins words rule sizes r grid₀ scratch₀ marks₀ start steps) where
-  -- ---- at the start every cell is marked
+module _ {words : List ℕ} {rule : Rule} {sizes : List ℕ} {r : Reach} {grid₀ scratch₀ : List ℤ} {marks₀ text : List ℕ} {start steps : ℕ}
+    (begins : Begins words rule sizes r grid₀ scratch₀ marks₀ text start steps) where
+  -- ---- the index vectors of the reach
 
-  pub start-underway : {marks : List ℕ} → marks ≡ replicate (length marks₀) 1 → Underway words rule sizes r all-open grid₀ start steps 0 0 grid₀ scratch₀ marks
-  start-underway {marks} e =
+  module _ {backs : List ℕ} {listed : ℕ} (way : WayOf sizes r backs listed) where
+    sound : Sound r (length sizes)
+    sound = subst (Sound r) (sym (begins .shaped .dims)) (begins .sound)
+
+    ways : Ways sizes (r .bounds) backs listed (indices-of r (length sizes))
+    ways = way .ways sound
+
+    -- they are the program's reach
+    reach-is : {all-open : Bool} (p : Program) → Runs words rule r all-open p → indices-of r (length sizes) ≡ reach p
+    unfolding reach
+    reach-is p runs = ap (indices-of r) (begins .shaped .dims) ∙ sym (ap₂ reach-from (runs .reaches) (runs .lists))
+
+    -- the cells with a change in their reach, by the code and by the definition
+    opened-is : {all-open : Bool} (p : Program) → Runs words rule r all-open p → (old new : List ℤ) (c : ℕ) → opened sizes (indices-of r (length sizes)) (rule .fields) old new c ≡ touched (running p sizes) old new c
+    opened-is p runs old new c = ap₂ (λ (ds : List (List ℤ)) (f : ℕ). opened sizes ds f old new c) (reach-is p runs) (sym (held-fields p (runs .holds))) ∙ sym (pending-is p sizes old new c)
+
+    not-changed : (old new : List ℤ) (c : ℕ) → c < product sizes → opened sizes (indices-of r (length sizes)) (rule .fields) old new c ≡ false → cell-of (rule .fields) old c ≡ cell-of (rule .fields) new c
+    not-changed = not-opened sizes (indices-of r (length sizes)) (ways .alike) (begins .shaped .positive) (rule .fields) (sound .own)
+
+module _ {words : List ℕ} {rule : Rule} {sizes : List ℕ} {r : Reach} {all-open : Bool} {grid₀ scratch₀ : List ℤ} {marks₀ text : List ℕ} {start steps : ℕ}
+    (begins : Begins words rule sizes r grid₀ scratch₀ marks₀ text start steps) where
+  -- ---- at the start
+
+  pub start-underway : Standing rule sizes all-open grid₀ scratch₀ marks₀ → Underway words rule sizes r all-open text grid₀ marks₀ start steps 0 0 grid₀ scratch₀ marks₀
+  unfolding open-in
+  start-underway s =
       record {
-        few-steps = omega arith;
-        few-cells = omega arith;
-        grid-size = refl;
-        scratch-size = begins .scratch-fits;
-        marks-size = ap length e ∙ length-replicate {A = ℕ} (length marks₀) 1 ∙ begins .marks-fit;
-        plain = marks-plain every-cell (product sizes) marks is;
-        still = λ c l z. absurd (let q = shut every-cell (product sizes) marks is c l z in let w : _≡_ {A = ℕ} 0 1 = cc in omega arith);
-        all-marked = λ _. is;
-        going = λ p runs. (
-          every-cell,
-          is ∙ marks-same _ _ (product sizes) (λ c l. sym (open-every p sizes grid₀ grid₀ c)),
-          going-start (running p sizes) no-blocks every-cell steps start grid₀,
-        );
+        so-far = record { few-steps = omega arith; few-cells = omega arith; grid-size = refl; scratch-size = begins .scratch-fits; marks-size = begins .marks-fit; standing = s };
+        goes = record {
+          is = λ p runs o e. (
+            o,
+            e ∙ marks-same _ _ (product sizes) (λ c l. ap₂ (λ (a b : Bool). a || b) (sym (runs .timed) ∙ sym (timed-is p sizes)) (sym (or-no (o c)) ∙ ap (λ (b : Bool). o c || b) (sym (touched-self p sizes grid₀ c)))),
+            going-start (running p sizes) (blocks-in sizes rule text) o steps start grid₀,
+          );
+        };
       }
-    where
-      is : marks ≡ marks-of every-cell (product sizes)
-      is = e ∙ ap (λ (n : ℕ). replicate n 1) (begins .marks-fit) ∙ all-ones (product sizes)
 
-  module _ {done count : ℕ} {grid scratch : List ℤ} {marks : List ℕ} (now : Underway words rule sizes r all-open grid₀ start steps done count grid scratch marks) where
+  -- ---- the block is set
+
+  module _ {done count : ℕ} {grid scratch : List ℤ} {marks : List ℕ} (now : Underway words rule sizes r all-open text grid₀ marks₀ start steps done count grid scratch marks) where
+    pub settable : {kinds backs : List ℕ} {listed : ℕ} {next : Next} → Sorts kinds → WayOf sizes r backs listed → Follows sizes (rule .fields) text (start + done) next
+        → Settable text kinds sizes (r .bounds) backs listed (rule .fields) grid scratch marks next
+    settable sorts way f =
+        record {
+          sorts = sorts;
+          within = follows-within f;
+          dimensions = begins .dimensions;
+          scratch-fits = now .so-far .scratch-size ∙ sym (now .so-far .grid-size);
+          markable = λ old new a b. record {
+            prepared = prepared begins;
+            led = way .led;
+            few = begins .rule-fits .fields;
+            old-fits = a ∙ now .so-far .grid-size ∙ sym (begins .shaped .entries);
+            grid-fits = b ∙ now .so-far .grid-size ∙ sym (begins .shaped .entries);
+            marks-fit = now .so-far .marks-size;
+          };
+          few-fields = begins .rule-fits .fields;
+          few-entries = rw (now .so-far .grid-size) (entries-few (begins .shaped .entries) (begins .shaped .cells) (begins .rule-fits .fields));
+        }
+
+    module _ {backs : List ℕ} {listed : ℕ} (way : WayOf sizes r backs listed) {next next′ : Next} (f : Follows sizes (rule .fields) text (start + done) next) {grid′ scratch′ : List ℤ} {marks′ : List ℕ}
+        (set : DueSet text sizes (r .bounds) backs listed all-open (rule .fields) grid scratch marks (start + done) next next′ grid′ scratch′ marks′) (grid-kept : length grid′ ≡ length grid) where
+      pub record BlockSet : Type 0 where
+        pub placed : Placed words rule sizes r all-open text grid₀ marks₀ start steps done count grid′ scratch′ marks′
+        pub follows : Follows sizes (rule .fields) text (start + done + 1) next′
+
+      had : Halfway rule sizes all-open (length grid₀) steps done count grid scratch marks
+      had = now .so-far
+
+      -- no block is due
+      stays : is-due next (start + done) ≡ false → BlockSet
+      stays e =
+          let same = set .stays e in
+          let on = follows-stay f e in
+          record {
+            placed = subst (λ (m : List ℕ). Placed words rule sizes r all-open text grid₀ marks₀ start steps done count grid′ scratch′ m) (sym (same .3))
+                (subst₂ (λ (g s : List ℤ). Placed words rule sizes r all-open text grid₀ marks₀ start steps done count g s marks) (sym (same .1)) (sym (same .2))
+                (record { so-far = had; before = grid; set-is = sym (on .0 grid); goes = now .goes }));
+            follows = subst (Follows sizes (rule .fields) text (start + done + 1)) (sym (same .0)) (on .1);
+          }
+
+      module _ (e : is-due next (start + done) ≡ true) where
+        moved : (set-block sizes (rule .fields) text (start + done) grid ≡ grid′) × Follows sizes (rule .fields) text (start + done + 1) next′
+        moved = let s = set .sets e in follows-set f e (s .1) (s .2)
+
+        -- it is set, and all cells are open
+        all-set : all-open ≡ true → BlockSet
+        all-set a =
+            let same = set .stands e a in
+            let is : marks′ ≡ marks-of every-cell (product sizes) = same .1 ∙ had .standing .all-marked a in
+            record {
+              placed = record {
+                so-far = record {
+                  few-steps = had .few-steps;
+                  few-cells = had .few-cells;
+                  grid-size = grid-kept ∙ had .grid-size;
+                  scratch-size = ap length (same .0) ∙ had .scratch-size;
+                  marks-size = ap length (same .1) ∙ had .marks-size;
+                  standing = record {
+                    plain = marks-plain every-cell (product sizes) marks′ is;
+                    still = λ c l z. absurd (let v = shut every-cell (product sizes) marks′ is c l z in let w : _≡_ {A = ℕ} 0 1 = cc in omega arith);
+                    all-marked = λ _. is;
+                  };
+                };
+                before = grid;
+                set-is = sym (moved .0);
+                goes = record {
+                  is = λ p runs o b.
+                      let g = now .goes .is p runs o b in (
+                        g .0,
+                        is ∙ ap (λ (o : ℕ → Bool). marks-of o (product sizes)) (sym (open-all p sizes (g .0) grid grid′ (runs .timed ∙ a))),
+                        g .2,
+                      );
+                };
+              };
+              follows = moved .1;
+            }
+
+        -- it is set, and the cells that it opens are marked
+        some-set : all-open ≡ false → BlockSet
+        unfolding open-in
+        some-set a =
+            let both = set .opens e a in
+            let is : marks′ ≡ marks-of (λ c. marked marks c || opened sizes (indices-of r (length sizes)) (rule .fields) grid grid′ c) (product sizes) = both .1 .says (indices-of r (length sizes)) (ways begins way) in
+            record {
+              placed = record {
+                so-far = record {
+                  few-steps = had .few-steps;
+                  few-cells = had .few-cells;
+                  grid-size = grid-kept ∙ had .grid-size;
+                  scratch-size = ap length (both .0) ∙ had .grid-size;
+                  marks-size = ap length is ∙ marks-length _ (product sizes);
+                  standing = record {
+                    plain = marks-plain _ (product sizes) marks′ is;
+                    still = λ c l z. ap (λ (g : List ℤ). cell-of (rule .fields) g c) (both .0) ∙ not-changed begins way grid grid′ c l (or-right (marked marks c) (shut _ (product sizes) marks′ is c l z));
+                    all-marked = λ t. never (sym a ∙ t);
+                  };
+                };
+                before = grid;
+                set-is = sym (moved .0);
+                goes = record { is = λ p runs o b. let g = now .goes .is p runs o b in (g .0, is ∙ same-marks p runs (g .0) (g .1), g .2) };
+              };
+              follows = moved .1;
+            }
+          where
+            or-right : (x : Bool) {y : Bool} → (x || y) ≡ false → y ≡ false
+            or-right true q = never (sym q)
+            or-right false q = q
+
+            same-marks : (p : Program) → Runs words rule r all-open p → (o : ℕ → Bool) → marks ≡ marks-of (open-in (running p sizes) o grid grid) (product sizes)
+                → marks-of (λ c. marked marks c || opened sizes (indices-of r (length sizes)) (rule .fields) grid grid′ c) (product sizes) ≡ marks-of (open-in (running p sizes) o grid grid′) (product sizes)
+            same-marks p runs o m = marks-same _ _ (product sizes)
+                (λ c l. ap₂ (λ (x y : Bool). x || y)
+                (ap (λ (ms : List ℕ). marked ms c) m ∙ marked-marks-of (open-in (running p sizes) o grid grid) (product sizes) c l ∙ open-pending p sizes o grid c (runs .timed ∙ a))
+                (opened-is begins way p runs grid grid′ c)
+                ∙ ap (λ (b : Bool). b || (o c || touched (running p sizes) grid grid′ c)) (sym (timed-is p sizes ∙ runs .timed ∙ a)))
+
+      pub block-set : BlockSet
+      block-set = by (is-due next (start + done)) refl
+        where
+          by : (b : Bool) → is-due next (start + done) ≡ b → BlockSet
+          by false e = stays e
+          by true e = open-or all-open refl
+            where
+              open-or : (a : Bool) → all-open ≡ a → BlockSet
+              open-or true a = all-set e a
+              open-or false a = some-set e a
+
+  module _ {done count : ℕ} {grid scratch : List ℤ} {marks : List ℕ} (now : Placed words rule sizes r all-open text grid₀ marks₀ start steps done count grid scratch marks) where
+    so : Halfway rule sizes all-open (length grid₀) steps done count grid scratch marks
+    so = now .so-far
+
     -- ---- a step can be done
 
     pub step-ready : {leaves : List ℕ} → Leaves leaves words sizes (rule .tokens) (rule .fields) (rule .slots) → done < steps → stepping.Ready leaves words rule sizes grid scratch marks (start + done) count
     step-ready noted more =
         record {
           rule-fits = begins .rule-fits;
-          shaped = subst (Shaped rule sizes) (sym (now .grid-size)) (begins .shaped);
-          scratch-fits = now .scratch-size ∙ sym (now .grid-size);
-          marks-fit = now .marks-size;
+          shaped = subst (Shaped rule sizes) (sym (so .grid-size)) (begins .shaped);
+          scratch-fits = so .scratch-size ∙ sym (so .grid-size);
+          marks-fit = so .marks-size;
           small = omega (arith, begins .times);
-          room = omega (arith, now .few-cells, now .few-steps, begins .times, begins .shaped .cells);
+          room = omega (arith, so .few-cells, so .few-steps, begins .times, begins .shaped .cells);
           noted = noted;
         }
 
     -- ---- the last step
 
-    pub ends : done ≡ steps → Ran words rule sizes r all-open start steps grid₀ (record { number = 0; place = 0; cell = 0; steps = done; count = count }) grid
-    ends e = record { says = λ p runs. report-is p runs }
+    pub ends : done ≡ steps → RanMarked words rule sizes r all-open text start steps grid₀ marks₀ (without-fault steps count) grid
+    ends e = record { from = λ o b. record { says = λ p runs. report-is o b p runs } }
       where
-        report-is : (p : Program) (runs : Runs words rule r all-open p) → told (record { number = 0; place = 0; cell = 0; steps = done; count = count }) grid ≡ steps-report p sizes steps start grid₀
-        report-is p runs =
+        report-is : (o : ℕ → Bool) → Begun sizes all-open marks₀ o → (p : Program) → Runs words rule r all-open p → told (without-fault steps count) grid ≡ steps-report p sizes (blocks-in sizes rule text) o steps start grid₀
+        report-is o b p runs =
             let M = running p sizes in
-            let g = now .going p runs in
-            let is = going-done M no-blocks every-cell steps start grid₀ (g .2) grid refl marks (unfold running automaton in g .1) e in
-            (λ i. record { number = 0; place = 0; cell = 0; steps = e i; count = count; grid = grid })
-            ∙ ap (λ (q : Quiet (List ℤ)). ended (q .run .fault) (q .run .steps) (q .count) (q .run .grid)) (sym is)
+            let g = now .goes .is p runs o b in
+            let is = going-done M (blocks-in sizes rule text) o steps start grid₀ (g .2) grid (now .set-is) marks (unfold running automaton in g .1) e in
+            ap (λ (q : Quiet (List ℤ)). ended (q .run .fault) (q .run .steps) (q .count) (q .run .grid)) (sym is)
 
     module _ (more : done < steps) where
       -- ---- a step that faults
 
       pub stops : {said : Step} {cell number place counted : ℕ} {grid′ scratch′ : List ℤ} → Stepped words rule sizes grid scratch marks (start + done) count said grid′ scratch′ → said ≡ Gives.Fault cell number place counted
-          → Ran words rule sizes r all-open start steps grid₀ (record { number = number; place = place; cell = cell; steps = done; count = counted }) grid′
-      stops {said} {cell} {number} {place} {counted} {grid′} {scratch′} s₀ e = record { says = λ p runs. report-is p runs }
+          → RanMarked words rule sizes r all-open text start steps grid₀ marks₀ (record { number = number; place = place; line = 0; cell = cell; steps = done; count = counted }) grid′
+      stops {said} {cell} {number} {place} {counted} {grid′} {scratch′} s₀ e = record { from = λ o b. record { says = λ p runs. report-is o b p runs } }
         where
           s : Stepped words rule sizes grid scratch marks (start + done) count (Gives.Fault cell number place counted) grid′ scratch′
           s = subst (λ (t : Step). Stepped words rule sizes grid scratch marks (start + done) count t grid′ scratch′) e s₀
 
-          report-is : (p : Program) (runs : Runs words rule r all-open p) → told (record { number = number; place = place; cell = cell; steps = done; count = counted }) grid′ ≡ steps-report p sizes steps start grid₀
-          report-is p runs =
+          report-is : (o : ℕ → Bool) → Begun sizes all-open marks₀ o → (p : Program) (runs : Runs words rule r all-open p)
+              → told (record { number = number; place = place; line = 0; cell = cell; steps = done; count = counted }) grid′ ≡ steps-report p sizes (blocks-in sizes rule text) o steps start grid₀
+          report-is o b p runs =
               let M = running p sizes in
-              let g = now .going p runs in
-              let is = going-stop M no-blocks every-cell steps start grid₀ (g .2) grid refl marks (unfold running automaton in g .1) more cell number place (sym (s .fault p (runs .holds))) in
-              (λ i. record { number = number; place = place; cell = cell; steps = done; count = s .count-is p (runs .holds) i; grid = s .grid-is p (runs .holds) i })
+              let g = now .goes .is p runs o b in
+              let is = going-stop M (blocks-in sizes rule text) o steps start grid₀ (g .2) grid (now .set-is) marks (unfold running automaton in g .1) more cell number place (sym (s .fault p (runs .holds))) in
+              (λ i. record { number = number; place = place; line = 0; cell = cell; steps = done; count = s .count-is p (runs .holds) i; grid = s .grid-is p (runs .holds) i })
               ∙ ap (λ (q : Quiet (List ℤ)). ended (q .run .fault) (q .run .steps) (q .count) (q .run .grid)) (sym is)
 
       -- ---- a step that does not
@@ -260,50 +452,38 @@ module _ {words : List ℕ} {rule : Rule} {sizes : List ℕ} {r : Reach} {all-op
           where
             by : (b : Bool) → marked marks c ≡ b → cell-of (rule .fields) scratch′ c ≡ cell-of (rule .fields) grid c
             by true e = s .old refl c l ∙ ap (chosen c) e
-            by false e = s .old refl c l ∙ ap (chosen c) e ∙ now .still c l (marked-is false marks c e refl)
+            by false e = s .old refl c l ∙ ap (chosen c) e ∙ so .standing .still c l (marked-is false marks c e refl)
 
         pub mark-ready : {backs : List ℕ} {listed : ℕ} → WayOf sizes r backs listed → marking.Ready sizes (r .bounds) backs listed (rule .fields) scratch′ grid′ marks
         mark-ready way =
             record {
-              prepared = prepared begins;
-              led = way .led;
-              few = begins .rule-fits .fields;
-              old-fits = s .scratch-size ∙ now .scratch-size ∙ sym (begins .shaped .entries);
-              grid-fits = s .grid-size ∙ now .grid-size ∙ sym (begins .shaped .entries);
-              marks-fit = now .marks-size;
-              plain = now .plain;
+              markable = record {
+                prepared = prepared begins;
+                led = way .led;
+                few = begins .rule-fits .fields;
+                old-fits = s .scratch-size ∙ so .scratch-size ∙ sym (begins .shaped .entries);
+                grid-fits = s .grid-size ∙ so .grid-size ∙ sym (begins .shaped .entries);
+                marks-fit = so .marks-size;
+              };
+              plain = so .standing .plain;
               still = λ c l z. old-cell c l ∙ sym (s .kept c l (unmarked marks c z));
             }
 
         module _ {backs : List ℕ} {listed : ℕ} (way : WayOf sizes r backs listed) {marks′ : List ℕ} (renewed : Renewed sizes (r .bounds) backs listed all-open (rule .fields) scratch′ grid′ marks marks′) where
-          abbrev dss : List (List ℤ)
-          dss = indices-of r (length sizes)
-
-          sound : Sound r (length sizes)
-          sound = subst (Sound r) (sym (begins .shaped .dims)) (begins .sound)
-
-          ways : Ways sizes (r .bounds) backs listed dss
-          ways = way .ways sound
-
-          -- they are the program's reach
-          reach-is : (p : Program) → Runs words rule r all-open p → dss ≡ reach p
-          unfolding reach
-          reach-is p runs = ap (indices-of r) (begins .shaped .dims) ∙ sym (ap₂ reach-from (runs .reaches) (runs .lists))
-
           -- by whether all cells are open: the marks, and what a cell with mark 0 has in scratch
-          record Next : Type 0 where
+          record Renewal : Type 0 where
             pub size : length marks′ ≡ product sizes
             pub plain : (c : ℕ) → c < product sizes → getD marks′ c 0 ≤ 1
             pub still : (c : ℕ) → c < product sizes → getD marks′ c 0 ≡ 0 → cell-of (rule .fields) scratch′ c ≡ cell-of (rule .fields) grid′ c
             pub all : all-open ≡ true → marks′ ≡ marks-of every-cell (product sizes)
             pub opens : (p : Program) → Runs words rule r all-open p → marks′ ≡ marks-of (open-in (running p sizes) (touched (running p sizes) grid grid′) grid′ grid′) (product sizes)
 
-          next : Next
-          next = by all-open refl (renewed .is dss ways)
+          next : Renewal
+          next = by all-open refl (renewed .is (indices-of r (length sizes)) (ways begins way))
             where
-              by : (b : Bool) → all-open ≡ b → marks′ ≡ cond b marks (marks-of (opened sizes dss (rule .fields) scratch′ grid′) (product sizes)) → Next
+              by : (b : Bool) → all-open ≡ b → marks′ ≡ cond b marks (marks-of (opened sizes (indices-of r (length sizes)) (rule .fields) scratch′ grid′) (product sizes)) → Renewal
               by true e q =
-                  let is : marks′ ≡ marks-of every-cell (product sizes) = q ∙ now .all-marked e in
+                  let is : marks′ ≡ marks-of every-cell (product sizes) = q ∙ so .standing .all-marked e in
                   record {
                     size = ap length is ∙ marks-length every-cell (product sizes);
                     plain = marks-plain every-cell (product sizes) marks′ is;
@@ -315,37 +495,115 @@ module _ {words : List ℕ} {rule : Rule} {sizes : List ℕ} {r : Reach} {all-op
                   record {
                     size = ap length q ∙ marks-length _ (product sizes);
                     plain = marks-plain _ (product sizes) marks′ q;
-                    still = λ c l z. not-opened sizes dss (ways .alike) (begins .shaped .positive) (rule .fields) (sound .own) scratch′ grid′ c l (shut _ (product sizes) marks′ q c l z);
+                    still = λ c l z. not-changed begins way scratch′ grid′ c l (shut _ (product sizes) marks′ q c l z);
                     all = λ t. never (sym e ∙ t);
                     opens = λ p runs. q ∙ same-marks p runs;
                   }
                 where
-                  same-marks : (p : Program) → Runs words rule r all-open p → marks-of (opened sizes dss (rule .fields) scratch′ grid′) (product sizes) ≡ marks-of (open-in (running p sizes) (touched (running p sizes) grid grid′) grid′ grid′) (product sizes)
+                  same-marks : (p : Program) → Runs words rule r all-open p → marks-of (opened sizes (indices-of r (length sizes)) (rule .fields) scratch′ grid′) (product sizes) ≡ marks-of (open-in (running p sizes) (touched (running p sizes) grid grid′) grid′ grid′) (product sizes)
                   same-marks p runs = marks-same _ _ (product sizes)
-                      (λ c l. opened-same sizes dss (ways .alike) (begins .shaped .positive) (rule .fields) scratch′ grid grid′ old-cell c l
-                      ∙ ap₂ (λ (ds : List (List ℤ)) (f : ℕ). opened sizes ds f grid grid′ c) (reach-is p runs) (sym (held-fields p (runs .holds)))
-                      ∙ sym (pending-is p sizes grid grid′ c)
+                      (λ c l. opened-same sizes (indices-of r (length sizes)) (ways begins way .alike) (begins .shaped .positive) (rule .fields) scratch′ grid grid′ old-cell c l
+                      ∙ opened-is begins way p runs grid grid′ c
                       ∙ sym (open-pending p sizes (touched (running p sizes) grid grid′) grid′ c (runs .timed ∙ e)))
 
-          one-more : Underway words rule sizes r all-open grid₀ start steps (suc done) counted grid′ scratch′ marks′
+          one-more : Underway words rule sizes r all-open text grid₀ marks₀ start steps (suc done) counted grid′ scratch′ marks′
           one-more =
               record {
-                few-steps = more;
-                few-cells = omega (arith, s .counted, now .few-cells, begins .shaped .cells);
-                grid-size = s .grid-size ∙ now .grid-size;
-                scratch-size = s .scratch-size ∙ now .scratch-size;
-                marks-size = next .size;
-                plain = next .plain;
-                still = next .still;
-                all-marked = next .all;
-                going = λ p runs.
-                    let M = running p sizes in
-                    let g = now .going p runs in (
-                      touched M grid grid′,
-                      next .opens p runs,
-                      going-on M no-blocks every-cell steps start grid₀ (g .2) grid refl marks (unfold running automaton in g .1) more counted grid′ (sym (s .fault p (runs .holds))) (s .grid-is p (runs .holds)) (s .count-is p (runs .holds)),
-                    );
+                so-far = record {
+                  few-steps = more;
+                  few-cells = omega (arith, s .counted, so .few-cells, begins .shaped .cells);
+                  grid-size = s .grid-size ∙ so .grid-size;
+                  scratch-size = s .scratch-size ∙ so .scratch-size;
+                  marks-size = next .size;
+                  standing = record { plain = next .plain; still = next .still; all-marked = next .all };
+                };
+                goes = record {
+                  is = λ p runs o b.
+                      let M = running p sizes in
+                      let g = now .goes .is p runs o b in (
+                        touched M grid grid′,
+                        next .opens p runs,
+                        going-on M (blocks-in sizes rule text) o steps start grid₀ (g .2) grid (now .set-is) marks (unfold running automaton in g .1) more counted grid′ (sym (s .fault p (runs .holds))) (s .grid-is p (runs .holds)) (s .count-is p (runs .holds)),
+                      );
+                };
               }
 
-          pub again : Underway words rule sizes r all-open grid₀ start steps (done + 1) counted grid′ scratch′ marks′
+          pub again : Underway words rule sizes r all-open text grid₀ marks₀ start steps (done + 1) counted grid′ scratch′ marks′
           again = rw (add-one done) one-more
+
+-- ---- one turn of the loop: the block is set, and then the step is done
+
+-- what holds at the head of the loop
+pub record Looping (words : List ℕ) (rule : Rule) (sizes : List ℕ) (r : Reach) (all-open : Bool) (text : List ℕ) (grid₀ scratch₀ : List ℤ) (marks₀ : List ℕ) (start steps : ℕ) (leaves backs : List ℕ)
+    (listed : ℕ) (kinds : List ℕ) (next : Next) (done count : ℕ) (grid scratch : List ℤ) (marks : List ℕ) : Type 0 where
+  pub begins : Begins words rule sizes r grid₀ scratch₀ marks₀ text start steps
+  pub underway : Underway words rule sizes r all-open text grid₀ marks₀ start steps done count grid scratch marks
+  pub follows : Follows sizes (rule .fields) text (start + done) next
+  pub noted : Leaves leaves words sizes (rule .tokens) (rule .fields) (rule .slots)
+  pub way : WayOf sizes r backs listed
+  pub sorts : Sorts kinds
+
+module _ {words : List ℕ} {rule : Rule} {sizes : List ℕ} {r : Reach} {all-open : Bool} {grid₀ scratch₀ : List ℤ} {marks₀ text : List ℕ} {start steps : ℕ} {leaves backs : List ℕ} {listed : ℕ} {kinds : List ℕ} where
+  pub loop-start : Begins words rule sizes r grid₀ scratch₀ marks₀ text start steps → Standing rule sizes all-open grid₀ scratch₀ marks₀ → Leaves leaves words sizes (rule .tokens) (rule .fields) (rule .slots)
+      → WayOf sizes r backs listed → Sorts kinds → {next : Next} → NextOf text 0 next
+      → Looping words rule sizes r all-open text grid₀ scratch₀ marks₀ start steps leaves backs listed kinds next 0 0 grid₀ scratch₀ marks₀
+  loop-start b s l w k {next} n = record {
+    begins = b;
+    underway = start-underway b s;
+    follows = subst (λ (t : ℕ). Follows sizes (rule .fields) text t next) (sym (add-zero start)) (follows-start (rule .fields) (b .listed) n);
+    noted = l;
+    way = w;
+    sorts = k;
+  }
+
+  module _ {next : Next} {done count : ℕ} {grid scratch : List ℤ} {marks : List ℕ}
+      (now : Looping words rule sizes r all-open text grid₀ scratch₀ marks₀ start steps leaves backs listed kinds next done count grid scratch marks) where
+    pub loop-settable : Settable text kinds sizes (r .bounds) backs listed (rule .fields) grid scratch marks next
+    loop-settable = settable (now .begins) (now .underway) (now .sorts) (now .way) (now .follows)
+
+    module _ {next′ : Next} {grid′ scratch′ : List ℤ} {marks′ : List ℕ}
+        (set : DueSet text sizes (r .bounds) backs listed all-open (rule .fields) grid scratch marks (start + done) next next′ grid′ scratch′ marks′) (kept : length grid′ ≡ length grid) where
+      after : BlockSet (now .begins) (now .underway) (now .way) (now .follows) set kept
+      after = block-set (now .begins) (now .underway) (now .way) (now .follows) set kept
+
+      pub placed-grid : length grid′ ≡ length grid₀
+      placed-grid = after .placed .so-far .grid-size
+
+      pub placed-scratch : length scratch′ ≡ length scratch₀
+      placed-scratch = after .placed .so-far .scratch-size ∙ sym (now .begins .scratch-fits)
+
+      pub placed-marks : length marks′ ≡ length marks₀
+      placed-marks = after .placed .so-far .marks-size ∙ sym (now .begins .marks-fit)
+
+      pub loop-ends : done ≡ steps → {said : Report} → said ≡ without-fault steps count → RanMarked words rule sizes r all-open text start steps grid₀ marks₀ said grid′
+      loop-ends e {said} q = subst (λ (x : Report). RanMarked words rule sizes r all-open text start steps grid₀ marks₀ x grid′) (sym q) (ends (now .begins) (after .placed) e)
+
+      module _ (other : done ≡ steps → ⊥) where
+        more : done < steps
+        more = below done steps (now .underway .so-far .few-steps) other
+          where
+            below : (d n : ℕ) → d ≤ n → (d ≡ n → ⊥) → d < n
+            below d n l o = omega (arith, l, o)
+
+        pub loop-step : stepping.Ready leaves words rule sizes grid′ scratch′ marks′ (start + done) count
+        loop-step = step-ready (now .begins) (after .placed) (now .noted) more
+
+        module _ {said : Step} {grid″ scratch″ : List ℤ} (s : Stepped words rule sizes grid′ scratch′ marks′ (start + done) count said grid″ scratch″) where
+          pub loop-stops : {cell number place counted : ℕ} → said ≡ Gives.Fault cell number place counted
+              → RanMarked words rule sizes r all-open text start steps grid₀ marks₀ (record { number = number; place = place; line = 0; cell = cell; steps = done; count = counted }) grid″
+          loop-stops e = stops (now .begins) (after .placed) more s e
+
+          module _ {counted : ℕ} (e : said ≡ Gives.Done counted) where
+            pub loop-mark : marking.Ready sizes (r .bounds) backs listed (rule .fields) scratch″ grid″ marks′
+            loop-mark = mark-ready (now .begins) (after .placed) more s e (now .way)
+
+            pub loop-again : {marks″ : List ℕ} → Renewed sizes (r .bounds) backs listed all-open (rule .fields) scratch″ grid″ marks′ marks″
+                → Looping words rule sizes r all-open text grid₀ scratch₀ marks₀ start steps leaves backs listed kinds next′ (done + 1) counted grid″ scratch″ marks″
+            loop-again renewed = record {
+              begins = now .begins;
+              underway = again (now .begins) (after .placed) more s e (now .way) renewed;
+              follows = subst (λ (t : ℕ). Follows sizes (rule .fields) text t next′) (add-assoc start done 1) (after .follows);
+              noted = now .noted;
+              way = now .way;
+              sorts = now .sorts;
+            }

@@ -1,2 +1,3 @@
 -- The loop over the steps of a run.
+pub mod Blockwise
 pub mod Stepwise

@@ -1,11 +1,12 @@
 -- What the loop over the steps of a run promises.
 use mathlib.Core.Path.{_≡_}
-use mathlib.Core.Bool.{Bool, true, cond}
+use mathlib.Core.Bool.{Bool, true, cond, _||_}
 use mathlib.Core.List.{List}
+use mathlib.Core.Option.{none}
 use Prim.Native.Nat.{ℕ, _+_, _*_, _<_, _≤_}
 use lib.ListN.{length, getD}
 use lib.IntN.{ℤ}
-use Rattle.automaton.specs.Step.{every-cell, no-blocks, marks-of, open-in, quiet-run}
+use Rattle.automaton.specs.Step.{Blocks, every-cell, marks-of, open-in, quiet-run}
 use Rattle.automaton.specs.Shape.{product}
 use Rattle.automaton.specs.Grid.{cell-of}
 use Rattle.automaton.specs.Going.{Going}
@@ -20,11 +21,23 @@ use Rattle.stepper.specs.Report as report
 use Rattle.stepper.specs.Report.{ended}
 use Rattle.stepper.specs.Locality.{Flagged}
 use Rattle.stepper.specs.Fitting.{Sized, Shaped, bounds-of, Near, places-of}
+use Rattle.lists.specs.Lines.{said}
+use Rattle.lists.specs.ListChecking.{Limits}
+use Rattle.lists.specs.Setting.{set-block}
+use Rattle.lists.specs.Passing.{Passes}
+use Rattle.list_reader.specs.Places.{Dimensions}
 use Rattle.marking.specs.Opened.{opened, Ways, Sound}
 use Rattle.iteration.specs.declared.Report.{Report}
 
--- what a run asks of its numbers; nothing is asked of what the table holds
-pub record Begins (words : List ℕ) (rule : Rule) (sizes : List ℕ) (r : Reach) (grid scratch : List ℤ) (marks : List ℕ) (start steps : ℕ) : Type 0 where
+-- the value list passes its check, for a run that begins at a time
+pub record Listed (sizes text : List ℕ) (start : ℕ) : Type 0 where
+  pub limits : Limits
+  pub sizes-are : limits .sizes ≡ sizes
+  pub first-is : limits .first ≡ start
+  pub passes : Passes limits none 1 (said text)
+
+-- what a run asks of its numbers and its list; nothing is asked of what the table holds
+pub record Begins (words : List ℕ) (rule : Rule) (sizes : List ℕ) (r : Reach) (grid scratch : List ℤ) (marks text : List ℕ) (start steps : ℕ) : Type 0 where
   pub rule-fits : Sized (length words) rule
   pub some-dims : 0 < rule .dims
   pub shaped : Shaped rule sizes (length grid)
@@ -33,6 +46,12 @@ pub record Begins (words : List ℕ) (rule : Rule) (sizes : List ℕ) (r : Reach
   pub near : Near sizes (r .bounds)
   pub sound : Sound r (rule .dims)
   pub times : start + steps ≤ 2147483647
+  pub dimensions : Dimensions sizes
+  pub listed : Listed sizes text start
+
+-- what is set into the grid at each time
+abbrev pub blocks-in : List ℕ → Rule → List ℕ → Blocks (List ℤ)
+blocks-in sizes rule text = set-block sizes (rule .fields) text
 
 -- the program stands in the table with this reach; all cells are open in every step exactly if its flag `timed` is set, which it is
 -- where `time` stands in its statements
@@ -51,28 +70,58 @@ pub record Renewed (sizes : List ℕ) (bounds : Bounds) (backs : List ℕ) (list
 
 -- ---- the loop
 
--- `done` steps are done without a fault, and `count` cells counted; a cell with mark 0 has the same fields in grid and scratch
-pub record Underway (words : List ℕ) (rule : Rule) (sizes : List ℕ) (r : Reach) (all-open : Bool) (grid₀ : List ℤ) (start steps : ℕ) (done count : ℕ) (grid scratch : List ℤ) (marks : List ℕ) : Type 0 where
-  pub few-steps : done ≤ steps
-  pub few-cells : count ≤ done * 1048576
-  pub grid-size : length grid ≡ length grid₀
-  pub scratch-size : length scratch ≡ length grid₀
-  pub marks-size : length marks ≡ product sizes
+-- the marks that a step begins with: a cell with mark 0 has the same fields in grid and scratch; all are marked, where all are open
+pub record Standing (rule : Rule) (sizes : List ℕ) (all-open : Bool) (grid scratch : List ℤ) (marks : List ℕ) : Type 0 where
   pub plain : (c : ℕ) → c < product sizes → getD marks c 0 ≤ 1
   pub still : (c : ℕ) → c < product sizes → getD marks c 0 ≡ 0 → cell-of (rule .fields) scratch c ≡ cell-of (rule .fields) grid c
   pub all-marked : all-open ≡ true → marks ≡ marks-of every-cell (product sizes)
-  pub going : (p : Program) (runs : Runs words rule r all-open p) → (pending : ℕ → Bool) × (marks ≡ marks-of (open-in (running p sizes) pending grid grid) (product sizes))
-      × Going (running p sizes) no-blocks every-cell steps start grid₀ pending done count grid
+
+-- `done` steps are done without a fault, and `count` cells counted
+pub record Halfway (rule : Rule) (sizes : List ℕ) (all-open : Bool) (entries steps done count : ℕ) (grid scratch : List ℤ) (marks : List ℕ) : Type 0 where
+  pub few-steps : done ≤ steps
+  pub few-cells : count ≤ done * 1048576
+  pub grid-size : length grid ≡ entries
+  pub scratch-size : length scratch ≡ entries
+  pub marks-size : length marks ≡ product sizes
+  pub standing : Standing rule sizes all-open grid scratch marks
+
+-- the marks with which a run begins are those of all cells, or of the pending ones
+abbrev pub Begun : List ℕ → Bool → List ℕ → (ℕ → Bool) → Type 0
+Begun sizes all-open marks o = marks ≡ marks-of (λ c. all-open || o c) (product sizes)
+
+-- what a run does that began with these marks: the block of the time led from `before` to the grid, and the marks are those of the open cells
+pub record Goes (words : List ℕ) (rule : Rule) (sizes : List ℕ) (r : Reach) (all-open : Bool) (text : List ℕ) (grid₀ : List ℤ) (marks₀ : List ℕ) (start steps done count : ℕ) (before grid : List ℤ) (marks : List ℕ) : Type 0 where
+  pub is : (p : Program) → Runs words rule r all-open p → (o : ℕ → Bool) → Begun sizes all-open marks₀ o
+      → (pending : ℕ → Bool) × (marks ≡ marks-of (open-in (running p sizes) pending before grid) (product sizes)) × Going (running p sizes) (blocks-in sizes rule text) o steps start grid₀ pending done count before
+
+-- the block of the time is not set yet
+pub record Underway (words : List ℕ) (rule : Rule) (sizes : List ℕ) (r : Reach) (all-open : Bool) (text : List ℕ) (grid₀ : List ℤ) (marks₀ : List ℕ) (start steps done count : ℕ) (grid scratch : List ℤ) (marks : List ℕ) : Type 0 where
+  pub so-far : Halfway rule sizes all-open (length grid₀) steps done count grid scratch marks
+  pub goes : Goes words rule sizes r all-open text grid₀ marks₀ start steps done count grid grid marks
+
+-- it is set
+pub record Placed (words : List ℕ) (rule : Rule) (sizes : List ℕ) (r : Reach) (all-open : Bool) (text : List ℕ) (grid₀ : List ℤ) (marks₀ : List ℕ) (start steps done count : ℕ) (grid scratch : List ℤ) (marks : List ℕ) : Type 0 where
+  pub so-far : Halfway rule sizes all-open (length grid₀) steps done count grid scratch marks
+  pub before : List ℤ
+  pub set-is : grid ≡ blocks-in sizes rule text (start + done) before
+  pub goes : Goes words rule sizes r all-open text grid₀ marks₀ start steps done count before grid marks
 
 -- the report that a run gives, with the grid that it leaves
 abbrev pub told : Report → List ℤ → report.Report
-told r grid = record { number = r .number; place = r .place; cell = r .cell; steps = r .steps; count = r .count; grid = grid }
+told r grid = record { number = r .number; place = r .place; line = r .line; cell = r .cell; steps = r .steps; count = r .count; grid = grid }
 
--- the report that n steps give, of which each evaluates the open cells
-abbrev pub steps-report : Program → List ℕ → ℕ → ℕ → List ℤ → report.Report
-steps-report p sizes n t g =
-    let q = quiet-run (running p sizes) no-blocks every-cell n t g in
+abbrev pub without-fault : ℕ → ℕ → Report
+without-fault steps count = record { number = 0; place = 0; line = 0; cell = 0; steps = steps; count = count }
+
+-- the report that n steps with their blocks give, of which each evaluates the open cells, begun with these cells pending
+abbrev pub steps-report : Program → List ℕ → Blocks (List ℤ) → (ℕ → Bool) → ℕ → ℕ → List ℤ → report.Report
+steps-report p sizes block o n t g =
+    let q = quiet-run (running p sizes) block o n t g in
     ended (q .run .fault) (q .run .steps) (q .count) (q .run .grid)
 
-pub record Ran (words : List ℕ) (rule : Rule) (sizes : List ℕ) (r : Reach) (all-open : Bool) (start steps : ℕ) (grid : List ℤ) (said : Report) (grid′ : List ℤ) : Type 0 where
-  pub says : (p : Program) → Runs words rule r all-open p → told said grid′ ≡ steps-report p sizes steps start grid
+pub record Ran (words : List ℕ) (rule : Rule) (sizes : List ℕ) (r : Reach) (all-open : Bool) (text : List ℕ) (start steps : ℕ) (o : ℕ → Bool) (grid : List ℤ) (said : Report) (grid′ : List ℤ) : Type 0 where
+  pub says : (p : Program) → Runs words rule r all-open p → told said grid′ ≡ steps-report p sizes (blocks-in sizes rule text) o steps start grid
+
+-- the same, begun with these marks
+pub record RanMarked (words : List ℕ) (rule : Rule) (sizes : List ℕ) (r : Reach) (all-open : Bool) (text : List ℕ) (start steps : ℕ) (grid : List ℤ) (marks : List ℕ) (said : Report) (grid′ : List ℤ) : Type 0 where
+  pub from : (o : ℕ → Bool) → Begun sizes all-open marks o → Ran words rule sizes r all-open text start steps o grid said grid′

@@ -1,7 +1,13 @@
 // The steps of a run.
+ghost use mathlib.Core.Path.{_≡_};
 ghost use Rattle.marking.specs.Opened as marking;
-ghost use Rattle.iteration.specs.Stepwise.{Begins, Renewed, Ran};
+ghost use Rattle.automaton.specs.Step.{every-cell};
+ghost use Rattle.semantics.specs.Leaves.{Leaves};
+ghost use Rattle.marking.specs.Opened.{WayOf};
+ghost use Rattle.iteration.specs.Stepwise.{without-fault, Begins, Standing, Renewed, RanMarked, Ran};
 use crate::Report;
+use crate::blocks::next_block;
+use crate::blocks::set_due;
 use leaf_table::fill_leaves;
 use marked_cells::rooms::mark_all;
 use marking::mark_open;
@@ -11,6 +17,21 @@ use stepper::Bounds;
 use stepper::Reach;
 use stepping::Step;
 use stepping::steps::step;
+use token::bytes::kind_table;
+
+// The report of a run without a fault.
+fn ended(steps: u32, count: u64) -> Report
+    ensures { λ r. ⌜ r ≡ without-fault steps count ⌝ }
+{
+    Report {
+        number: 0,
+        place: 0,
+        line: 0,
+        cell: 0,
+        steps: steps,
+        count: count,
+    }
+}
 
 // The marks for the next step: all cells stay open, or those are marked that the last step opened. `old` holds the fields before it.
 fn renew_marks(
@@ -32,8 +53,95 @@ fn renew_marks(
     }
 }
 
-// Runs so many steps from a time on, up to the first that faults. In the first step all cells are open; later all, or those that the step before
+// Runs so many steps from a time on, up to the first that faults. Before each the block of its time is set, and behind the last the block of the time then
+// reached. In the first step the marked cells are open, and those that its block opens; later all, or those that the step before or a block since then
 // opened. Each step evaluates the open cells alone.
+fn run_marked(
+    leaves: &[u32; 32776],
+    words: &[u32],
+    rule: Rule,
+    sizes: &[u32],
+    reach: Reach,
+    backs: &[u32],
+    listed: usize,
+    all_open: bool,
+    grid: &mut [i32],
+    scratch: &mut [i32],
+    marks: &mut [u8],
+    values: &[u8],
+    start: u32,
+    steps: u32,
+) -> Report
+    requires { ⌜ (Begins (now words) rule (now sizes) reach (now grid) (now scratch) (now marks) (now values) start steps) × (Standing rule (now sizes) all_open (now grid) (now scratch) (now marks)) × (Leaves (now leaves) (now words) (now sizes) (rule .tokens) (rule .fields) (rule .slots)) × (WayOf (now sizes) reach (now backs) listed) ⌝ }
+    ensures { λ r. ⌜ RanMarked (now (words .entry)) rule (now (sizes .entry)) reach all_open (now (values .entry)) start steps (now (grid .entry)) (now (marks .entry)) r (now (grid .exit)) ⌝ }
+{
+    let kinds = kind_table();
+    let mut next = next_block(values, &kinds, 0);
+    let mut done: u32 = 0;
+    let mut count: u64 = 0;
+    while done <= steps {
+        let bounds = reach.bounds;
+        next = set_due(
+            values,
+            &kinds,
+            sizes,
+            bounds,
+            backs,
+            listed,
+            all_open,
+            rule.fields,
+            grid,
+            scratch,
+            marks,
+            start + done,
+            next,
+        );
+        if done == steps {
+            return ended(steps, count);
+        }
+        match step(
+            leaves,
+            words,
+            rule,
+            sizes,
+            grid,
+            scratch,
+            marks,
+            start + done,
+            count,
+        ) {
+            Step::Done(counted) => {
+                count = counted;
+            }
+            Step::Fault(cell, number, place, counted) => {
+                return Report {
+                    number,
+                    place,
+                    line: 0,
+                    cell,
+                    steps: done,
+                    count: counted,
+                };
+            }
+        }
+        renew_marks(
+            sizes,
+            bounds,
+            backs,
+            listed,
+            all_open,
+            rule.fields as usize,
+            scratch,
+            grid,
+            marks,
+        );
+        done += 1;
+    }
+    // the loop is left by its returns alone
+    ended(steps, count)
+}
+
+// Runs so many steps from a time on, with their blocks, up to the first that faults. In the first step all cells are open.
 pub fn run_steps(
     words: &[u32],
     rule: Rule,
@@ -43,72 +151,39 @@ pub fn run_steps(
     grid: &mut [i32],
     scratch: &mut [i32],
     marks: &mut [u8],
+    values: &[u8],
     start: u32,
     steps: u32,
 ) -> Report
-    requires { ⌜ Begins (now words) rule (now sizes) reach (now grid) (now scratch) (now marks) start steps ⌝ }
-    ensures { λ r. ⌜ Ran (now (words .entry)) rule (now (sizes .entry)) reach all_open start steps (now (grid .entry)) r (now (grid .exit)) ⌝ }
+    requires { ⌜ Begins (now words) rule (now sizes) reach (now grid) (now scratch) (now marks) (now values) start steps ⌝ }
+    ensures { λ r. ⌜ Ran (now (words .entry)) rule (now (sizes .entry)) reach all_open (now (values .entry)) start steps every-cell (now (grid .entry)) r (now (grid .exit)) ⌝ }
 {
-    let fields = rule.fields as usize;
     let mut leaves = [0u32; 32776];
     fill_leaves(
         words,
         sizes,
         rule.tokens,
-        fields,
+        rule.fields as usize,
         rule.slots as usize,
         &mut leaves,
     );
     let mut backs = [0u32; 768];
     let listed = set_ways(sizes, reach, &mut backs);
     mark_all(marks);
-    let mut done: u32 = 0;
-    let mut count: u64 = 0;
-    while done < steps {
-        let s = step(
-            &leaves,
-            words,
-            rule,
-            sizes,
-            grid,
-            scratch,
-            marks,
-            start + done,
-            count,
-        );
-        match s {
-            Step::Done(counted) => {
-                count = counted;
-            }
-            Step::Fault(cell, number, place, counted) => {
-                return Report {
-                    number,
-                    place,
-                    cell,
-                    steps: done,
-                    count: counted,
-                };
-            }
-        }
-        let bounds = reach.bounds;
-        renew_marks(
-            sizes,
-            bounds,
-            &backs,
-            listed,
-            all_open,
-            fields,
-            scratch,
-            grid,
-            marks,
-        );
-        done += 1;
-    }
-    Report {
-        number: 0,
-        place: 0,
-        cell: 0,
-        steps: done,
-        count: count,
-    }
+    run_marked(
+        &leaves,
+        words,
+        rule,
+        sizes,
+        reach,
+        &backs,
+        listed,
+        all_open,
+        grid,
+        scratch,
+        marks,
+        values,
+        start,
+        steps,
+    )
 }

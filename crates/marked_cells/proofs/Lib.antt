@@ -1,6 +1,6 @@
 -- The laws by which the functions are proved, by topic.
 mod ClearLaws
-mod RoomLaws
+pub mod RoomLaws
 pub mod ScanLaws
 mod PlaceLaws
 pub mod PartLaws

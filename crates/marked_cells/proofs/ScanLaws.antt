@@ -20,7 +20,7 @@ below-or a b = go (ltb a b) refl
     go true e = inl (ltb-true a b e)
     go false e = inr (ltb-false a b e)
 
-non-zero-true : (n : ℕ) → (n ≡ 0 → ⊥) → non-zero n ≡ true
+pub non-zero-true : (n : ℕ) → (n ≡ 0 → ⊥) → non-zero n ≡ true
 non-zero-true zero h = absurd (h refl)
 non-zero-true (suc n) h = refl
 

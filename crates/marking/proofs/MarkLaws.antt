@@ -7,8 +7,7 @@ use mathlib.Core.Path.{_≡_, refl, sym, ap, _∙_}
 use mathlib.Core.Bool.{Bool, true, false, not}
 use mathlib.Core.Logic.{_⊎_, inl, inr}
 use mathlib.Core.List.{List, [], _∷_}
-use lib.ListN.{length, getD, set, length-set}
-use lib.Seq.{getD-set-same, getD-set-other}
+use lib.ListN.{length, getD, set}
 use lib.IntN.{ℤ, pos, negsuc}
 use borrow.Author.Tests.{eq-eqb, not-false}
 use Rattle.value.specs.Number.{eqZ}
@@ -17,6 +16,7 @@ use Rattle.automaton.specs.Listed.{getD-list-of, list-of-ext, last-or-below}
 use Rattle.automaton.specs.Grid.{cell-of, differ}
 use Rattle.automaton.specs.GridLaws.{differ-false}
 use Rattle.marked_cells.specs.Clear.{Clear}
+use Rattle.marked_cells.proofs.RoomLaws.{Changing, changing-start, changing-more}
 use Rattle.marking.specs.Noting.{NextOdd, Halved}
 
 -- ---- cells that changed
@@ -99,26 +99,14 @@ next-more marks from c {r} s l out z = record {
 -- ---- halving
 
 -- the first c marks are halved
-pub record Halving (marks₀ marks : List ℕ) (c : ℕ) : Type 0 where
-  pub len : length marks ≡ length marks₀
-  pub below : (k : ℕ) → k < c → getD marks k 0 ≡ getD marks₀ k 0 / 2
-  pub above : (k : ℕ) → c ≤ k → getD marks k 0 ≡ getD marks₀ k 0
+abbrev pub Halving : List ℕ → List ℕ → ℕ → Type 0
+Halving marks₀ marks c = Changing (λ k. getD marks₀ k 0 / 2) 0 marks₀ c marks
 
 pub halving-start : (marks : List ℕ) → Halving marks marks 0
-halving-start marks = record { len = refl; below = λ k l. absurd (not-suc-le-zero l); above = λ k l. refl }
+halving-start marks = changing-start (λ k. getD marks k 0 / 2) 0 marks
 
 pub halving-more : (marks₀ marks : List ℕ) (c : ℕ) → Halving marks₀ marks c → c < length marks₀ → Halving marks₀ (set marks c (getD marks c 0 / 2)) (c + 1)
-halving-more marks₀ marks c h l = record {
-  len = length-set marks c _ ∙ h .len;
-  below = λ k q. at k (last-or-below (let w : k < suc c = omega arith in w));
-  above = λ k q. getD-set-other marks c k _ 0 (λ r. absurd (let w = r in omega arith)) ∙ h .above k (omega arith);
-}
-  where
-    at : (k : ℕ) → (k ≡ c) ⊎ (k < c) → getD (set marks c (getD marks c 0 / 2)) k 0 ≡ getD marks₀ k 0 / 2
-    at k (inl r) =
-        ap (λ (x : ℕ). getD (set marks c (getD marks c 0 / 2)) x 0) r ∙ getD-set-same marks c _ 0 (omega (arith, h .len))
-        ∙ ap (λ (x : ℕ). x / 2) (h .above c (omega arith) ∙ ap (λ (x : ℕ). getD marks₀ x 0) (sym r))
-    at k (inr r) = getD-set-other marks c k _ 0 (λ s. absurd (let w = s in omega arith)) ∙ h .below k r
+halving-more marks₀ marks c h l = changing-more (λ k. getD marks₀ k 0 / 2) 0 marks₀ c marks _ h l (ap (λ (x : ℕ). x / 2) (h .above c (omega arith)))
 
 pub halving-done : (marks₀ marks : List ℕ) (c : ℕ) → Halving marks₀ marks c → length marks₀ ≤ c → Halved marks₀ marks
-halving-done marks₀ marks c h l = record { len = h .len; each = λ k q. h .below k (omega arith) }
+halving-done marks₀ marks c h l = record { len = h .made .len; each = λ k q. h .made .below k (omega arith) }

@@ -3,14 +3,14 @@ use Prim.Native.Nat.{ℕ, zero, suc, _+_, _*_, _/_, _%_, _≤_, _<_}
 use native.Mathlib.Nat.{mod-lt, mul-le-mul}
 use native.Mathlib.Omega.{arith}
 use mathlib.Core.Path.{_≡_, refl, sym, ap, _∙_, subst}
-use mathlib.Core.Bool.{Bool, true, false, cond, true≢false}
+use mathlib.Core.Bool.{Bool, true, false, cond, _||_, or-true, or-false, true≢false}
 use mathlib.Core.List.{List, [], _∷_, List·Memᴰ, List·Memᴰ·not-nil, Memᴰ·of-map}
 use lib.ListN.{length, getD}
 use lib.Seq.{ext-getD}
 use lib.IntN.{ℤ}
 use borrow.Author.Tests.{lt-ltb, le-ltb}
 use Rattle.automaton.specs.Listed.{list-of, length-list-of, getD-list-of, list-of-ext}
-use Rattle.automaton.specs.Step.{marks-of}
+use Rattle.automaton.specs.Step.{non-zero, marked, marks-of}
 use Rattle.automaton.specs.Quiet.{any-of-false, any-of-true}
 use Rattle.automaton.specs.Shape.{product, cell-number, neighbour, reach-of}
 use Rattle.automaton.specs.ShapeLaws.{Positive, coordinates-inside, inside-at, neighbour-lt}
@@ -21,7 +21,8 @@ use Rattle.stepper.specs.Digits.{size-positive}
 use Rattle.stepper.specs.declared.Bounds.{Bounds}
 use Rattle.place_marks.specs.Placing.{cell-from, Placed, note-places, Coordinates}
 use Rattle.place_marks.proofs.BackLaws.{placed}
-use Rattle.marking.specs.Opened.{opened, Ready, Ways, Marks}
+use Rattle.marked_cells.proofs.ScanLaws.{non-zero-true}
+use Rattle.marking.specs.Opened.{opened, Markable, Ready, Ways, Marks, MarksChanged}
 use Rattle.marking.specs.Noting.{note, note-all, rows, box-cells, opened-from, cells-opened, cells-back, cells-by, opened-by, Boxed, Shaped, Led, Below, Firsts, Counts, NextOdd, Halved}
 use Rattle.marking.proofs.NotingLaws.{length-note-all, note-all-append, note-out, note-in, note-parity, mem-rows, rows-skip}
 use Rattle.marking.proofs.BoxLaws.{entry, box-same}
@@ -107,7 +108,7 @@ pub record Opening (cells : ℕ → List ℕ) (fields : ℕ) (old grid : List �
   pub turn : c ≤ length marks₀
   pub says : marks ≡ note-all (rows (opened-by cells fields old grid) c) marks₀
 
-module _ (ns : List ℕ) (bounds : Bounds) (steps : List ℕ) (listed fields : ℕ) (old grid : List ℤ) (marks₀ : List ℕ) (s : Ready ns bounds steps listed fields old grid marks₀) where
+module _ (ns : List ℕ) (bounds : Bounds) (steps : List ℕ) (listed fields : ℕ) (old grid : List ℤ) (marks₀ : List ℕ) (s : Markable ns bounds steps listed fields old grid marks₀) where
   abbrev Cells : ℕ → List ℕ
   Cells = cells-by ns bounds steps listed
 
@@ -135,27 +136,15 @@ module _ (ns : List ℕ) (bounds : Bounds) (steps : List ℕ) (listed fields : �
         says = q ∙ ap (note-all (By c)) (o .says) ∙ sym (note-all-append (rows By c) (By c) marks₀) ∙ ap (λ (k : ℕ). note-all (rows By k) marks₀) e;
       }
 
-  -- a cell with an even mark opens none
-  still-none : (k : ℕ) → k < length marks₀ → getD marks₀ k 0 % 2 ≡ 0 → By k ≡ []
-  unfolding opened-by
-  still-none k l e =
-      let lk : k < product ns = omega (arith, s .marks-fit) in
-      let z : getD marks₀ k 0 ≡ 0 = omega (arith, s .plain k lk) in
-      let d : Moved k ≡ false = ap (λ (a : List ℤ). differ a (cell-of fields grid k)) (s .still k lk z) ∙ differ-self (cell-of fields grid k) in
-      ap (λ (t : Bool). cond t (Cells k) []) d
+  -- cells that open none are passed over
+  opening-past : (marks : List ℕ) (a r : ℕ) → Opening Cells fields old grid marks₀ marks a → a ≤ r → r ≤ length marks₀ → ((k : ℕ) → a ≤ k → k < r → By k ≡ [])
+      → Opening Cells fields old grid marks₀ marks r
+  opening-past marks a r o l m none = record { len = o .len; turn = m; says = o .says ∙ ap (λ (cs : List ℕ). note-all cs marks₀) (sym (rows-skip By a r l none)) }
 
-  pub opening-skip : (marks : List ℕ) (a r : ℕ) → Opening Cells fields old grid marks₀ marks a → NextOdd marks a r → Opening Cells fields old grid marks₀ marks r
-  opening-skip marks a r o n = record {
-    len = o .len;
-    turn = omega (arith, n .end, o .len);
-    says = o .says ∙ ap (λ (cs : List ℕ). note-all cs marks₀) (sym (rows-skip By a r (n .low) none));
-  }
-    where
-      none : (k : ℕ) → a ≤ k → k < r → By k ≡ []
-      none k p q =
-          let l : k < length marks₀ = omega (arith, n .end, o .len) in
-          let e : getD marks k 0 % 2 ≡ getD marks₀ k 0 % 2 = ap (λ (m : List ℕ). getD m k 0 % 2) (o .says) ∙ note-parity (rows By a) k marks₀ l in
-          still-none k l (sym e ∙ n .passed k p q)
+  -- a cell that did not change opens none
+  same-none : (k : ℕ) → cell-of fields old k ≡ cell-of fields grid k → By k ≡ []
+  unfolding opened-by
+  same-none k e = ap (λ (t : Bool). cond t (Cells k) []) (ap (λ (a : List ℤ). differ a (cell-of fields grid k)) e ∙ differ-self (cell-of fields grid k))
 
   module _ (dss : List (List ℤ)) (w : Ways ns bounds steps listed dss) where
     opened-mem : (c x : ℕ) → c < product ns → x < product ns → List·Memᴰ x (reach-of ns dss c) → Moved x ≡ true → List·Memᴰ c (By x)
@@ -176,40 +165,82 @@ module _ (ns : List ℕ) (bounds : Bounds) (steps : List ℕ) (listed fields : �
         let r = Memᴰ·of-map (neighbour ns c) dss m in
         subst (λ (y : ℕ). y < product ns) (r .2) (neighbour-lt ns (s .prepared .positive) c (r .0) lc (w .alike (r .0) (r .1)))
 
-    halved-open : (marks marks′ : List ℕ) (c : ℕ) → Opening Cells fields old grid marks₀ marks c → length marks₀ ≤ c → Halved marks marks′
-        → marks′ ≡ marks-of (opened ns dss fields old grid) (product ns)
-    unfolding marks-of
-    halved-open marks marks′ c o l h =
-        ext-getD 0 marks′ _ (size ∙ sym (length-list-of _ (product ns)))
-        (λ k q. let lk : k < product ns = omega (arith, size) in
-        h .each k (omega (arith, h .len)) ∙ at k lk (opened ns dss fields old grid k) refl
-        ∙ sym (getD-list-of (λ y. cond (opened ns dss fields old grid y) 1 0) (product ns) k 0 lk))
+    -- the marks behind the last cell
+    noted : (marks : List ℕ) (c : ℕ) → Opening Cells fields old grid marks₀ marks c → length marks₀ ≤ c → (k : ℕ) → k < product ns
+        → getD marks k 0 ≡ cond (opened ns dss fields old grid k) (getD marks₀ k 0 % 2 + 2) (getD marks₀ k 0)
+    noted marks c o l k lk = by (opened ns dss fields old grid k) refl
       where
-        size : length marks′ ≡ product ns
-        size = h .len ∙ o .len ∙ s .marks-fit
-
         end : c ≡ product ns
         end = omega (arith, o .turn, s .marks-fit)
 
-        says : marks ≡ note-all (rows By (product ns)) marks₀
-        says = o .says ∙ ap (λ (y : ℕ). note-all (rows By y) marks₀) end
+        says : getD marks k 0 ≡ getD (note-all (rows By (product ns)) marks₀) k 0
+        says = ap (λ (z : List ℕ). getD z k 0) (o .says ∙ ap (λ (y : ℕ). note-all (rows By y) marks₀) end)
 
-        at : (k : ℕ) → k < product ns → (t : Bool) → opened ns dss fields old grid k ≡ t → getD marks k 0 / 2 ≡ cond t 1 0
-        at k lk true e =
+        by : (t : Bool) → opened ns dss fields old grid k ≡ t → getD marks k 0 ≡ cond t (getD marks₀ k 0 % 2 + 2) (getD marks₀ k 0)
+        by true e =
             let r = any-of-true Moved (reach-of ns dss k) e in
             let lx = in-reach k (r .0) lk (r .1) in
             let m = mem-rows By k (product ns) .1 (r .0, lx, opened-mem k (r .0) lk lx (r .1) (r .2)) in
-            let v : getD marks k 0 ≡ getD marks₀ k 0 % 2 + 2 = ap (λ (z : List ℕ). getD z k 0) says ∙ note-in (rows By (product ns)) k marks₀ (omega (arith, s .marks-fit)) m in
-            omega (arith, v)
-        at k lk false e =
+            says ∙ note-in (rows By (product ns)) k marks₀ (omega (arith, s .marks-fit)) m
+        by false e =
             let out : List·Memᴰ k (rows By (product ns)) → ⊥ =
             λ m. let r = mem-rows By k (product ns) .0 m in
             let p = mem-opened k (r .0) lk (r .1) (r .2) in
             absurd (true≢false (sym (p .1) ∙ any-of-false Moved (reach-of ns dss k) e (r .0) (p .0)))
             in
-            let v : getD marks k 0 ≡ getD marks₀ k 0 = ap (λ (z : List ℕ). getD z k 0) says ∙ note-out (rows By (product ns)) k marks₀ out in
-            omega (arith, v, s .plain k lk)
+            says ∙ note-out (rows By (product ns)) k marks₀ out
 
-  pub opening-done : (marks marks′ : List ℕ) (c : ℕ) → Opening Cells fields old grid marks₀ marks c → length marks₀ ≤ c → Halved marks marks′
+    flagged-open : (marks marks′ : List ℕ) (c : ℕ) → Opening Cells fields old grid marks₀ marks c → length marks₀ ≤ c → marks′ ≡ marks-of (marked marks) (length marks)
+        → marks′ ≡ marks-of (λ k. marked marks₀ k || opened ns dss fields old grid k) (product ns)
+    unfolding marks-of marked
+    flagged-open marks marks′ c o l e =
+        e ∙ ap (marks-of (marked marks)) (o .len ∙ s .marks-fit)
+        ∙ list-of-ext _ _ (product ns) (λ k lk. ap (λ (m : ℕ). cond (non-zero m) 1 0) (noted marks c o l k lk) ∙ ap (λ (b : Bool). cond b 1 0) (either (opened ns dss fields old grid k) (getD marks₀ k 0)))
+      where
+        either : (t : Bool) (m : ℕ) → non-zero (cond t (m % 2 + 2) m) ≡ (non-zero m || t)
+        either true m = non-zero-true (m % 2 + 2) (λ e. let z = e in omega arith) ∙ sym (or-true (non-zero m))
+        either false m = sym (or-false (non-zero m))
+
+  pub changed-done : (marks marks′ : List ℕ) (c : ℕ) → Opening Cells fields old grid marks₀ marks c → length marks₀ ≤ c → marks′ ≡ marks-of (marked marks) (length marks)
+      → MarksChanged ns bounds steps listed fields old grid marks₀ marks′
+  changed-done marks marks′ c o l e = record { says = λ dss w. flagged-open dss w marks marks′ c o l e }
+
+-- ---- the marks of a step
+
+module _ (ns : List ℕ) (bounds : Bounds) (steps : List ℕ) (listed fields : ℕ) (old grid : List ℤ) (marks₀ : List ℕ) (s : Ready ns bounds steps listed fields old grid marks₀) where
+  -- a cell with an even mark opens none
+  still-none : (k : ℕ) → k < length marks₀ → getD marks₀ k 0 % 2 ≡ 0 → opened-by (cells-by ns bounds steps listed) fields old grid k ≡ []
+  still-none k l e =
+      let lk : k < product ns = omega (arith, s .markable .marks-fit) in
+      let z : getD marks₀ k 0 ≡ 0 = omega (arith, s .plain k lk) in
+      same-none ns bounds steps listed fields old grid marks₀ (s .markable) k (s .still k lk z)
+
+  pub opening-skip : (marks : List ℕ) (a r : ℕ) → Opening (cells-by ns bounds steps listed) fields old grid marks₀ marks a → NextOdd marks a r
+      → Opening (cells-by ns bounds steps listed) fields old grid marks₀ marks r
+  opening-skip marks a r o n = opening-past ns bounds steps listed fields old grid marks₀ (s .markable) marks a r o (n .low) (omega (arith, n .end, o .len)) none
+    where
+      none : (k : ℕ) → a ≤ k → k < r → opened-by (cells-by ns bounds steps listed) fields old grid k ≡ []
+      none k p q =
+          let l : k < length marks₀ = omega (arith, n .end, o .len) in
+          let e : getD marks k 0 % 2 ≡ getD marks₀ k 0 % 2 = ap (λ (m : List ℕ). getD m k 0 % 2) (o .says) ∙ note-parity (rows (opened-by (cells-by ns bounds steps listed) fields old grid) a) k marks₀ l in
+          still-none k l (sym e ∙ n .passed k p q)
+
+  halved-open : (dss : List (List ℤ)) → Ways ns bounds steps listed dss → (marks marks′ : List ℕ) (c : ℕ) → Opening (cells-by ns bounds steps listed) fields old grid marks₀ marks c → length marks₀ ≤ c
+      → Halved marks marks′ → marks′ ≡ marks-of (opened ns dss fields old grid) (product ns)
+  unfolding marks-of
+  halved-open dss w marks marks′ c o l h =
+      ext-getD 0 marks′ _ (size ∙ sym (length-list-of _ (product ns)))
+      (λ k q. let lk : k < product ns = omega (arith, size) in
+      h .each k (omega (arith, h .len)) ∙ at k lk (opened ns dss fields old grid k) (noted ns bounds steps listed fields old grid marks₀ (s .markable) dss w marks c o l k lk)
+      ∙ sym (getD-list-of (λ y. cond (opened ns dss fields old grid y) 1 0) (product ns) k 0 lk))
+    where
+      size : length marks′ ≡ product ns
+      size = h .len ∙ o .len ∙ s .markable .marks-fit
+
+      at : (k : ℕ) → k < product ns → (t : Bool) → getD marks k 0 ≡ cond t (getD marks₀ k 0 % 2 + 2) (getD marks₀ k 0) → getD marks k 0 / 2 ≡ cond t 1 0
+      at k lk true v = omega arith
+      at k lk false v = omega (arith, s .plain k lk)
+
+  pub opening-done : (marks marks′ : List ℕ) (c : ℕ) → Opening (cells-by ns bounds steps listed) fields old grid marks₀ marks c → length marks₀ ≤ c → Halved marks marks′
       → Marks ns bounds steps listed fields old grid marks′
   opening-done marks marks′ c o l h = record { says = λ dss w. halved-open dss w marks marks′ c o l h }

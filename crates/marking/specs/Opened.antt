@@ -1,13 +1,13 @@
--- Which cells are open after a step, what is asked before they are marked, and which way that goes.
+-- Which cells are open after a step or a block, what is asked before they are marked, and which way that goes.
 use mathlib.Core.Path.{_≡_, refl}
 use mathlib.Core.Logic.{_↔_}
-use mathlib.Core.Bool.{Bool}
+use mathlib.Core.Bool.{Bool, _||_}
 use mathlib.Core.List.{List, List·Memᴰ, map}
 use mathlib.Core.Option.{some}
 use Prim.Native.Nat.{ℕ, _*_, _<_, _≤_}
 use lib.ListN.{length, getD}
 use lib.IntN.{ℤ}
-use Rattle.automaton.specs.Step.{any-of, changed, touched, marks-of}
+use Rattle.automaton.specs.Step.{any-of, changed, touched, marked, marks-of}
 use Rattle.automaton.specs.Shape.{product, width, box-indices, reach-of}
 use Rattle.automaton.specs.ShapeLaws.{Positive, Alike}
 use Rattle.automaton.specs.Grid.{cell-of, differ, automaton}
@@ -41,14 +41,18 @@ pub record Prepared (sizes : List ℕ) (bounds : Bounds) : Type 0 where
   -- no index is larger in size than its dimension
   pub near : Near sizes bounds
 
--- what is asked before the open cells are marked: the marks are those of the step that led from `old` to `grid`
-pub record Ready (sizes : List ℕ) (bounds : Bounds) (steps : List ℕ) (listed fields : ℕ) (old grid : List ℤ) (marks : List ℕ) : Type 0 where
+-- what is asked before cells are marked: the way, the grids and the marks fit the sizes
+pub record Markable (sizes : List ℕ) (bounds : Bounds) (steps : List ℕ) (listed fields : ℕ) (old grid : List ℤ) (marks : List ℕ) : Type 0 where
   pub prepared : Prepared sizes bounds
   pub led : Led sizes steps listed
   pub few : fields ≤ 8
   pub old-fits : length old ≡ product sizes * fields
   pub grid-fits : length grid ≡ product sizes * fields
   pub marks-fit : length marks ≡ product sizes
+
+-- and where the marks are those of the step that led from `old` to `grid`
+pub record Ready (sizes : List ℕ) (bounds : Bounds) (steps : List ℕ) (listed fields : ℕ) (old grid : List ℤ) (marks : List ℕ) : Type 0 where
+  pub markable : Markable sizes bounds steps listed fields old grid marks
   -- every mark is 0 or 1
   pub plain : (c : ℕ) → c < product sizes → getD marks c 0 ≤ 1
   -- a cell with mark 0 did not change
@@ -62,6 +66,10 @@ pub record Ways (sizes : List ℕ) (bounds : Bounds) (steps : List ℕ) (listed 
 -- the marks are those of the open cells, for the index vectors that the way stands for
 pub record Marks (sizes : List ℕ) (bounds : Bounds) (steps : List ℕ) (listed fields : ℕ) (old grid : List ℤ) (marks : List ℕ) : Type 0 where
   pub says : (dss : List (List ℤ)) → Ways sizes bounds steps listed dss → marks ≡ marks-of (opened sizes dss fields old grid) (product sizes)
+
+-- the marks are those of the cells that were marked, and of the open cells
+pub record MarksChanged (sizes : List ℕ) (bounds : Bounds) (steps : List ℕ) (listed fields : ℕ) (old grid : List ℤ) (marks marks′ : List ℕ) : Type 0 where
+  pub says : (dss : List (List ℤ)) → Ways sizes bounds steps listed dss → marks′ ≡ marks-of (λ c. marked marks c || opened sizes dss fields old grid c) (product sizes)
 
 -- a reach record that has the own cell; where it has as many places as the box has index vectors, these are the same
 pub record Sound (r : Reach) (dims : ℕ) : Type 0 where

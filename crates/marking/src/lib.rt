@@ -3,16 +3,17 @@ ghost use mathlib.Core.Path.{_≡_};
 ghost use Prim.Native.Nat.{_*_, _<_, _≤_};
 ghost use lib.ListN.{length};
 ghost use Rattle.automaton.specs.Shape.{product};
-ghost use Rattle.marking.specs.Opened.{Ready, Marks};
+ghost use Rattle.marking.specs.Opened.{Markable, Ready, Marks, MarksChanged};
 ghost use Rattle.marking.specs.Noting.{note-all, cells-by, opened-by, Shaped, Led, Counts};
 use crate::marks::differs;
 use crate::marks::halve;
 use crate::marks::next_odd;
 use crate::opening::counts_of;
 use crate::opening::open_from;
+use marked_cells::rooms::flag_marks;
 use stepper::Bounds;
 
-mod marks;
+pub mod marks;
 mod opening;
 pub mod ways;
 
@@ -71,4 +72,40 @@ pub fn mark_open(
         c = next_odd(marks, c + 1);
     }
     halve(marks);
+}
+
+// After a block was set: marks, beside the cells that are marked already, those that have a cell in their reach that the block changed.
+// `old` holds the fields before the block, `grid` those after it.
+pub fn mark_changed(
+    sizes: &[u32],
+    bounds: Bounds,
+    steps: &[u32],
+    listed: usize,
+    fields: usize,
+    old: &[i32],
+    grid: &[i32],
+    marks: &mut [u8],
+)
+    requires { ⌜ Markable (now sizes) bounds (now steps) listed fields (now old) (now grid) (now marks) ⌝ }
+    ensures { λ _. ⌜ MarksChanged (now (sizes .entry)) bounds (now (steps .entry)) listed fields (now (old .entry)) (now (grid .entry)) (now (marks .entry)) (now (marks .exit)) ⌝ }
+{
+    let counts = counts_of(sizes, bounds);
+    let n = marks.len();
+    let mut c = 0;
+    while c < n {
+        open_changed(
+            sizes,
+            bounds,
+            &counts,
+            steps,
+            listed,
+            fields,
+            old,
+            grid,
+            c,
+            marks,
+        );
+        c += 1;
+    }
+    flag_marks(marks);
 }

@@ -34,11 +34,12 @@ pub fn run(
     grid: &mut [i32],
     scratch: &mut [i32],
     marks: &mut [u8],
+    values: &[u8],
     start: i64,
     steps: i64,
     quiet: bool,
 ) -> Ran
-    ensures { λ r. ⌜ RunLeaves row-names (counting-of quiet) (lent (now (source .entry)) (now (list .entry)) (now (sizes .entry)) (memory (now (words .entry)) rows (now (grid .entry)) (now (scratch .entry)) (now (marks .entry))) start steps) (r .report) (memory (now (words .exit)) (r .rows) (now (grid .exit)) (now (scratch .exit)) (now (marks .exit))) ⌝ }
+    ensures { λ r. ⌜ RunLeaves row-names (counting-of quiet) (lent (now (source .entry)) (now (list .entry)) (now (sizes .entry)) (memory (now (words .entry)) rows (now (grid .entry)) (now (scratch .entry)) (now (marks .entry))) (now (values .entry)) start steps) (r .report) (memory (now (words .exit)) (r .rows) (now (grid .exit)) (now (scratch .exit)) (now (marks .exit))) ⌝ }
 {
     let mut names = rows;
     let report = cellang::run(
@@ -50,6 +51,7 @@ pub fn run(
         grid,
         scratch,
         marks,
+        values,
         start,
         steps,
         quiet,

@@ -1,2 +1,2 @@
 -- Laws of a line that is written.
-mod Lines
+pub mod Lines

@@ -45,7 +45,7 @@ unfolding digits-of
 one-digit zero n h = refl
 one-digit (suc most) n h = ap (λ (t : Bool). elim t [ true ↦ (48 + n) ∷ [] | false ↦ digits-of most (n / 10) ++ (48 + n % 10) ∷ [] ]) (lt-ltb n 10 h)
 
-more-digits : (most n : ℕ) → 10 ≤ n → digits-of (suc most) n ≡ digits-of most (n / 10) ++ (48 + n % 10) ∷ []
+pub more-digits : (most n : ℕ) → 10 ≤ n → digits-of (suc most) n ≡ digits-of most (n / 10) ++ (48 + n % 10) ∷ []
 unfolding digits-of
 more-digits most n h = ap (λ (t : Bool). elim t [ true ↦ (48 + n) ∷ [] | false ↦ digits-of most (n / 10) ++ (48 + n % 10) ∷ [] ]) (le-ltb n 10 h)
 

@@ -8,6 +8,7 @@ use lib.IntN.{ℤ}
 use mir.Syntax.{w64}
 use mir.Val.{SFits, toZ, ofZ}
 use Rattle.token.specs.Lexeme.{built-in-names}
+use Rattle.services.specs.Running.{ask}
 use Rattle.services.specs.Services.{run-source}
 use Rattle.services.specs.Calls.{Memory, memory, lent}
 use Rattle.admission.specs.Admitting.{request-of}
@@ -23,13 +24,13 @@ unfolding rows-fit
 fit w n = rw (← w, ← n) refl
 
 -- the times as the machine reads them
-pub runs-of : {quiet : Bool} {source ws : List ℕ} {ns : List Name} {sizes : List ℕ} {grid scratch : List ℤ} {marks : List ℕ} {start steps : ℤ} {r : Report} {left : Memory Name}
+pub runs-of : {quiet : Bool} {source ws : List ℕ} {ns : List Name} {sizes : List ℕ} {grid scratch : List ℤ} {marks values : List ℕ} {start steps : ℤ} {r : Report} {left : Memory Name}
     → 16384 ≡ length ws → 256 ≡ length ns → SFits w64 start → SFits w64 steps
-    → RunLeaves row-names (counting-of quiet) (lent source built-in-names sizes (memory ws ns grid scratch marks) (toZ w64 (ofZ w64 start)) (toZ w64 (ofZ w64 steps))) r left
-    → Runs quiet source sizes grid (length scratch) (length marks) start steps r (left .grid)
-runs-of {quiet} {source} {ws} {ns} {sizes} {grid} {scratch} {marks} {start} {steps} w n h k leaves =
+    → RunLeaves row-names (counting-of quiet) (lent source built-in-names sizes (memory ws ns grid scratch marks) values (toZ w64 (ofZ w64 start)) (toZ w64 (ofZ w64 steps))) r left
+    → Runs quiet source sizes grid (length scratch) (length marks) values start steps r (left .grid)
+runs-of {quiet} {source} {ws} {ns} {sizes} {grid} {scratch} {marks} {values} {start} {steps} w n h k leaves =
     record {
       report =
           left-report (read-times h k leaves)
-          ∙ ap (λ (fits : Bool). run-source (counting-of quiet) fits source (request-of sizes grid (length scratch) (length marks) start steps)) (ap₂ (λ (a b : Bool). a && b) the-list (fit w n));
+          ∙ ap (λ (fits : Bool). run-source (counting-of quiet) fits source (ask (request-of sizes grid (length scratch) (length marks) start steps) values)) (ap₂ (λ (a b : Bool). a && b) the-list (fit w n));
     }

@@ -1,4 +1,5 @@
 // The report of a run in words.
+use crate::values::say_list_line;
 use console::lines::say_line;
 use console::places::position_of;
 use console::places::say_cell;
@@ -16,12 +17,20 @@ fn is_fault(number: u32) -> bool {
     number >= 30 && number <= 33
 }
 
-// Whether a reply has a place in the source: the other refusals of a source are 1 and 2.
+// Whether a reply has a place in the source: the other refusals of a source are 1 and 2, and those of a list begin at 50.
 fn has_place(number: u32) -> bool {
     if number < 3 {
         return false;
     }
-    number < 20 || number == 23 || number >= 30
+    if number < 20 || number == 23 {
+        return true;
+    }
+    number >= 30 && number < 50
+}
+
+// Whether a reply has a line of the value list.
+fn has_line(number: u32) -> bool {
+    number >= 50 && number <= 56
 }
 
 // Writes the spelling of a refusal of a source, if it has one.
@@ -105,16 +114,21 @@ fn say_reply(number: u32, place: u32, source: &[u8]) {
     }
 }
 
-// Writes a report: the reply, the entry or the faulting cell with the name of the field that is spoken of, the steps done and the cells evaluated.
+// Writes a report: the reply, the line of the list, the entry or the faulting cell with the name of the field that is spoken of, the steps done and
+// the cells evaluated.
 pub fn tell(
     report: Report,
     name: Name,
     source: &[u8],
+    values: &[u8],
     sizes: &[u32],
     entries: usize,
     cells: usize,
 ) {
     say_reply(report.number, report.place, source);
+    if has_line(report.number) {
+        say_list_line(values, report.line);
+    }
     if report.number == 21 {
         say_counts(entries, cells);
     }

@@ -1,4 +1,5 @@
 // A grid that is written as text: a line for each row.
+use console::texts::close_output;
 use console::texts::open_output;
 use text::put_byte;
 use text::put_value;
@@ -80,5 +81,5 @@ pub fn write_grid(grid: &[i32], row: usize) {
     if !written {
         os::fail(b"OUT");
     }
-    libc::close(file);
+    close_output(file);
 }

@@ -1,210 +1,31 @@
-// Reading a run, running it full and quiet, and writing its two lines. The rooms hold a little more than a run may use, so that lengths that are wrong come in
-// too; a run that is cut short, or that does not fit, ends the answers.
+// Reading what runs and writings begin with. The rooms hold a little more than a case may use, so that lengths that are wrong come in too; a case that
+// is cut short, or that does not fit, ends the answers.
 use crate::bytes::load_sizes;
-use crate::bytes::load_values;
-use crate::bytes::long_at;
 use crate::bytes::read_part;
 use crate::bytes::word_at;
-use crate::line::write_run;
-use crate::rooms::fill_marks;
-use crate::rooms::fill_scratch;
-use crate::rooms::left_of_marks;
-use crate::rooms::left_of_scratch;
-use iteration::Report;
+use crate::runs::answer_grid;
+use crate::writings::answer_earlier;
 
-// Whether the run that a reply is of began.
-fn began(number: u32) -> bool {
-    number == 0 || (number >= 30 && number <= 33)
-}
-
-// Runs a source with the built-in list.
-fn run_source(
-    quiet: bool,
-    source: &[u8],
-    words: &mut [u32],
-    names: &mut [u32],
-    sizes: &[u32],
-    grid: &mut [i32],
-    scratch: &mut [i32],
-    marks: &mut [u8],
-    start: i64,
-    steps: i64,
-) -> Report {
-    let list = spelling::BUILT_IN;
-    runner::run(
-        source,
-        &list,
-        words,
-        names,
-        sizes,
-        grid,
-        scratch,
-        marks,
-        start,
-        steps,
-        quiet,
-    )
-}
-
-// Runs a source in the rooms that are lent, and writes the line.
-fn answer_run(
-    quiet: bool,
-    source: &[u8],
-    words: &mut [u32],
-    names: &mut [u32],
-    sizes: &[u32],
-    grid: &mut [i32],
-    scratch: &mut [i32],
-    marks: &mut [u8],
-    start: i64,
-    steps: i64,
-) -> bool {
-    fill_scratch(scratch);
-    fill_marks(marks);
-    let report = run_source(
-        quiet,
-        source,
-        words,
-        names,
-        sizes,
-        grid,
-        scratch,
-        marks,
-        start,
-        steps,
-    );
-    let begun = began(report.number);
-    let cleared = left_of_scratch(scratch, begun);
-    let unmarked = left_of_marks(marks, begun);
-    write_run(report, cleared, unmarked, grid)
-}
-
-// Makes the word table and the name list.
-fn answer_tables(
-    quiet: bool,
+// Reads the rest of a case, whose grid's length this is, and answers it.
+fn answer_kind(
+    kind: u32,
     source: &[u8],
     words: u32,
     names: u32,
     sizes: &[u32],
-    grid: &mut [i32],
-    scratch: &mut [i32],
-    marks: &mut [u8],
-    start: i64,
-    steps: i64,
-) -> bool {
-    if 16400 < words {
-        return false;
-    }
-    if 1024 < names {
-        return false;
-    }
-    let mut word_room = [0u32; 16400];
-    let mut name_room = [0u32; 4096];
-    let w = words as usize;
-    let n = 4 * (names as usize);
-    answer_run(
-        quiet,
-        source,
-        &mut word_room[..w],
-        &mut name_room[..n],
-        sizes,
-        grid,
-        scratch,
-        marks,
-        start,
-        steps,
-    )
-}
-
-// Makes scratch and marks.
-fn answer_rooms(
-    quiet: bool,
-    source: &[u8],
-    words: u32,
-    names: u32,
-    sizes: &[u32],
-    grid: &mut [i32],
-    scratch: u32,
-    marks: u32,
-    start: i64,
-    steps: i64,
-) -> bool {
-    if 4100 < scratch {
-        return false;
-    }
-    if 65540 < marks {
-        return false;
-    }
-    let mut scratch_room = [0i32; 4100];
-    let mut mark_room = [0u8; 65540];
-    let s = scratch as usize;
-    let m = marks as usize;
-    answer_tables(
-        quiet,
-        source,
-        words,
-        names,
-        sizes,
-        grid,
-        &mut scratch_room[..s],
-        &mut mark_room[..m],
-        start,
-        steps,
-    )
-}
-
-// Runs a source, full or quiet, on the grid that the bytes begin with, which are as many as a run has behind its sizes.
-fn answer_way(
-    quiet: bool,
-    source: &[u8],
-    words: u32,
-    names: u32,
-    sizes: &[u32],
-    bytes: &[u8],
     length: u32,
 ) -> bool {
-    if 4100 < length {
-        return false;
+    if kind == 0 {
+        return answer_grid(source, words, names, sizes, length);
     }
-    let g = length as usize;
-    let mut room = [0i32; 4100];
-    let grid: &mut [i32] = &mut room[..g];
-    load_values(bytes, grid);
-    let scratch = word_at(bytes, 4 * g);
-    let marks = word_at(bytes, 4 * g + 4);
-    let start = long_at(bytes, 4 * g + 8);
-    let steps = long_at(bytes, 4 * g + 16);
-    answer_rooms(
-        quiet,
-        source,
-        words,
-        names,
-        sizes,
-        grid,
-        scratch,
-        marks,
-        start,
-        steps,
-    )
-}
-
-// Reads the grid and what stands behind it, and runs the source full and then quiet.
-fn answer_grid(source: &[u8], words: u32, names: u32, sizes: &[u32], length: u32) -> bool {
-    if 4100 < length {
-        return false;
+    if kind == 1 {
+        return answer_earlier(source, words, names, sizes, length);
     }
-    let mut bytes = [0u8; 16424];
-    if !read_part(&mut bytes, 4 * (length as usize) + 24) {
-        return false;
-    }
-    if !answer_way(false, source, words, names, sizes, &bytes, length) {
-        return false;
-    }
-    answer_way(true, source, words, names, sizes, &bytes, length)
+    false
 }
 
 // Reads the sizes and the length of the grid.
-fn answer_sizes(source: &[u8], words: u32, names: u32, count: u32) -> bool {
+fn answer_sizes(kind: u32, source: &[u8], words: u32, names: u32, count: u32) -> bool {
     if 8 < count {
         return false;
     }
@@ -217,11 +38,11 @@ fn answer_sizes(source: &[u8], words: u32, names: u32, count: u32) -> bool {
     let sizes: &mut [u32] = &mut room[..n];
     load_sizes(&bytes, sizes);
     let length = word_at(&bytes, 4 * n);
-    answer_grid(source, words, names, sizes, length)
+    answer_kind(kind, source, words, names, sizes, length)
 }
 
 // Reads the source and the three numbers behind it.
-fn answer_source(length: u32) -> bool {
+fn answer_source(kind: u32, length: u32) -> bool {
     if 65540 < length {
         return false;
     }
@@ -233,19 +54,19 @@ fn answer_source(length: u32) -> bool {
     let words = word_at(&room, n);
     let names = word_at(&room, n + 4);
     let count = word_at(&room, n + 8);
-    answer_sizes(&room[..n], words, names, count)
+    answer_sizes(kind, &room[..n], words, names, count)
 }
 
-// Answers the next run, and says whether there was one.
+// Answers the next case, and says whether there was one.
 fn answer_next() -> bool {
-    let mut head = [0u8; 4];
-    if !read_part(&mut head, 4) {
+    let mut head = [0u8; 8];
+    if !read_part(&mut head, 8) {
         return false;
     }
-    answer_source(word_at(&head, 0))
+    answer_source(word_at(&head, 0), word_at(&head, 4))
 }
 
-// Answers all runs on standard input. A proved loop has to end, and nothing says that the input does: the turns are counted down from a number
+// Answers all cases on standard input. A proved loop has to end, and nothing says that the input does: the turns are counted down from a number
 // that no input uses up.
 pub fn answer_all() {
     let mut turns = u64::MAX;

@@ -1,7 +1,8 @@
-// The line of a run. What no longer fits is left out.
+// The line of a run, and of a writing. What no longer fits is left out.
 use crate::rooms::Left;
 use iteration::Report;
 use libc::STDOUT_FILENO;
+use list_writer::Written;
 use text::put_byte;
 use text::put_number;
 use text::put_text;
@@ -43,9 +44,36 @@ fn put_item(line: &mut [u8], at: usize, n: u64) -> usize {
 fn put_report(line: &mut [u8], report: Report) -> usize {
     let a = put_item(line, 0, report.number as u64);
     let b = put_item(line, a, report.place as u64);
-    let c = put_item(line, b, report.cell as u64);
-    let d = put_item(line, c, report.steps as u64);
-    put_item(line, d, report.count)
+    let c = put_item(line, b, report.line);
+    let d = put_item(line, c, report.cell as u64);
+    let e = put_item(line, d, report.steps as u64);
+    put_item(line, e, report.count)
+}
+
+// The hexadecimal digit of a number's lowest four bits.
+fn digit(n: u8) -> u8 {
+    let d = n % 16;
+    if d < 10 {
+        return 48 + d;
+    }
+    87 + d
+}
+
+// Puts a byte in two hexadecimal digits.
+fn put_digits(line: &mut [u8], at: usize, b: u8) -> usize {
+    let behind = put_byte(line, at, digit(b / 16));
+    put_byte(line, behind, digit(b))
+}
+
+// Puts bytes in hexadecimal digits.
+fn put_bytes(line: &mut [u8], at: usize, bytes: &[u8]) -> usize {
+    let mut end = at;
+    let mut i: usize = 0;
+    while i < bytes.len() {
+        end = put_digits(line, end, bytes[i]);
+        i += 1;
+    }
+    end
 }
 
 // Writes the front of a line to standard output, and says whether it could.
@@ -65,6 +93,19 @@ pub fn write_run(report: Report, scratch: Left, marks: Left, grid: &[i32]) -> bo
     let c = put_left(line, b, marks);
     let d = put_byte(line, c, b':');
     let e = put_values(line, d, grid);
+    let f = put_byte(line, e, b'\n');
+    write_front(line, f)
+}
+
+// Writes the line of a writing to standard output, and says whether it could.
+pub fn write_writing(written: Written, room: &[u8]) -> bool {
+    let mut buffer = io::large_buffer();
+    let line: &mut [u8] = &mut buffer;
+    let a = put_item(line, 0, written.number as u64);
+    let b = put_item(line, a, written.place as u64);
+    let c = put_item(line, b, written.length);
+    let d = put_text(line, c, b": ");
+    let e = put_bytes(line, d, room);
     let f = put_byte(line, e, b'\n');
     write_front(line, f)
 }

@@ -1,16 +1,21 @@
-// Stored runs, one behind the other on standard input, each of which is answered by two lines on standard output: of the full run and of the quiet
-// one.
+// Stored runs and writings, one behind the other on standard input. A run is answered by two lines on standard output, of the full run and of the
+// quiet one, and a writing by one line.
 //
-// A run is written so, every number with its lowest byte first: the length of the source and the source; the lengths of the word table, in
-// words, and of the name list, in records; the number of sizes and the sizes; the length of the grid and its entries; the lengths of
-// scratch and marks; the start time and the number of steps. The two times have eight bytes, all other numbers four.
+// A case is written so, every number with its lowest byte first: 0 for a run, 1 for a writing; the length of the source and the source; the
+// lengths of the word table, in words, and of the name list, in records; the number of sizes and the sizes. Then a run has the length of the grid
+// and its entries; the lengths of scratch and marks; the start time and the number of steps; the length of the value list and the list. A
+// writing has the length of the earlier grid and its entries; the later grid likewise; the time; the length of the room. The times and the
+// number of steps have eight bytes, all other numbers four.
 //
-// A line has the report, what became of scratch and marks, and the grid: `number place cell steps count SCRATCH MARKS : g0 g1 ..`.
+// The line of a run has the report, what became of scratch and marks, and the grid: `number place line cell steps count SCRATCH MARKS : g0 g1 ..`.
+// The line of a writing has what was returned, and the room's bytes in hexadecimal digits, two for each: `number place length : b0b1..`.
 
 mod answer;
 mod bytes;
 mod line;
 mod rooms;
+mod runs;
+mod writings;
 
 fn main() {
     answer::answer_all();

@@ -1,4 +1,4 @@
-// Scratch and marks: what stands in them on entry, and what is left of it.
+// Scratch, marks and a writer's room: what stands in them on entry, and what is left of scratch and marks.
 
 // What became of a room: zeros throughout, what stood there on entry, or something else.
 pub enum Left {
@@ -17,6 +17,11 @@ fn marks_entry(i: usize) -> u8 {
     ((i % 256 * 5 + 1) % 256) as u8
 }
 
+// Byte i of a writer's room on entry.
+fn room_entry(i: usize) -> u8 {
+    ((i % 256 * 3 + 5) % 256) as u8
+}
+
 // Fills scratch with what stands there on entry.
 pub fn fill_scratch(scratch: &mut [i32]) {
     let mut i: usize = 0;
@@ -31,6 +36,15 @@ pub fn fill_marks(marks: &mut [u8]) {
     let mut i: usize = 0;
     while i < marks.len() {
         marks[i] = marks_entry(i);
+        i += 1;
+    }
+}
+
+// Fills a writer's room with what stands there on entry.
+pub fn fill_room(room: &mut [u8]) {
+    let mut i: usize = 0;
+    while i < room.len() {
+        room[i] = room_entry(i);
         i += 1;
     }
 }

@@ -5,9 +5,11 @@ use mathlib.Core.Path.{_≡_, refl, sym, ap, ap₂, _∙_, subst, subst₂}
 use mathlib.Core.Bool.{Bool, true, false, not}
 use mathlib.Core.List.{List}
 use lib.ListN.{length}
-use lib.IntN.{ℤ}
-use mir.Syntax.{w64}
-use mir.Val.{SFits, toZ, ofZ}
+use lib.Dec.{T}
+use lib.IntN.{ℤ, pos, natAbs}
+use lib.Signed.{nonNeg}
+use mir.Syntax.{w32, w64}
+use mir.Val.{Fits, SFits, toZ, ofZ}
 use mir.Facts.{toZ-ofZ}
 use borrow.Author.Tests.{not-true, not-false, ne-eqb}
 use Rattle.value.specs.Laws.{never}
@@ -23,9 +25,17 @@ use Rattle.semantics.specs.Written.{relatives-in}
 use Rattle.linking.specs.Linking.{Linked, linking}
 use Rattle.linking.specs.Accepted.{Parsed, holds, written, flagged}
 use Rattle.stepper.specs.Admission.{Request, Refusal, refusal, admission}
-use Rattle.stepper.specs.Report.{Counting, refused, run}
+use Rattle.stepper.specs.Report.{Counting, refused}
 use Rattle.stepper.specs.Locality.{Flagged}
-use Rattle.stepper.specs.Fitting.{Sized}
+use Rattle.stepper.specs.Fitting.{Sized, Shaped}
+use Rattle.lists.specs.ListChecking.{Turned, Verdict, verdict, limits-of, check-list}
+use Rattle.list_reader.specs.declared.checking.Verdict as judged
+use Rattle.list_reader.specs.Places.{Dimensions}
+use Rattle.list_reader.specs.Values.{fields-in}
+use Rattle.list_reader.specs.Checks.{limits, Checks as ChecksList}
+use Rattle.list_reader.proofs.CursorLaws.{limits-are, dimensions-are}
+use Rattle.services.specs.Running.{Asked, ask, admitted}
+use Rattle.services.specs.RunningLaws.{turned, list-decides, refused-first, list-passes, run-refused}
 use Rattle.services.specs.Services.{run-begins, run-read, run-source}
 use Rattle.checker.specs.declared.checking.Outline.{Outline}
 use Rattle.checker.specs.Promises.{Trace, Outlines, accepted-by, Loads, Checks, is-accepted}
@@ -110,34 +120,49 @@ module _ {source ws ns : List ℕ} {known : Bool} {o : Outline} {ws′ : List �
 
 -- ---- a source that is not accepted
 
-module _ (fit : Bool) (source : List ℕ) (q : Request) {n place : ℕ} (reply : complaint n place ≡ check fit source) where
-  not-read : is-accepted (read-source fit source) ≡ false → (run-begins q (read-source fit source) ≡ false) × ((counting : Counting) → run-source counting fit source q ≡ refused n place (q .grid))
+module _ (fit : Bool) (source : List ℕ) (q : Asked) {n place : ℕ} (reply : complaint n place ≡ check fit source) where
+  not-read : is-accepted (read-source fit source) ≡ false → (run-begins q (read-source fit source) ≡ false) × ((counting : Counting) → run-source counting fit source q ≡ refused n place 0 (q .request .grid))
   unfolding run-source check
   not-read e = by (read-source fit source) reply e
     where
-      by : (r : Outcome) → complaint n place ≡ checking.reply-of r → is-accepted r ≡ false → (run-begins q r ≡ false) × ((counting : Counting) → run-read counting q r ≡ refused n place (q .grid))
-      by (turned-away k p) c d = (refl, λ counting. ap (λ (x : Complaint). refused (x .number) (x .place) (q .grid)) (sym c))
-      by (checking.refused k p) c d = (refl, λ counting. ap (λ (x : Complaint). refused (x .number) (x .place) (q .grid)) (sym c))
+      by : (r : Outcome) → complaint n place ≡ checking.reply-of r → is-accepted r ≡ false → (run-begins q r ≡ false) × ((counting : Counting) → run-read counting q r ≡ refused n place 0 (q .request .grid))
+      by (turned-away k p) c d = (refl, λ counting. ap (λ (x : Complaint). refused (x .number) (x .place) 0 (q .request .grid)) (sym c))
+      by (checking.refused k p) c d = (refl, λ counting. ap (λ (x : Complaint). refused (x .number) (x .place) 0 (q .request .grid)) (sym c))
       by (accepted a) c d = never (sym d)
 
--- ---- a run that is not admitted
+-- ---- the times as unsigned numbers
 
-run-refused : (counting : Counting) (p : Program) (q : Request) → (admission p q .number ≡ 0 → ⊥) → run counting p q ≡ refused (admission p q .number) (admission p q .place) (q .grid)
-unfolding run
-run-refused counting p q z = rw (ne-eqb (admission p q .number) 0 z, run)
+-- a time can be cast
+pub cast-in : (z : ℤ) → z ≡ pos (natAbs z) → natAbs z ≤ 2147483647 → T (nonNeg z) × Fits w32 (natAbs z)
+cast-in z p l = (subst (λ (x : ℤ). T (nonNeg x)) (sym p) tt, record { fits = omega arith })
+
+module _ {words : List ℕ} {rule : Rule} {sizes : List ℕ} {grid : List ℤ} {scratch marks : ℕ} {start steps : ℤ} {a : Admitted} (admits : Admits words rule sizes grid scratch marks start steps a) (z : a .number ≡ 0) where
+  pub cast-first : T (nonNeg start) × Fits w32 (natAbs start)
+  cast-first = cast-in start (admits .start-is z) (omega (arith, admits .times z))
+
+  pub cast-last : T (nonNeg steps) × Fits w32 (natAbs steps)
+  cast-last = cast-in steps (admits .steps-is z) (omega (arith, admits .times z))
+
+  pub add-last : Fits w32 (natAbs start + natAbs steps)
+  add-last = record { fits = omega (arith, admits .times z) }
 
 -- ---- the ways through
 
+-- the opening of a run that does not begin
+abbrev Closed : Opening → ℕ → ℕ → ℕ → Type 0
+Closed r number place line = (r .begun ≡ false) × (r .number ≡ number) × (r .place ≡ place) × (r .line ≡ line)
+
 module _ {source ws ns sizes : List ℕ} {grid : List ℤ} {scratch marks : ℕ} {start steps : ℤ} {known : Bool} {o : Outline} {n place : ℕ} {ws′ ns′ : List ℕ}
     (checked : Checks (rooms-fit (length ws) (length ns)) source ws ns n place ws′ ns′) (loaded : Loads source ws ns known o) where
-  pub unread : not known ≡ true → {r : Opening} → (r .begun ≡ false) × (r .number ≡ n) × (r .place ≡ place) → Opens (rooms-fit (length ws) (length ns)) source ws ns (request-of sizes grid scratch marks start steps) r ws′ ns′
-  unread unknown {r} e =
-      let both = not-read (rooms-fit (length ws) (length ns)) source (request-of sizes grid scratch marks start steps) (checked .reply) (sym (loaded .is) ∙ not-true known unknown) in
+  pub unread : not known ≡ true → {values : List ℕ} {r : Opening} → Closed r n place 0
+      → Opens (rooms-fit (length ws) (length ns)) source ws ns (ask (request-of sizes grid scratch marks start steps) values) r ws′ ns′
+  unread unknown {values} {r} e =
+      let both = not-read (rooms-fit (length ws) (length ns)) source (ask (request-of sizes grid scratch marks start steps) values) (checked .reply) (sym (loaded .is) ∙ not-true known unknown) in
       record {
         words = checked .words;
         names = checked .names;
         closed = λ _. both .0;
-        refuses = λ _ counting. both .1 counting ∙ ap₂ (λ (k p : ℕ). refused k p grid) (sym (e .1)) (sym (e .2));
+        refuses = λ _ counting. both .1 counting ∙ (λ i. refused (sym (e .1) i) (sym (e .2) i) (sym (e .3) i) grid);
         opened = λ y. never (sym (e .0) ∙ y);
       }
 
@@ -148,51 +173,87 @@ module _ {source ws ns sizes : List ℕ} {grid : List ℤ} {scratch marks : ℕ}
     says : refusal (a .number) (a .place) ≡ admission (is .read .program) (request-of sizes grid scratch marks start steps)
     says = admits .says (is .read .program) (is .holds) (is .lists)
 
-    pub not-admitted : (a .number ≡ 0 → ⊥) → {r : Opening} → (r .begun ≡ false) × (r .number ≡ a .number) × (r .place ≡ a .place) → Opens (rooms-fit (length ws) (length ns)) source ws ns (request-of sizes grid scratch marks start steps) r ws′ ns′
+    turned-down : {values : List ℕ} {number where-at line : ℕ} → admitted (is .read .program) (ask (request-of sizes grid scratch marks start steps) values) ≡ turned number where-at line → (number ≡ 0 → ⊥) → {r : Opening} → Closed r number where-at line
+        → Opens (rooms-fit (length ws) (length ns)) source ws ns (ask (request-of sizes grid scratch marks start steps) values) r ws′ ns′
     unfolding run-source
-    not-admitted z {r} e =
+    turned-down {values} {number} {where-at} {line} t z {r} e =
         record {
           words = checked .words;
           names = checked .names;
-          closed = λ _. ap (run-begins (request-of sizes grid scratch marks start steps)) (is .is) ∙ ne-eqb _ 0 refused-by;
+          closed = λ _. ap (run-begins (ask (request-of sizes grid scratch marks start steps) values)) (is .is) ∙ ne-eqb _ 0 refused-by;
           refuses = λ _ counting.
-              ap (run-read counting (request-of sizes grid scratch marks start steps)) (is .is)
-              ∙ run-refused counting (is .read .program) (request-of sizes grid scratch marks start steps) refused-by
-              ∙ ap (λ (x : Refusal). refused (x .number) (x .place) grid) (sym says)
-              ∙ ap₂ (λ (k p : ℕ). refused k p grid) (sym (e .1)) (sym (e .2));
+              ap (run-read counting (ask (request-of sizes grid scratch marks start steps) values)) (is .is) ∙ run-refused (is .read .program) (ask (request-of sizes grid scratch marks start steps) values) counting refused-by ∙ ap (λ (x : Turned). refused (x .number) (x .place) (x .line) grid) t
+              ∙ (λ i. refused (sym (e .1) i) (sym (e .2) i) (sym (e .3) i) grid);
           opened = λ y. never (sym (e .0) ∙ y);
         }
       where
-        refused-by : admission (is .read .program) (request-of sizes grid scratch marks start steps) .number ≡ 0 → ⊥
-        refused-by k = z (ap (λ (x : Refusal). x .number) says ∙ k)
+        refused-by : admitted (is .read .program) (ask (request-of sizes grid scratch marks start steps) values) .number ≡ 0 → ⊥
+        refused-by k = z (ap (λ (x : Turned). x .number) (sym t) ∙ k)
 
-    pub begun : a .number ≡ 0 → {t : Bool} → t ≡ o .timed → Opens (rooms-fit (length ws) (length ns)) source ws ns (request-of sizes grid scratch marks start steps) (record { begun = true; number = 0; place = 0; rule = rule-in o; reach = a .reach; timed = t }) ws′ ns′
-    begun z {t} e =
-        record {
-          words = checked .words;
-          names = checked .names;
-          closed = λ f. never (sym f);
-          refuses = λ f. never (sym f);
-          opened = λ _.
-              record {
-                read = is .read;
-                is = is .is;
-                admitted = ap (λ (x : Refusal). x .number) (sym says) ∙ z;
-                runs = record { holds = is .holds; reaches = admits .reaches z (is .read .program) (is .holds) (is .lists); lists = admits .lists z (is .read .program) (is .holds) (is .lists); timed = is .timed ∙ sym e; flagged = is .flagged };
-                rule-fits = is .sized;
-                some-dims = is .some-dims;
-                shaped = admits .shaped z;
-                scratch-fits = admits .scratch-fits z;
-                marks-fit = admits .marks-fit z;
-                near = admits .near z (relatives-in (is .read .program)) (is .lists);
-                start-is = admits .start-is z;
-                steps-is = admits .steps-is z;
-                times = admits .times z;
-              };
-        }
+    pub not-admitted : (a .number ≡ 0 → ⊥) → {values : List ℕ} {r : Opening} → Closed r (a .number) (a .place) 0 → Opens (rooms-fit (length ws) (length ns)) source ws ns (ask (request-of sizes grid scratch marks start steps) values) r ws′ ns′
+    not-admitted z {values} {r} e =
+        turned-down
+        (refused-first (is .read .program) (ask (request-of sizes grid scratch marks start steps) values) (λ k. z (ap (λ (x : Refusal). x .number) says ∙ k)) ∙ ap (λ (x : Refusal). turned (x .number) (x .place) 0) (sym says)) z e
+
+    module _ (z : a .number ≡ 0) where
+      admission-is : admission (is .read .program) (request-of sizes grid scratch marks start steps) .number ≡ 0
+      admission-is = ap (λ (x : Refusal). x .number) (sym says) ∙ z
+
+      -- the list can be checked
+      pub dimensions-of : Dimensions sizes
+      dimensions-of = dimensions-are (is .read .program) (request-of sizes grid scratch marks start steps) (omega (arith, is .holds .dims, is .sized .dims)) admission-is
+
+      pub list-ready : (Sized (length ws′) (rule-in o)) × Dimensions sizes
+      list-ready = (is .sized, dimensions-of)
+
+      module _ {values : List ℕ} {v : judged.Verdict} {first last : ℕ} (first-is : natAbs start ≡ first) (last-is : natAbs start + natAbs steps ≡ last)
+          (judges : ChecksList (limits sizes (fields-in ws′ (rule-in o)) first last) values v) where
+        list-says : admitted (is .read .program) (ask (request-of sizes grid scratch marks start steps) values) ≡ turned (v .number) 0 (v .line)
+        list-says =
+            list-decides (is .read .program) (ask (request-of sizes grid scratch marks start steps) values) admission-is
+            ∙ ap (λ (x : Verdict). turned (x .number) 0 (x .line))
+            (ap (λ (q : _). check-list q values) (sym (limits-are ws′ (rule-in o) (is .read .program) (request-of sizes grid scratch marks start steps) (is .holds) first-is last-is)) ∙ sym (judges .is))
+
+        pub not-listed : (v .number ≡ 0 → ⊥) → {r : Opening} → Closed r (v .number) 0 (v .line) → Opens (rooms-fit (length ws) (length ns)) source ws ns (ask (request-of sizes grid scratch marks start steps) values) r ws′ ns′
+        not-listed d e = turned-down list-says d e
+
+        pub begun : v .number ≡ 0 → {t : Bool} → t ≡ o .timed
+            → Opens (rooms-fit (length ws) (length ns)) source ws ns (ask (request-of sizes grid scratch marks start steps) values) (record { begun = true; number = 0; place = 0; line = 0; rule = rule-in o; reach = a .reach; timed = t }) ws′ ns′
+        begun l {t} e =
+            let passed : admitted (is .read .program) (ask (request-of sizes grid scratch marks start steps) values) .number ≡ 0 = ap (λ (x : Turned). x .number) list-says ∙ l in
+            record {
+              words = checked .words;
+              names = checked .names;
+              closed = λ f. never (sym f);
+              refuses = λ f. never (sym f);
+              opened = λ _.
+                  record {
+                    read = is .read;
+                    is = is .is;
+                    admits = passed;
+                    runs = record { holds = is .holds; reaches = admits .reaches z (is .read .program) (is .holds) (is .lists); lists = admits .lists z (is .read .program) (is .holds) (is .lists); timed = is .timed ∙ sym e; flagged = is .flagged };
+                    rule-fits = is .sized;
+                    some-dims = is .some-dims;
+                    shaped = admits .shaped z;
+                    scratch-fits = admits .scratch-fits z;
+                    marks-fit = admits .marks-fit z;
+                    near = admits .near z (relatives-in (is .read .program)) (is .lists);
+                    start-is = admits .start-is z;
+                    steps-is = admits .steps-is z;
+                    times = admits .times z;
+                    dimensions = dimensions-of;
+                    listed = record {
+                      limits = limits-of (is .read .program) (request-of sizes grid scratch marks start steps);
+                      sizes-are = refl;
+                      first-is = refl;
+                      passes = list-passes (is .read .program) (ask (request-of sizes grid scratch marks start steps) values) passed;
+                    };
+                  };
+            }
 
 -- the times as the machine reads them
-pub read-opens : {source ws ns sizes : List ℕ} {grid : List ℤ} {scratch marks : ℕ} {start steps : ℤ} {r : Opening} {ws′ ns′ : List ℕ} → SFits w64 start → SFits w64 steps
-    → Opens (rooms-fit (length ws) (length ns)) source ws ns (request-of sizes grid scratch marks (toZ w64 (ofZ w64 start)) (toZ w64 (ofZ w64 steps))) r ws′ ns′ → Opens (rooms-fit (length ws) (length ns)) source ws ns (request-of sizes grid scratch marks start steps) r ws′ ns′
-read-opens {source} {ws} {ns} {sizes} {grid} {scratch} {marks} {start} {steps} {r} {ws′} {ns′} h k =
-    subst₂ (λ (a b : ℤ). Opens (rooms-fit (length ws) (length ns)) source ws ns (request-of sizes grid scratch marks a b) r ws′ ns′) (toZ-ofZ h) (toZ-ofZ k)
+pub read-opens : {source ws ns sizes : List ℕ} {grid : List ℤ} {scratch marks : ℕ} {start steps : ℤ} {values : List ℕ} {r : Opening} {ws′ ns′ : List ℕ} → SFits w64 start → SFits w64 steps
+    → Opens (rooms-fit (length ws) (length ns)) source ws ns (ask (request-of sizes grid scratch marks (toZ w64 (ofZ w64 start)) (toZ w64 (ofZ w64 steps))) values) r ws′ ns′
+    → Opens (rooms-fit (length ws) (length ns)) source ws ns (ask (request-of sizes grid scratch marks start steps) values) r ws′ ns′
+read-opens {source} {ws} {ns} {sizes} {grid} {scratch} {marks} {start} {steps} {values} {r} {ws′} {ns′} h k =
+    subst₂ (λ (a b : ℤ). Opens (rooms-fit (length ws) (length ns)) source ws ns (ask (request-of sizes grid scratch marks a b) values) r ws′ ns′) (toZ-ofZ h) (toZ-ofZ k)

@@ -12,7 +12,7 @@ use mir.Syntax.{w32, w64}
 use mir.Val.{Fits, SFits, toZ, ofZ}
 use mir.Facts.{toZ-ofZ}
 use borrow.Author.Tests.{eq-eqb, not-true, not-false}
-use Rattle.automaton.specs.Step.{Quiet, Run, every-cell, no-blocks, run-of, open-count, full-count, quiet-run}
+use Rattle.automaton.specs.Step.{Quiet, Run, Blocks, every-cell, run-of, open-count, full-count, quiet-run}
 use Rattle.automaton.specs.Quiet.{Lawful, quiet-agrees}
 use Rattle.automaton.specs.Grid.{automaton}
 use Rattle.automaton.specs.Going.{always-open, full-run}
@@ -26,19 +26,23 @@ use Rattle.semantics.specs.Written.{relatives-in, written-in}
 use Rattle.semantics.specs.Places.{places}
 use Rattle.stepper.specs.declared.Reach.{Reach}
 use Rattle.stepper.specs.Reach.{box, reach, running}
-use Rattle.stepper.specs.Admission.{Request, admission}
 use Rattle.stepper.specs.Covering.{running-lawful}
 use Rattle.stepper.specs.Report as report
-use Rattle.stepper.specs.Report.{Counting, full, ended, report-of, run}
+use Rattle.stepper.specs.Report.{Counting, full, ended}
+use Rattle.stepper.specs.Fitting.{held-fields}
+use Rattle.lists.specs.Setting.{set-block}
+use Rattle.services.specs.Running.{Asked, admitted, blocks, report-of}
+use Rattle.services.specs.RunningLaws.{run-admitted}
 use Rattle.services.specs.Services.{run-begins, run-read, run-source, room-after}
 use Rattle.services.specs.Calls.{NameForm, flat-names, Memory, memory, Lent, lent, fits, asked, read-lent, run-report, names-left, run-left}
 use Rattle.services.specs.RangesKept.{RangesKept, grid-in-ranges}
 use Rattle.iteration.specs.declared.Report.{Report}
 use Rattle.runner.specs.declared.opening.Opening.{Opening}
-use Rattle.iteration.specs.Stepwise.{Begins, Runs, told, steps-report, Ran}
+use Rattle.iteration.specs.Stepwise.{Begins, blocks-in, Runs, told, steps-report, Ran}
 use Rattle.iteration.proofs.StepwiseLaws.{runs-sound}
 use Rattle.runner.specs.Sourcewise.{counting-of, every-step, Begun, Opens, RunLeaves, RunsListed}
 use Rattle.runner.specs.Property3.{Agree, same, property-3}
+use Rattle.runner.proofs.OpeningLaws.{cast-in}
 
 -- ---- a full run: every cell is open in each step, as if `time` stood in the source
 
@@ -61,31 +65,26 @@ unfolding running automaton evaluate reach box written-in places relatives-in
 running-always p sizes = refl
 
 -- the report of a run that began, by the count
-abbrev report-by : Program → List ℕ → ℕ → ℕ → List ℤ → ℕ → report.Report
-report-by p sizes n t g count = let r = run-of (running p sizes) no-blocks n t g in ended (r .fault) (r .steps) count (r .grid)
+abbrev report-by : Program → List ℕ → Blocks (List ℤ) → ℕ → ℕ → List ℤ → ℕ → report.Report
+report-by p sizes block n t g count = let r = run-of (running p sizes) block n t g in ended (r .fault) (r .steps) count (r .grid)
 
-steps-full : (p : Program) (sizes : List ℕ) (n t : ℕ) (g : List ℤ) → Lawful (running p sizes)
-    → steps-report (always p) sizes n t g ≡ report-by p sizes n t g (full-count (running p sizes) no-blocks n t g)
-steps-full p sizes n t g laws =
-    let both = full-run (running p sizes) laws no-blocks n every-cell t g in
-    ap (λ (M : _). let q = quiet-run M no-blocks every-cell n t g in ended (q .run .fault) (q .run .steps) (q .count) (q .run .grid)) (running-always p sizes)
-    ∙ ap₂ (λ (r : Run (List ℤ)) (k : ℕ). ended (r .fault) (r .steps) k (r .grid)) (both .0) (both .1)
+module _ (p : Program) (sizes : List ℕ) (block : Blocks (List ℤ)) (n t : ℕ) (g : List ℤ) (laws : Lawful (running p sizes)) where
+  steps-full : steps-report (always p) sizes block every-cell n t g ≡ report-by p sizes block n t g (full-count (running p sizes) block n t g)
+  steps-full =
+      let both = full-run (running p sizes) laws block n every-cell t g in
+      ap (λ (M : _). let q = quiet-run M block every-cell n t g in ended (q .run .fault) (q .run .steps) (q .count) (q .run .grid)) (running-always p sizes)
+      ∙ ap₂ (λ (r : Run (List ℤ)) (k : ℕ). ended (r .fault) (r .steps) k (r .grid)) (both .0) (both .1)
 
-steps-quiet : (p : Program) (sizes : List ℕ) (n t : ℕ) (g : List ℤ) → Lawful (running p sizes)
-    → steps-report p sizes n t g ≡ report-by p sizes n t g (open-count (running p sizes) no-blocks every-cell n t g)
-steps-quiet p sizes n t g laws =
-    let agree = quiet-agrees (running p sizes) laws no-blocks n t g in
-    ap₂ (λ (r : Run (List ℤ)) (k : ℕ). ended (r .fault) (r .steps) k (r .grid)) (agree .run) (agree .count)
+  steps-quiet : steps-report p sizes block every-cell n t g ≡ report-by p sizes block n t g (open-count (running p sizes) block every-cell n t g)
+  steps-quiet =
+      let agree = quiet-agrees (running p sizes) laws block n t g in
+      ap₂ (λ (r : Run (List ℤ)) (k : ℕ). ended (r .fault) (r .steps) k (r .grid)) (agree .run) (agree .count)
 
 -- ---- the report
 
-run-admitted : (counting : Counting) (p : Program) (q : Request) → admission p q .number ≡ 0 → run counting p q ≡ report-of counting p q
-unfolding run
-run-admitted counting p q z = rw (eq-eqb (admission p q .number) 0 z, run)
-
-module _ {fit : Bool} {source : List ℕ} {q : Request} {words : List ℕ} {rule : Rule} {r : Reach} {timed : Bool} (b : Begun fit source q words rule r timed) where
-  pub begins-run : {room : List ℤ} {marked : List ℕ} → q .scratch ≡ length room → q .marks ≡ length marked
-      → Begins words rule (q .sizes) r (q .grid) room marked (natAbs (q .start)) (natAbs (q .steps))
+module _ {fit : Bool} {source : List ℕ} {q : Asked} {words : List ℕ} {rule : Rule} {r : Reach} {timed : Bool} (b : Begun fit source q words rule r timed) where
+  pub begins-run : {room : List ℤ} {marked : List ℕ} → q .request .scratch ≡ length room → q .request .marks ≡ length marked
+      → Begins words rule (q .request .sizes) r (q .request .grid) room marked (q .values) (natAbs (q .request .start)) (natAbs (q .request .steps))
   begins-run e f =
       record {
         rule-fits = b .rule-fits;
@@ -96,41 +95,49 @@ module _ {fit : Bool} {source : List ℕ} {q : Request} {words : List ℕ} {rule
         near = b .near;
         sound = runs-sound (b .runs);
         times = b .times;
+        dimensions = b .dimensions;
+        listed = b .listed;
       }
 
-  laws : Lawful (running (b .read .program) (q .sizes))
-  laws = running-lawful (b .read .program) (q .sizes) (b .shaped .dims ∙ sym (b .runs .holds .dims)) (b .runs .flagged)
+  laws : Lawful (running (b .read .program) (q .request .sizes))
+  laws = running-lawful (b .read .program) (q .request .sizes) (b .shaped .dims ∙ sym (b .runs .holds .dims)) (b .runs .flagged)
 
-  report-is : (way : Bool) → {said : Report} {grid′ : List ℤ} → Ran words rule (q .sizes) r (every-step way timed) (natAbs (q .start)) (natAbs (q .steps)) (q .grid) said grid′
+  -- the blocks of the code are the program's
+  blocks-are : blocks-in (q .request .sizes) rule (q .values) ≡ blocks (b .read .program) q
+  blocks-are = ap (λ (f : ℕ). set-block (q .request .sizes) f (q .values)) (sym (held-fields (b .read .program) (b .runs .holds)))
+
+  report-is : (way : Bool) → {said : Report} {grid′ : List ℤ} → Ran words rule (q .request .sizes) r (every-step way timed) (q .values) (natAbs (q .request .start)) (natAbs (q .request .steps)) every-cell (q .request .grid) said grid′
       → told said grid′ ≡ report-of (counting-of way) (b .read .program) q
   unfolding report-of
-  report-is true ran = ran .says (b .read .program) (b .runs) ∙ steps-quiet (b .read .program) (q .sizes) (natAbs (q .steps)) (natAbs (q .start)) (q .grid) laws
-  report-is false ran = ran .says (always (b .read .program)) (runs-always (b .runs)) ∙ steps-full (b .read .program) (q .sizes) (natAbs (q .steps)) (natAbs (q .start)) (q .grid) laws
+  report-is true ran =
+      ran .says (b .read .program) (b .runs)
+      ∙ ap (λ (block : Blocks (List ℤ)). steps-report (b .read .program) (q .request .sizes) block every-cell (natAbs (q .request .steps)) (natAbs (q .request .start)) (q .request .grid)) blocks-are
+      ∙ steps-quiet (b .read .program) (q .request .sizes) (blocks (b .read .program) q) (natAbs (q .request .steps)) (natAbs (q .request .start)) (q .request .grid) laws
+  report-is false ran =
+      ran .says (always (b .read .program)) (runs-always (b .runs))
+      ∙ ap (λ (block : Blocks (List ℤ)). steps-report (always (b .read .program)) (q .request .sizes) block every-cell (natAbs (q .request .steps)) (natAbs (q .request .start)) (q .request .grid)) blocks-are
+      ∙ steps-full (b .read .program) (q .request .sizes) (blocks (b .read .program) q) (natAbs (q .request .steps)) (natAbs (q .request .start)) (q .request .grid) laws
 
   began : run-begins q (read-source fit source) ≡ true
-  began = ap (run-begins q) (b .is) ∙ eq-eqb _ 0 (b .admitted)
+  began = ap (run-begins q) (b .is) ∙ eq-eqb _ 0 (b .admits)
 
-  source-report : (way : Bool) → {said : Report} {grid′ : List ℤ} → Ran words rule (q .sizes) r (every-step way timed) (natAbs (q .start)) (natAbs (q .steps)) (q .grid) said grid′
+  source-report : (way : Bool) → {said : Report} {grid′ : List ℤ} → Ran words rule (q .request .sizes) r (every-step way timed) (q .values) (natAbs (q .request .start)) (natAbs (q .request .steps)) every-cell (q .request .grid) said grid′
       → told said grid′ ≡ run-source (counting-of way) fit source q
   unfolding run-source
-  source-report way ran = report-is way ran ∙ sym (run-admitted (counting-of way) (b .read .program) q (b .admitted)) ∙ ap (run-read (counting-of way) q) (sym (b .is))
+  source-report way ran = report-is way ran ∙ sym (run-admitted (b .read .program) q (counting-of way) (b .admits)) ∙ ap (run-read (counting-of way) q) (sym (b .is))
 
 -- scratch or marks after a run that began, and after one that did not
-room-cleared : {A : Type 0} (none : A) (fit : Bool) (source : List ℕ) (q : Request) (old : List A) → run-begins q (read-source fit source) ≡ true → replicate (length old) none ≡ room-after none fit source q old
+room-cleared : {A : Type 0} (none : A) (fit : Bool) (source : List ℕ) (q : Asked) (old : List A) → run-begins q (read-source fit source) ≡ true → replicate (length old) none ≡ room-after none fit source q old
 unfolding room-after
 room-cleared none fit source q old e = rw e
 
-room-kept : {A : Type 0} (none : A) (fit : Bool) (source : List ℕ) (q : Request) (old : List A) → run-begins q (read-source fit source) ≡ false → old ≡ room-after none fit source q old
+room-kept : {A : Type 0} (none : A) (fit : Bool) (source : List ℕ) (q : Asked) (old : List A) → run-begins q (read-source fit source) ≡ false → old ≡ room-after none fit source q old
 unfolding room-after
 room-kept none fit source q old e = rw e
 
 -- a room that is cleared throughout
 cleared : {A : Type 0} (none : A) (n : ℕ) {new : List A} (old : List A) → new ≡ replicate n none → length new ≡ length old → new ≡ replicate (length old) none
 cleared none n old e l = e ∙ ap (λ (k : ℕ). replicate k none) (sym (length-replicate n none) ∙ ap length (sym e) ∙ l)
-
--- a time can be cast
-cast-in : (z : ℤ) → z ≡ pos (natAbs z) → natAbs z ≤ 2147483647 → T (nonNeg z) × Fits w32 (natAbs z)
-cast-in z p l = (subst (λ (x : ℤ). T (nonNeg x)) (sym p) tt, record { fits = omega arith })
 
 -- ---- the ways through
 
@@ -162,7 +169,7 @@ module _ (l : Lent ℕ) (list : is-built-in (l .list) ≡ true) {r : Opening} {w
   names-are = opens .names
 
   pub closed-run : not (r .begun) ≡ true
-      → RunLeaves flat-names (counting-of way) l (record { number = r .number; place = r .place; cell = 0; steps = 0; count = 0 }) (memory ws′ ns′ (l .memory .grid) (l .memory .scratch) (l .memory .marks))
+      → RunLeaves flat-names (counting-of way) l (record { number = r .number; place = r .place; line = r .line; cell = 0; steps = 0; count = 0 }) (memory ws′ ns′ (l .memory .grid) (l .memory .scratch) (l .memory .marks))
   closed-run e =
       let shut = not-true (r .begun) e in
       left-by (sym (opens .refuses shut (counting-of way))) (opens .words) names-are (room-kept (pos 0) _ (l .source) _ (l .memory .scratch) (opens .closed shut))
@@ -172,15 +179,15 @@ module _ (l : Lent ℕ) (list : is-built-in (l .list) ≡ true) {r : Opening} {w
     is : Begun (fits flat-names l) (l .source) (asked l) ws′ (r .rule) (r .reach) (r .timed)
     is = opens .opened (not-false (r .begun) e)
 
-    pub run-ready : Begins ws′ (r .rule) (l .sizes) (r .reach) (l .memory .grid) (l .memory .scratch) (l .memory .marks) (natAbs (l .start)) (natAbs (l .steps))
+    pub run-ready : Begins ws′ (r .rule) (l .sizes) (r .reach) (l .memory .grid) (l .memory .scratch) (l .memory .marks) (l .values) (natAbs (l .start)) (natAbs (l .steps))
     run-ready = begins-run is refl refl
 
     pub run-done : {all : Bool} {said : Report} {grid′ scratch′ : List ℤ} {marks′ : List ℕ} (n k : ℕ) → all ≡ every-step way (r .timed)
-        → Ran ws′ (r .rule) (l .sizes) (r .reach) all (natAbs (l .start)) (natAbs (l .steps)) (l .memory .grid) said grid′
+        → Ran ws′ (r .rule) (l .sizes) (r .reach) all (l .values) (natAbs (l .start)) (natAbs (l .steps)) every-cell (l .memory .grid) said grid′
         → scratch′ ≡ replicate n (pos 0) → length scratch′ ≡ length (l .memory .scratch) → marks′ ≡ replicate k 0 → length marks′ ≡ length (l .memory .marks)
         → RunLeaves flat-names (counting-of way) l said (memory ws′ ns′ grid′ scratch′ marks′)
     run-done {all} {said} {grid′} n k a ran s j t m =
-        left-by (source-report is way (subst (λ (x : Bool). Ran ws′ (r .rule) (l .sizes) (r .reach) x (natAbs (l .start)) (natAbs (l .steps)) (l .memory .grid) said grid′) a ran))
+        left-by (source-report is way (subst (λ (x : Bool). Ran ws′ (r .rule) (l .sizes) (r .reach) x (l .values) (natAbs (l .start)) (natAbs (l .steps)) every-cell (l .memory .grid) said grid′) a ran))
         (opens .words) names-are
         (cleared (pos 0) n (l .memory .scratch) s j ∙ room-cleared (pos 0) _ (l .source) _ (l .memory .scratch) (began is))
         (cleared 0 k (l .memory .marks) t m ∙ room-cleared 0 _ (l .source) _ (l .memory .marks) (began is))
@@ -193,23 +200,23 @@ module _ (l : Lent ℕ) (list : is-built-in (l .list) ≡ true) {r : Opening} {w
 
 -- another list than the built-in one: nothing is read, and nothing changes
 pub unlisted-run : {N : Type 0} (form : NameForm N) (counting : Counting) (l : Lent N) → fits form l ≡ false
-    → RunLeaves form counting l (record { number = 1; place = 0; cell = 0; steps = 0; count = 0 }) (l .memory)
+    → RunLeaves form counting l (record { number = 1; place = 0; line = 0; cell = 0; steps = 0; count = 0 }) (l .memory)
 unfolding run-source words-after room-after read-source
 unlisted-run form counting l e =
     left-by (rw e) (rw e) (rw e) (rw e) (rw e)
 
 module _ (list : List ℕ) {t : Bool} (is : t ≡ is-built-in list) where
-  pub unlisted : (way : Bool) (l : Lent ℕ) → l .list ≡ list → not t ≡ true → RunLeaves flat-names (counting-of way) l (record { number = 1; place = 0; cell = 0; steps = 0; count = 0 }) (l .memory)
+  pub unlisted : (way : Bool) (l : Lent ℕ) → l .list ≡ list → not t ≡ true → RunLeaves flat-names (counting-of way) l (record { number = 1; place = 0; line = 0; cell = 0; steps = 0; count = 0 }) (l .memory)
   unlisted way l e n = unlisted-run flat-names (counting-of way) l (ap (λ (x : List ℕ). is-built-in x && rooms-fit (length (l .memory .words)) (length (l .memory .names))) e ∙ ap (λ (u : Bool). u && rooms-fit (length (l .memory .words)) (length (l .memory .names))) (sym is ∙ not-true t n))
 
   pub listed : {counting : Counting} {lends : List ℕ → Lent ℕ} {said : Report} {m : Memory ℕ} → not t ≡ false → RunsListed counting lends said m → RunLeaves flat-names counting (lends list) said m
   listed n h = h .each list (sym is ∙ not-false t n)
 
 -- the times as the machine reads them
-pub read-times : {N : Type 0} {form : NameForm N} {counting : Counting} {source list sizes : List ℕ} {m m′ : Memory N} {start steps : ℤ} {said : Report} → SFits w64 start → SFits w64 steps
-    → RunLeaves form counting (lent source list sizes m (toZ w64 (ofZ w64 start)) (toZ w64 (ofZ w64 steps))) said m′ → RunLeaves form counting (lent source list sizes m start steps) said m′
-read-times {N} {form} {counting} {source} {list} {sizes} {m} {m′} {start} {steps} {said} h k =
-    subst₂ (λ (a b : ℤ). RunLeaves form counting (lent source list sizes m a b) said m′) (toZ-ofZ h) (toZ-ofZ k)
+pub read-times : {N : Type 0} {form : NameForm N} {counting : Counting} {source list sizes values : List ℕ} {m m′ : Memory N} {start steps : ℤ} {said : Report} → SFits w64 start → SFits w64 steps
+    → RunLeaves form counting (lent source list sizes m values (toZ w64 (ofZ w64 start)) (toZ w64 (ofZ w64 steps))) said m′ → RunLeaves form counting (lent source list sizes m values start steps) said m′
+read-times {N} {form} {counting} {source} {list} {sizes} {values} {m} {m′} {start} {steps} {said} h k =
+    subst₂ (λ (a b : ℤ). RunLeaves form counting (lent source list sizes m values a b) said m′) (toZ-ofZ h) (toZ-ofZ k)
 
 -- the grid that a run leaves has each field in its range
 pub run-ranges : {N : Type 0} (form : NameForm N) (counting : Counting) (l : Lent N) {said : Report} {m : Memory N} → RunLeaves form counting l said m

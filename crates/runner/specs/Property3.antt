@@ -11,7 +11,7 @@ use lib.Dec.{eqb, ltb}
 use lib.IntN.{ℤ, natAbs}
 use borrow.Author.Tests.{ltb-false}
 use Rattle.value.specs.Choice.{if_then_else_}
-use Rattle.automaton.specs.Step.{Fault, no-fault, fault-at, every-cell, Blocks, no-blocks, run-of}
+use Rattle.automaton.specs.Step.{Fault, no-fault, fault-at, every-cell, Blocks, run-of}
 use Rattle.automaton.specs.Quiet.{QuietAgrees, open-le-full}
 use Rattle.automaton.specs.Going.{open-is-full}
 use Rattle.automaton.specs.Grid.{automaton}
@@ -21,10 +21,10 @@ use Rattle.grammar.specs.Source.{Accepted, parse}
 use Rattle.grammar.specs.Checking as checking
 use Rattle.grammar.specs.Checking.{Outcome, turned-away, accepted, outcome-of, read-source}
 use Rattle.linking.specs.Accepted.{parsed, flagged}
-use Rattle.stepper.specs.Admission.{Request, admission}
 use Rattle.stepper.specs.Reach.{running}
-use Rattle.stepper.specs.Report.{full, quiet, Report, ended, report-of, run}
+use Rattle.stepper.specs.Report.{full, quiet, Report, ended}
 use Rattle.stepper.specs.Covering as covering
+use Rattle.services.specs.Running.{Asked, admitted, blocks, report-of, run}
 use Rattle.services.specs.Services.{run-read, run-source}
 use Rattle.runner.specs.Timing.{timing}
 
@@ -32,44 +32,45 @@ use Rattle.runner.specs.Timing.{timing}
 pub record Agree (q f : Report) : Type 0 where
   pub number : q .number ≡ f .number
   pub place : q .place ≡ f .place
+  pub line : q .line ≡ f .line
   pub cell : q .cell ≡ f .cell
   pub steps : q .steps ≡ f .steps
   pub grid : q .grid ≡ f .grid
   pub count : q .count ≤ f .count
 
 -- what property 3 says of a source and what is asked of a run
-pub record Property3 (fit : Bool) (source : List ℕ) (q : Request) : Type 0 where
+pub record Property3 (fit : Bool) (source : List ℕ) (q : Asked) : Type 0 where
   -- the reports of the definition
   pub agree : Agree (run-source quiet fit source q) (run-source full fit source q)
   -- where `time` stands in the source, the counts are equal
   pub timed : (a : Accepted) → read-source fit source ≡ accepted a → a .program .timed ≡ true → run-source quiet fit source q .count ≡ run-source full fit source q .count
   -- the run that evaluates the open cells alone gives the run of the definition, and counts the definition's open cells, whatever blocks are set
-  pub skips : (a : Accepted) → read-source fit source ≡ accepted a → length (q .sizes) ≡ a .program .dims → (block : Blocks (List ℤ)) (n t : ℕ)
-      → QuietAgrees (running (a .program) (q .sizes)) block n t (q .grid)
+  pub skips : (a : Accepted) → read-source fit source ≡ accepted a → length (q .request .sizes) ≡ a .program .dims → (block : Blocks (List ℤ)) (n t : ℕ)
+      → QuietAgrees (running (a .program) (q .request .sizes)) block n t (q .request .grid)
 
 -- a report agrees with itself
 pub same : (r : Report) → Agree r r
-same r = record { number = refl; place = refl; cell = refl; steps = refl; grid = refl; count = le-refl (r .count) }
+same r = record { number = refl; place = refl; line = refl; cell = refl; steps = refl; grid = refl; count = le-refl (r .count) }
 
 ended-agree : (f : Fault) (steps : ℕ) {c d : ℕ} (g : List ℤ) → c ≤ d → Agree (ended f steps c g) (ended f steps d g)
-ended-agree no-fault steps g l = record { number = refl; place = refl; cell = refl; steps = refl; grid = refl; count = l }
-ended-agree (fault-at cell number place) steps g l = record { number = refl; place = refl; cell = refl; steps = refl; grid = refl; count = l }
+ended-agree no-fault steps g l = record { number = refl; place = refl; line = refl; cell = refl; steps = refl; grid = refl; count = l }
+ended-agree (fault-at cell number place) steps g l = record { number = refl; place = refl; line = refl; cell = refl; steps = refl; grid = refl; count = l }
 
-reports-agree : (p : Program) (q : Request) → Agree (report-of quiet p q) (report-of full p q)
+reports-agree : (p : Program) (q : Asked) → Agree (report-of quiet p q) (report-of full p q)
 unfolding report-of
 reports-agree p q =
-    let r = run-of (running p (q .sizes)) no-blocks (natAbs (q .steps)) (natAbs (q .start)) (q .grid) in
-    ended-agree (r .fault) (r .steps) (r .grid) (open-le-full (running p (q .sizes)) no-blocks (natAbs (q .steps)) every-cell (natAbs (q .start)) (q .grid))
+    let r = run-of (running p (q .request .sizes)) (blocks p q) (natAbs (q .request .steps)) (natAbs (q .request .start)) (q .request .grid) in
+    ended-agree (r .fault) (r .steps) (r .grid) (open-le-full (running p (q .request .sizes)) (blocks p q) (natAbs (q .request .steps)) every-cell (natAbs (q .request .start)) (q .request .grid))
 
-runs-agree : (p : Program) (q : Request) → Agree (run quiet p q) (run full p q)
+runs-agree : (p : Program) (q : Asked) → Agree (run quiet p q) (run full p q)
 unfolding run
-runs-agree p q = by (eqb (admission p q .number) 0) refl
+runs-agree p q = by (eqb (admitted p q .number) 0) refl
   where
-    by : (b : Bool) → eqb (admission p q .number) 0 ≡ b → Agree (run quiet p q) (run full p q)
+    by : (b : Bool) → eqb (admitted p q .number) 0 ≡ b → Agree (run quiet p q) (run full p q)
     by true e = rw (e, run) (reports-agree p q)
     by false e = rw (e, run) (same _)
 
-outcomes-agree : (q : Request) (o : Outcome) → Agree (run-read quiet q o) (run-read full q o)
+outcomes-agree : (q : Asked) (o : Outcome) → Agree (run-read quiet q o) (run-read full q o)
 outcomes-agree q (turned-away number place) = same _
 outcomes-agree q (checking.refused number place) = same _
 outcomes-agree q (accepted a) = runs-agree (a .program) q
@@ -80,18 +81,18 @@ ended-count : (f : Fault) (steps c : ℕ) (g : List ℤ) → ended f steps c g .
 ended-count no-fault steps c g = refl
 ended-count (fault-at cell number place) steps c g = refl
 
-reports-count : (p : Program) (q : Request) → p .timed ≡ true → report-of quiet p q .count ≡ report-of full p q .count
+reports-count : (p : Program) (q : Asked) → p .timed ≡ true → report-of quiet p q .count ≡ report-of full p q .count
 unfolding report-of running automaton
 reports-count p q e =
-    let r = run-of (running p (q .sizes)) no-blocks (natAbs (q .steps)) (natAbs (q .start)) (q .grid) in
-    ended-count (r .fault) (r .steps) _ (r .grid) ∙ open-is-full (running p (q .sizes)) e no-blocks (natAbs (q .steps)) every-cell (natAbs (q .start)) (q .grid)
+    let r = run-of (running p (q .request .sizes)) (blocks p q) (natAbs (q .request .steps)) (natAbs (q .request .start)) (q .request .grid) in
+    ended-count (r .fault) (r .steps) _ (r .grid) ∙ open-is-full (running p (q .request .sizes)) e (blocks p q) (natAbs (q .request .steps)) every-cell (natAbs (q .request .start)) (q .request .grid)
     ∙ sym (ended-count (r .fault) (r .steps) _ (r .grid))
 
-runs-count : (p : Program) (q : Request) → p .timed ≡ true → run quiet p q .count ≡ run full p q .count
+runs-count : (p : Program) (q : Asked) → p .timed ≡ true → run quiet p q .count ≡ run full p q .count
 unfolding run
-runs-count p q e = by (eqb (admission p q .number) 0) refl
+runs-count p q e = by (eqb (admitted p q .number) 0) refl
   where
-    by : (b : Bool) → eqb (admission p q .number) 0 ≡ b → run quiet p q .count ≡ run full p q .count
+    by : (b : Bool) → eqb (admitted p q .number) 0 ≡ b → run quiet p q .count ≡ run full p q .count
     by true h = rw (h, run) (reports-count p q e)
     by false h = rw (h, run)
 
@@ -117,7 +118,7 @@ read-of true source a e = by (ltb 65535 (length source)) refl e
     by false l q = (ltb-false 65535 (length source) l, read (parse source) q)
 
 -- Property 3 holds of every source and every run that is asked of it.
-pub property-3 : (fit : Bool) (source : List ℕ) (q : Request) → Property3 fit source q
+pub property-3 : (fit : Bool) (source : List ℕ) (q : Asked) → Property3 fit source q
 unfolding run-source
 property-3 fit source q =
     record {
@@ -125,5 +126,5 @@ property-3 fit source q =
       timed = λ a e t. rw e (runs-count (a .program) q t);
       skips = λ a e dims block n t.
           let r = read-of fit source a e in
-          covering.property-3 (a .program) (q .sizes) dims (flagged timing source a (parsed source (r .0) a (r .1))) block n t (q .grid);
+          covering.property-3 (a .program) (q .request .sizes) dims (flagged timing source a (parsed source (r .0) a (r .1))) block n t (q .request .grid);
     }

@@ -11,14 +11,15 @@ use Rattle.grammar.specs.Source.{Accepted}
 use Rattle.grammar.specs.Checking.{read-source, accepted, words-after, names-after}
 use Rattle.semantics.specs.declared.Rule.{Rule}
 use Rattle.stepper.specs.declared.Reach.{Reach}
-use Rattle.stepper.specs.Admission.{Request, admission}
 use Rattle.stepper.specs.Report.{Counting, full, quiet, refused}
 use Rattle.stepper.specs.Fitting.{Sized, Shaped, Near}
+use Rattle.list_reader.specs.Places.{Dimensions}
+use Rattle.services.specs.Running.{Asked, admitted}
 use Rattle.services.specs.Services.{run-begins, run-source}
 use Rattle.services.specs.Calls.{NameForm, flat-names, Memory, Lent, run-left}
 use Rattle.iteration.specs.declared.Report.{Report}
 use Rattle.runner.specs.declared.opening.Opening.{Opening}
-use Rattle.iteration.specs.Stepwise.{Runs, told}
+use Rattle.iteration.specs.Stepwise.{Listed, Runs, told}
 
 -- which cells a run counts: the open ones, or all
 abbrev pub counting-of : Bool → Counting
@@ -33,27 +34,29 @@ every-step false timed = true
 -- ---- the beginning
 
 -- a run begins: the source is accepted, and its program stands in the table with this reach; the run is admitted
-pub record Begun (fit : Bool) (source : List ℕ) (q : Request) (words : List ℕ) (rule : Rule) (r : Reach) (timed : Bool) : Type 0 where
+pub record Begun (fit : Bool) (source : List ℕ) (q : Asked) (words : List ℕ) (rule : Rule) (r : Reach) (timed : Bool) : Type 0 where
   pub read : Accepted
   pub is : read-source fit source ≡ accepted read
-  pub admitted : admission (read .program) q .number ≡ 0
+  pub admits : admitted (read .program) q .number ≡ 0
   pub runs : Runs words rule r timed (read .program)
   pub rule-fits : Sized (length words) rule
   pub some-dims : 0 < rule .dims
-  pub shaped : Shaped rule (q .sizes) (length (q .grid))
-  pub scratch-fits : q .scratch ≡ length (q .grid)
-  pub marks-fit : q .marks ≡ product (q .sizes)
-  pub near : Near (q .sizes) (r .bounds)
-  pub start-is : q .start ≡ pos (natAbs (q .start))
-  pub steps-is : q .steps ≡ pos (natAbs (q .steps))
-  pub times : natAbs (q .start) + natAbs (q .steps) ≤ 2147483647
+  pub shaped : Shaped rule (q .request .sizes) (length (q .request .grid))
+  pub scratch-fits : q .request .scratch ≡ length (q .request .grid)
+  pub marks-fit : q .request .marks ≡ product (q .request .sizes)
+  pub near : Near (q .request .sizes) (r .bounds)
+  pub start-is : q .request .start ≡ pos (natAbs (q .request .start))
+  pub steps-is : q .request .steps ≡ pos (natAbs (q .request .steps))
+  pub times : natAbs (q .request .start) + natAbs (q .request .steps) ≤ 2147483647
+  pub dimensions : Dimensions (q .request .sizes)
+  pub listed : Listed (q .request .sizes) (q .values) (natAbs (q .request .start))
 
 -- whether a run of a source begins, and what it leaves of word table and name list
-pub record Opens (fit : Bool) (source ws ns : List ℕ) (q : Request) (r : Opening) (ws′ ns′ : List ℕ) : Type 0 where
+pub record Opens (fit : Bool) (source ws ns : List ℕ) (q : Asked) (r : Opening) (ws′ ns′ : List ℕ) : Type 0 where
   pub words : ws′ ≡ words-after fit source ws
   pub names : ns′ ≡ names-after fit source ns
   pub closed : r .begun ≡ false → run-begins q (read-source fit source) ≡ false
-  pub refuses : r .begun ≡ false → (counting : Counting) → run-source counting fit source q ≡ refused (r .number) (r .place) (q .grid)
+  pub refuses : r .begun ≡ false → (counting : Counting) → run-source counting fit source q ≡ refused (r .number) (r .place) (r .line) (q .request .grid)
   pub opened : r .begun ≡ true → Begun fit source q ws′ (r .rule) (r .reach) (r .timed)
 
 -- ---- the whole run

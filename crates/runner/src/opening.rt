@@ -3,32 +3,37 @@ ghost use mathlib.Core.Path.{_≡_};
 ghost use mathlib.Core.Bool.{false};
 ghost use lib.ListN.{length};
 ghost use Rattle.grammar.specs.Checking.{rooms-fit};
+ghost use Rattle.services.specs.Running.{ask};
 ghost use Rattle.admission.specs.Admitting.{request-of};
 ghost use Rattle.runner.specs.Sourcewise.{Opens};
 use admission::admit;
 use checker::load;
+use list_reader::checking::check_list;
 use semantics::Rule;
 use stepper::Reach;
 use stepper::own_only;
 
-// Whether a run begins: then the rule, its reach and whether `time` stands in the source; else the refusal's number and place.
+// Whether a run begins: then the rule, its reach and whether `time` stands in the source; else the refusal's number, its place, and its line in the
+// value list.
 pub struct Opening {
     pub begun: bool,
     pub number: u32,
     pub place: u32,
+    pub line: u64,
     pub rule: Rule,
     pub reach: Reach,
     pub timed: bool,
 }
 
 // A run that does not begin.
-fn closed(number: u32, place: u32) -> Opening
-    ensures { λ r. ⌜ (r .begun ≡ false) × (r .number ≡ number) × (r .place ≡ place) ⌝ }
+fn closed(number: u32, place: u32, line: u64) -> Opening
+    ensures { λ r. ⌜ (r .begun ≡ false) × (r .number ≡ number) × (r .place ≡ place) × (r .line ≡ line) ⌝ }
 {
     Opening {
         begun: false,
         number: number,
         place: place,
+        line: line,
         rule: Rule {
             tokens: 0,
             base: 0,
@@ -42,7 +47,7 @@ fn closed(number: u32, place: u32) -> Opening
     }
 }
 
-// Reads a source and admits a run of it. `scratch` and `marks` are the lengths of these.
+// Reads a source and admits a run of it with its value list. `scratch` and `marks` are the lengths of these.
 pub fn open_run(
     source: &[u8],
     words: &mut [u32],
@@ -51,14 +56,15 @@ pub fn open_run(
     grid: &[i32],
     scratch: usize,
     marks: usize,
+    values: &[u8],
     start: i64,
     steps: i64,
 ) -> Opening
-    ensures { λ r. ⌜ Opens (rooms-fit (length (now (words .entry))) (length (now (names .entry)))) (now (source .entry)) (now (words .entry)) (now (names .entry)) (request-of (now (sizes .entry)) (now (grid .entry)) scratch marks start steps) r (now (words .exit)) (now (names .exit)) ⌝ }
+    ensures { λ r. ⌜ Opens (rooms-fit (length (now (words .entry))) (length (now (names .entry)))) (now (source .entry)) (now (words .entry)) (now (names .entry)) (ask (request-of (now (sizes .entry)) (now (grid .entry)) scratch marks start steps) (now (values .entry))) r (now (words .exit)) (now (names .exit)) ⌝ }
 {
     let loaded = load(source, words, names);
     if !loaded.accepted {
-        return closed(loaded.number, loaded.place);
+        return closed(loaded.number, loaded.place, 0);
     }
     let outline = loaded.outline;
     let rule = Rule {
@@ -71,13 +77,20 @@ pub fn open_run(
     };
     let admitted = admit(words, rule, sizes, grid, scratch, marks, start, steps);
     if admitted.number != 0 {
-        return closed(admitted.number, admitted.place);
+        return closed(admitted.number, admitted.place, 0);
+    }
+    let first = start as u32;
+    let last = first + steps as u32;
+    let verdict = check_list(values, words, rule, sizes, first, last);
+    if verdict.number != 0 {
+        return closed(verdict.number, 0, verdict.line);
     }
     let reach = admitted.reach;
     Opening {
         begun: true,
         number: 0,
         place: 0,
+        line: 0,
         rule: rule,
         reach: reach,
         timed: outline.timed,

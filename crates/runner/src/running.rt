@@ -34,11 +34,12 @@ fn run_listed(
     grid: &mut [i32],
     scratch: &mut [i32],
     marks: &mut [u8],
+    values: &[u8],
     start: i64,
     steps: i64,
     quiet: bool,
 ) -> Report
-    ensures { λ r. ⌜ RunsListed (counting-of quiet) (λ (list : List ℕ). (lent (now (source .entry)) list (now (sizes .entry)) (memory (now (words .entry)) (now (names .entry)) (now (grid .entry)) (now (scratch .entry)) (now (marks .entry))) start steps)) r (memory (now (words .exit)) (now (names .exit)) (now (grid .exit)) (now (scratch .exit)) (now (marks .exit))) ⌝ }
+    ensures { λ r. ⌜ RunsListed (counting-of quiet) (λ (list : List ℕ). (lent (now (source .entry)) list (now (sizes .entry)) (memory (now (words .entry)) (now (names .entry)) (now (grid .entry)) (now (scratch .entry)) (now (marks .entry))) (now (values .entry)) start steps)) r (memory (now (words .exit)) (now (names .exit)) (now (grid .exit)) (now (scratch .exit)) (now (marks .exit))) ⌝ }
 {
     let opening = open_run(
         source,
@@ -48,6 +49,7 @@ fn run_listed(
         grid,
         scratch.len(),
         marks.len(),
+        values,
         start,
         steps,
     );
@@ -55,6 +57,7 @@ fn run_listed(
         return Report {
             number: opening.number,
             place: opening.place,
+            line: opening.line,
             cell: 0,
             steps: 0,
             count: 0,
@@ -72,6 +75,7 @@ fn run_listed(
         grid,
         scratch,
         marks,
+        values,
         start as u32,
         steps as u32,
     );
@@ -80,7 +84,7 @@ fn run_listed(
     report
 }
 
-// Runs a source on a grid: so many steps from a start time. A full run evaluates every cell in each step, a quiet one only the cells that are open in
+// Runs a source on a grid: so many steps from a start time, with the blocks of a value list, which is empty where there is none. A full run evaluates every cell in each step, a quiet one only the cells that are open in
 // it: the answer and the grid are the same, and the count is of the open cells.
 pub fn run(
     source: &[u8],
@@ -91,18 +95,20 @@ pub fn run(
     grid: &mut [i32],
     scratch: &mut [i32],
     marks: &mut [u8],
+    values: &[u8],
     start: i64,
     steps: i64,
     quiet: bool,
 ) -> Report
-    ensures { λ r. ⌜ RunLeaves flat-names (counting-of quiet) (lent (now (source .entry)) (now (list .entry)) (now (sizes .entry)) (memory (now (words .entry)) (now (names .entry)) (now (grid .entry)) (now (scratch .entry)) (now (marks .entry))) start steps) r (memory (now (words .exit)) (now (names .exit)) (now (grid .exit)) (now (scratch .exit)) (now (marks .exit))) ⌝ }
-    ensures agrees { λ r. ⌜ Agree (told r (now (grid .exit))) (run-report flat-names full (lent (now (source .entry)) (now (list .entry)) (now (sizes .entry)) (memory (now (words .entry)) (now (names .entry)) (now (grid .entry)) (now (scratch .entry)) (now (marks .entry))) start steps)) ⌝ }
-    ensures ranges { λ _. ⌜ RangesKept (read-lent flat-names (lent (now (source .entry)) (now (list .entry)) (now (sizes .entry)) (memory (now (words .entry)) (now (names .entry)) (now (grid .entry)) (now (scratch .entry)) (now (marks .entry))) start steps)) (asked (lent (now (source .entry)) (now (list .entry)) (now (sizes .entry)) (memory (now (words .entry)) (now (names .entry)) (now (grid .entry)) (now (scratch .entry)) (now (marks .entry))) start steps)) (now (grid .exit)) ⌝ }
+    ensures { λ r. ⌜ RunLeaves flat-names (counting-of quiet) (lent (now (source .entry)) (now (list .entry)) (now (sizes .entry)) (memory (now (words .entry)) (now (names .entry)) (now (grid .entry)) (now (scratch .entry)) (now (marks .entry))) (now (values .entry)) start steps) r (memory (now (words .exit)) (now (names .exit)) (now (grid .exit)) (now (scratch .exit)) (now (marks .exit))) ⌝ }
+    ensures agrees { λ r. ⌜ Agree (told r (now (grid .exit))) (run-report flat-names full (lent (now (source .entry)) (now (list .entry)) (now (sizes .entry)) (memory (now (words .entry)) (now (names .entry)) (now (grid .entry)) (now (scratch .entry)) (now (marks .entry))) (now (values .entry)) start steps)) ⌝ }
+    ensures ranges { λ _. ⌜ RangesKept (read-lent flat-names (lent (now (source .entry)) (now (list .entry)) (now (sizes .entry)) (memory (now (words .entry)) (now (names .entry)) (now (grid .entry)) (now (scratch .entry)) (now (marks .entry))) (now (values .entry)) start steps)) (asked (lent (now (source .entry)) (now (list .entry)) (now (sizes .entry)) (memory (now (words .entry)) (now (names .entry)) (now (grid .entry)) (now (scratch .entry)) (now (marks .entry))) (now (values .entry)) start steps)) (now (grid .exit)) ⌝ }
 {
     if !is_built_in(list) {
         return Report {
             number: 1,
             place: 0,
+            line: 0,
             cell: 0,
             steps: 0,
             count: 0,
@@ -116,6 +122,7 @@ pub fn run(
         grid,
         scratch,
         marks,
+        values,
         start,
         steps,
         quiet,

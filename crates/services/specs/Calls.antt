@@ -6,8 +6,8 @@ use lib.ListN.{length}
 use lib.IntN.{ℤ, pos}
 use Rattle.token.specs.Lexeme.{is-built-in}
 use Rattle.grammar.specs.Checking.{Outcome, rooms-fit, read-source, room-left, words-after}
-use Rattle.stepper.specs.Admission.{Request}
 use Rattle.stepper.specs.Report.{Counting, Report}
+use Rattle.services.specs.Running.{Asked, ask}
 use Rattle.services.specs.Services.{run-source, room-after}
 
 -- how the name list is lent: whether a word table and a name list of these lengths fit, the entry where no name is declared, and the entries for the
@@ -32,17 +32,19 @@ pub record Memory (N : Type 0) : Type 0 where
 abbrev pub memory : {N : Type 0} → List ℕ → List N → List ℤ → List ℤ → List ℕ → Memory N
 memory words names grid scratch marks = record { words = words; names = names; grid = grid; scratch = scratch; marks = marks }
 
--- what a run is lent: the source, the built-in list, the sizes, the memory, the start time and the number of steps
+-- what a run is lent: the source, the built-in list, the sizes, the memory, the value list, the start time and the number of steps
 pub record Lent (N : Type 0) : Type 0 where
   pub source : List ℕ
   pub list : List ℕ
   pub sizes : List ℕ
   pub memory : Memory N
+  pub values : List ℕ
   pub start : ℤ
   pub steps : ℤ
 
-abbrev pub lent : {N : Type 0} → List ℕ → List ℕ → List ℕ → Memory N → ℤ → ℤ → Lent N
-lent source list sizes m start steps = record { source = source; list = list; sizes = sizes; memory = m; start = start; steps = steps }
+abbrev pub lent : {N : Type 0} → List ℕ → List ℕ → List ℕ → Memory N → List ℕ → ℤ → ℤ → Lent N
+lent source list sizes m values start steps =
+    record { source = source; list = list; sizes = sizes; memory = m; values = values; start = start; steps = steps }
 
 -- what a run leaves: its report, and the memory
 pub record Left (N : Type 0) : Type 0 where
@@ -54,16 +56,18 @@ abbrev pub fits : {N : Type 0} → NameForm N → Lent N → Bool
 fits form l = is-built-in (l .list) && form .fit (length (l .memory .words)) (length (l .memory .names))
 
 -- what is asked of the run
-abbrev pub asked : {N : Type 0} → Lent N → Request
+abbrev pub asked : {N : Type 0} → Lent N → Asked
 asked l =
-    record {
+    ask
+    (record {
       sizes = l .sizes;
       grid = l .memory .grid;
       start = l .start;
       steps = l .steps;
       scratch = length (l .memory .scratch);
       marks = length (l .memory .marks);
-    }
+    })
+    (l .values)
 
 -- how reading the source ends
 abbrev pub read-lent : {N : Type 0} → NameForm N → Lent N → Outcome

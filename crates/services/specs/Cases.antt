@@ -28,12 +28,17 @@ use Rattle.semantics.specs.Places
 use Rattle.stepper.specs.Reach
 use Rattle.stepper.specs.Admission
 use Rattle.stepper.specs.Report
+use Rattle.lists.specs.Text
+use Rattle.lists.specs.Lines
+use Rattle.lists.specs.ListChecking
+use Rattle.lists.specs.Setting
+use Rattle.services.specs.Running
 use Rattle.services.specs.Services
 use Rattle.automaton.specs.Grid.{differ}
 use Rattle.automaton.specs.Shape.{product}
-use Rattle.stepper.specs.Admission.{Request}
 use Rattle.stepper.specs.Report.{Report, full, quiet}
 use Rattle.grammar.specs.Checking.{rooms-fit, check}
+use Rattle.services.specs.Running.{Asked}
 use Rattle.services.specs.Services.{run-source}
 
 -- a source, and how many words and name records are lent to read it
@@ -50,28 +55,37 @@ pub data Case : Type 0 where
   -- a source, and the number and place of its check
   checks : Lent → ℕ → ℕ → Case
   -- a run, the report of the full run, and the quiet run's count
-  runs : Lent → Request → Report → ℕ → Case
+  runs : Lent → Asked → Report → ℕ → Case
 
 -- a source with rooms of the right length
 abbrev pub text : List ℕ → Lent
 text source = record { source = source; words = 16384; names = 256 }
 
--- a request with scratch and marks of the right length
-abbrev pub ask : List ℕ → List ℤ → ℤ → ℤ → Request
-ask sizes grid start n = record { sizes = sizes; grid = grid; start = start; steps = n; scratch = length grid; marks = product sizes }
+-- a run with a value list, scratch and marks of the right length
+abbrev pub ask-with : List ℕ → List ℕ → List ℤ → ℤ → ℤ → Asked
+ask-with values sizes grid start n =
+    record {
+      request = record { sizes = sizes; grid = grid; start = start; steps = n; scratch = length grid; marks = product sizes };
+      values = values;
+    }
+
+-- a run without one
+abbrev pub ask : List ℕ → List ℤ → ℤ → ℤ → Asked
+ask sizes grid start n = ask-with [] sizes grid start n
 
 abbrev pub report : ℕ → ℕ → ℕ → ℕ → ℕ → List ℤ → Report
-report n place cell done count grid = record { number = n; place = place; cell = cell; steps = done; count = count; grid = grid }
+report n place cell done count grid = record { number = n; place = place; line = 0; cell = cell; steps = done; count = count; grid = grid }
 
 -- two reports are the same
 unfoldable pub same-report : Report → Report → Bool
 same-report a b =
-    eqb (a .number) (b .number) && eqb (a .place) (b .place) && eqb (a .cell) (b .cell) && eqb (a .steps) (b .steps)
+    eqb (a .number) (b .number) && eqb (a .place) (b .place) && eqb (a .line) (b .line) && eqb (a .cell) (b .cell) && eqb (a .steps) (b .steps)
     && eqb (a .count) (b .count) && not (differ (a .grid) (b .grid))
 
 -- the report with another count
 abbrev pub counting : Report → ℕ → Report
-counting r count = report (r .number) (r .place) (r .cell) (r .steps) count (r .grid)
+counting r count =
+    record { number = r .number; place = r .place; line = r .line; cell = r .cell; steps = r .steps; count = count; grid = r .grid }
 
 -- a case holds. The line names all that a case computes with, so that `unfolding failing holds` is enough for a claim
 -- (tools/unfolding.py writes it)
@@ -108,8 +122,11 @@ unfolding same-report Listed.list-of Step.first-fault Step.how-many Step.any-of 
     Written.relatives-in-block Written.relatives-in Written.written-in-index Written.written-of Written.written-in
     Places.vectors-of Places.has-place Places.add-place Places.add-places Places.add-relative Places.add-relatives
     Places.places Reach.widened Reach.box Reach.reach Reach.running Admission.all-between Admission.good-sizes
-    Admission.good-rooms Admission.good-times Admission.too-far Admission.out-of-field Admission.admission Report.report-of
-    Report.run Services.run-source Services.room-after
+    Admission.good-rooms Admission.good-times Admission.too-far Admission.out-of-field Admission.admission Text.lines
+    Text.pieces Lines.indices Lines.values Lines.assigned Lines.said-by Lines.say Lines.said ListChecking.inside
+    ListChecking.all-fit ListChecking.cell-number ListChecking.time-number ListChecking.check-lines ListChecking.check-list
+    ListChecking.admission-with Setting.store-values Setting.set-lines Setting.set-block Running.report-of Running.run
+    Services.run-source Services.room-after
 holds (checks l n place) =
     let c = check (fit l) (l .source) in
     eqb (c .number) n && eqb (c .place) place

@@ -5,7 +5,8 @@ use Prim.Native.Nat.{ℕ}
 use Prim.Native.String.{String}
 use lib.IntN.{ℤ, pos, negsuc}
 use Rattle.token.specs.Bytes.{as-bytes}
-use Rattle.services.specs.Cases.{Lent, Case, checks, runs, text, ask, report, failing, holds}
+use Rattle.stepper.specs.Report.{refused}
+use Rattle.services.specs.Cases.{Lent, Case, checks, runs, text, ask, ask-with, report, failing, holds}
 
 -- a source of one dimension with an unnamed field of a range
 abbrev pub line : String → String → Lent
@@ -88,3 +89,36 @@ place-examples =
 pub places-hold : failing 1 place-examples ≡ []
 unfolding place-examples failing holds
 places-hold = refl
+
+-- ---- runs with a value list (request 1/13)
+
+-- M5's rule on its five cells, 2 steps from time 0
+abbrev pub shifts : String → List ℤ → ℕ → ℕ → Case
+shifts values after count full =
+    runs (line "0..1" "cell := [-1]") (ask-with (as-bytes values) (5 ∷ []) (pos 1 ∷ pos 0 ∷ pos 0 ∷ pos 0 ∷ pos 0 ∷ []) (pos 0) (pos 2)) (report 0 0 0 2 full after) count
+
+unfoldable pub list-examples : List Case
+list-examples =
+    -- a block before the second step: what it changed opens two cells more
+    shifts "1\n[3] = 1\n" (pos 0 ∷ pos 0 ∷ pos 1 ∷ pos 0 ∷ pos 1 ∷ []) 10 10
+    -- a cell that is set twice and has its old value again did not change
+    ∷ shifts "1\n[3] = 1\n[3] = 0\n" (pos 0 ∷ pos 0 ∷ pos 1 ∷ pos 0 ∷ pos 0 ∷ []) 8 10
+    -- what the first step changed, the block changes back: both are looked at
+    ∷ shifts "1\n[0] = 1\n[1] = 0\n" (pos 0 ∷ pos 1 ∷ pos 0 ∷ pos 0 ∷ pos 0 ∷ []) 8 10
+    -- the lines of a block are set in order
+    ∷ shifts "0\n[0] = 0\n1\n[4] = 0\n[4] = 1\n" (pos 1 ∷ pos 0 ∷ pos 0 ∷ pos 0 ∷ pos 0 ∷ []) 7 10
+    -- a block behind the last step
+    ∷ shifts "2\n[0] = 1\n[2] =\n" (pos 1 ∷ pos 0 ∷ pos 1 ∷ pos 0 ∷ pos 0 ∷ []) 8 10
+    -- a run of 0 steps sets the block of its time
+    ∷ runs (line "0..1" "cell := [-1]") (ask-with (as-bytes "7\n[1] = 1\n") (2 ∷ []) (pos 0 ∷ pos 0 ∷ []) (pos 7) (pos 0)) (report 0 0 0 0 0 (pos 0 ∷ pos 1 ∷ [])) 0
+    -- a fault leaves the grid with that step's block set
+    ∷ runs (line "0..3" "cell := cell + 1") (ask-with (as-bytes "1\n[0] = 0\n") (3 ∷ []) (pos 0 ∷ pos 2 ∷ pos 1 ∷ []) (pos 0) (pos 5))
+    (report 33 26 1 1 5 (pos 0 ∷ pos 3 ∷ pos 2 ∷ [])) 5
+    -- a list that is refused, and 24 before it
+    ∷ runs (line "0..1" "") (ask-with (as-bytes "1\n3\n") (1 ∷ []) (pos 0 ∷ []) (pos 0) (pos 2)) (refused 56 0 2 (pos 0 ∷ [])) 0
+    ∷ runs (line "0..1" "") (ask-with (as-bytes "1\n3\n") (1 ∷ []) (pos 2 ∷ []) (pos 0) (pos 2)) (refused 24 0 0 (pos 2 ∷ [])) 0
+    ∷ []
+
+pub lists-hold : failing 1 list-examples ≡ []
+unfolding list-examples failing holds
+lists-hold = refl

@@ -1,60 +1,85 @@
 -- Property 2, the ranges: each field of the grid that a run of a source leaves lies in its declared range, at a fault too.
-use mathlib.Core.Path.{_≡_, refl, sym, _∙_, subst}
+use mathlib.Core.Path.{_≡_, refl, sym, ap, _∙_, subst}
 use mathlib.Core.Bool.{Bool, true, false}
 use mathlib.Core.List.{List}
 use Prim.Native.Nat.{ℕ, _%_, _<_}
 use lib.ListN.{length, getD}
 use lib.Dec.{eqb}
-use lib.IntN.{ℤ}
-use borrow.Author.Tests.{eqb-true, eq-eqb}
+use lib.IntN.{ℤ, natAbs}
+use borrow.Author.Tests.{eqb-true, eqb-false, eq-eqb}
 use Rattle.value.specs.Laws.{never}
+use Rattle.automaton.specs.Step.{Fault, no-fault, fault-at, run-of}
 use Rattle.program.specs.Syntax.{no-range, Program}
 use Rattle.grammar.specs.Source.{Accepted}
 use Rattle.grammar.specs.Checking as checking
 use Rattle.grammar.specs.Checking.{Outcome, turned-away, accepted, read-source}
 use Rattle.semantics.specs.Evaluation.{entry, in-field}
-use Rattle.stepper.specs.Admission.{Request, admission}
-use Rattle.stepper.specs.Report.{Counting, run}
-use Rattle.stepper.specs.Ranges.{entry-in-range, on-grid, admitted-in-range, admitted-on, run-in-range, run-refused}
+use Rattle.stepper.specs.Reach.{running}
+use Rattle.stepper.specs.Report as report
+use Rattle.stepper.specs.Report.{Counting, ended}
+use Rattle.stepper.specs.Ranges.{FieldsInRange, entry-in-range, run-keeps, on-grid, admitted-dims, admitted-in-range, admitted-on}
+use Rattle.lists.specs.ListChecking.{limits-of}
+use Rattle.lists.specs.Kept.{set-block-keeps}
+use Rattle.services.specs.Running.{Asked, ask, admitted, blocks, report-of, run}
+use Rattle.services.specs.RunningLaws.{request-admitted, list-passes, both-admit, run-admitted, run-refused}
 use Rattle.services.specs.Services.{run-read, run-source, run-begins}
 
 -- The grid that a run leaves, by what is read and what is asked of the run.
-pub record RangesKept (read : Outcome) (q : Request) (left : List ℤ) : Type 0 where
+pub record RangesKept (read : Outcome) (q : Asked) (left : List ℤ) : Type 0 where
   -- there are as many entries as before
-  pub entries : length left ≡ length (q .grid)
+  pub entries : length left ≡ length (q .request .grid)
   -- after a run that began, each entry is in the range that is declared for its field
   pub within : (a : Accepted) → read ≡ accepted a → run-begins q read ≡ true → (e : ℕ) → e < length left
       → in-field (getD (a .program .fields) (e % length (a .program .fields)) no-range) (entry left e) ≡ true
   -- a run on the grid left would begin if this one did, and not otherwise
-  pub again : run-begins (on-grid q left) read ≡ run-begins q read
+  pub again : run-begins (ask (on-grid (q .request) left) (q .values)) read ≡ run-begins q read
 
 -- a run that did not begin leaves the grid as it was
-unbegun : (read : Outcome) (q : Request) → run-begins q read ≡ false → RangesKept read q (q .grid)
+unbegun : (read : Outcome) (q : Asked) → run-begins q read ≡ false → RangesKept read q (q .request .grid)
 unbegun read q e = record { entries = refl; within = λ a r b. never (sym e ∙ b); again = refl }
 
-run-kept : (counting : Counting) (a : Accepted) (q : Request) → RangesKept (accepted a) q (run counting (a .program) q .grid)
-run-kept counting a q = by (eqb (admission (a .program) q .number) 0) refl
+-- every entry of the grid that an admitted run leaves is in its field's range
+report-in-range : (counting : Counting) (p : Program) (q : Asked) → admitted p q .number ≡ 0 → FieldsInRange p (q .request .sizes) (report-of counting p q .grid)
+unfolding report-of
+report-in-range counting p q e =
+    let sizes = q .request .sizes in
+    let passed = request-admitted p q e in
+    let r = run-of (running p sizes) (blocks p q) (natAbs (q .request .steps)) (natAbs (q .request .start)) (q .request .grid) in
+    subst (FieldsInRange p sizes) (sym (ended-grid (r .fault) (r .steps) _ (r .grid)))
+    (run-keeps p sizes (admitted-dims p (q .request) passed) (blocks p q) (set-block-keeps p sizes (limits-of p (q .request)) refl refl (q .values) (list-passes p q e))
+    (natAbs (q .request .steps)) (natAbs (q .request .start)) (q .request .grid) (admitted-in-range p (q .request) passed))
   where
-    by : (b : Bool) → eqb (admission (a .program) q .number) 0 ≡ b → RangesKept (accepted a) q (run counting (a .program) q .grid)
-    by false e = subst (RangesKept (accepted a) q) (sym (run-refused counting (a .program) q e)) (unbegun (accepted a) q e)
+    ended-grid : (f : Fault) (steps count : ℕ) (g : List ℤ) → ended f steps count g .grid ≡ g
+    ended-grid no-fault steps count g = refl
+    ended-grid (fault-at cell number place) steps count g = refl
+
+run-kept : (counting : Counting) (a : Accepted) (q : Asked) → RangesKept (accepted a) q (run counting (a .program) q .grid)
+run-kept counting a q = by (eqb (admitted (a .program) q .number) 0) refl
+  where
+    grid-of : {x y : report.Report} → x ≡ y → x .grid ≡ y .grid
+    grid-of e = ap (λ (r : report.Report). r .grid) e
+
+    by : (b : Bool) → eqb (admitted (a .program) q .number) 0 ≡ b → RangesKept (accepted a) q (run counting (a .program) q .grid)
+    by false e = subst (RangesKept (accepted a) q) (sym (grid-of (run-refused (a .program) q counting (eqb-false _ 0 e)))) (unbegun (accepted a) q e)
     by true e =
-        let admitted = eqb-true (admission (a .program) q .number) 0 e in
-        let left = run-in-range counting (a .program) q admitted in
+        let began = eqb-true (admitted (a .program) q .number) 0 e in
+        let passed = request-admitted (a .program) q began in
+        let left = subst (FieldsInRange (a .program) (q .request .sizes)) (sym (grid-of (run-admitted (a .program) q counting began))) (report-in-range counting (a .program) q began) in
         record {
-          entries = left .entries ∙ sym (admitted-in-range (a .program) q admitted .entries);
+          entries = left .entries ∙ sym (admitted-in-range (a .program) (q .request) passed .entries);
           within = λ a′ r b k l. subst (λ (p : Program). in-field (getD (p .fields) (k % length (p .fields)) no-range) (entry (run counting (a .program) q .grid) k) ≡ true) (same r) (entry-in-range left k l);
-          again = eq-eqb _ 0 (admitted-on (a .program) q admitted _ left) ∙ sym e;
+          again = eq-eqb _ 0 (both-admit (a .program) (ask (on-grid (q .request) _) (q .values)) (admitted-on (a .program) (q .request) passed _ left) (list-passes (a .program) q began)) ∙ sym e;
         }
       where
         same : {a′ : Accepted} → accepted a ≡ accepted a′ → a .program ≡ a′ .program
         same r = cc
 
-read-kept : (counting : Counting) (read : Outcome) (q : Request) → RangesKept read q (run-read counting q read .grid)
+read-kept : (counting : Counting) (read : Outcome) (q : Asked) → RangesKept read q (run-read counting q read .grid)
 read-kept counting (turned-away number place) q = unbegun _ q refl
 read-kept counting (checking.refused number place) q = unbegun _ q refl
 read-kept counting (accepted a) q = run-kept counting a q
 
 -- It holds of every run, full or quiet, of every source.
-pub grid-in-ranges : (counting : Counting) (fit : Bool) (source : List ℕ) (q : Request) → RangesKept (read-source fit source) q (run-source counting fit source q .grid)
+pub grid-in-ranges : (counting : Counting) (fit : Bool) (source : List ℕ) (q : Asked) → RangesKept (read-source fit source) q (run-source counting fit source q .grid)
 unfolding run-source
 grid-in-ranges counting fit source q = read-kept counting (read-source fit source) q

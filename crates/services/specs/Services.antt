@@ -7,25 +7,25 @@ use lib.Dec.{eqb}
 use Rattle.value.specs.Choice.{if_then_else_}
 use Rattle.grammar.specs.Checking as checking
 use Rattle.grammar.specs.Checking.{Outcome, turned-away, accepted, read-source}
-use Rattle.stepper.specs.Admission.{Request, admission}
-use Rattle.stepper.specs.Report.{Counting, Report, refused, run}
+use Rattle.stepper.specs.Report.{Counting, Report, refused}
+use Rattle.services.specs.Running.{Asked, admitted, run}
 
 -- a run reads the source first
-abbrev pub run-read : Counting → Request → Outcome → Report
-run-read counting q (turned-away number place) = refused number place (q .grid)
-run-read counting q (checking.refused number place) = refused number place (q .grid)
+abbrev pub run-read : Counting → Asked → Outcome → Report
+run-read counting q (turned-away number place) = refused number place 0 (q .request .grid)
+run-read counting q (checking.refused number place) = refused number place 0 (q .request .grid)
 run-read counting q (accepted a) = run counting (a .program) q
 
 -- the report that a run of a source gives, full or quiet, with the grid that it leaves
-unfoldable pub run-source : Counting → Bool → List ℕ → Request → Report
+unfoldable pub run-source : Counting → Bool → List ℕ → Asked → Report
 run-source counting fit source q = run-read counting q (read-source fit source)
 
 -- whether a run of what is read begins: the source is accepted, and the run is admitted
-abbrev pub run-begins : Request → Outcome → Bool
+abbrev pub run-begins : Asked → Outcome → Bool
 run-begins q (turned-away number place) = false
 run-begins q (checking.refused number place) = false
-run-begins q (accepted a) = eqb (admission (a .program) q .number) 0
+run-begins q (accepted a) = eqb (admitted (a .program) q .number) 0
 
 -- scratch or marks after a run: zeros after one that began, even with 0 steps, else as they were
-unfoldable pub room-after : {A : Type 0} → A → Bool → List ℕ → Request → List A → List A
+unfoldable pub room-after : {A : Type 0} → A → Bool → List ℕ → Asked → List A → List A
 room-after none fit source q old = if run-begins q (read-source fit source) then replicate (length old) none else old

@@ -8,12 +8,12 @@ use mathlib.Core.Bool.{Bool, true, false, not, _&&_, cond}
 use mathlib.Core.List.{List, [], _∷_}
 use lib.ListN.{length, getD}
 use lib.Dec.{eqb, leb}
-use lib.IntN.{ℤ, pos, natAbs}
+use lib.IntN.{ℤ, pos}
 use borrow.Author.Tests.{eqb-true, eq-eqb}
 use Rattle.value.specs.Choice.{if_then_else_}
 use Rattle.value.specs.Laws.{never, and-both}
 use Rattle.automaton.specs.Listed.{length-list-of, getD-list-of}
-use Rattle.automaton.specs.Step.{Outcome, state, fault, Fault, no-fault, fault-at, Blocks, no-blocks, Step, Quiet, marks-of, touched, open-in, state-or, marked, grid-after, step-of, quiet-outcome, quiet-step, run-of, quiet-run}
+use Rattle.automaton.specs.Step.{Outcome, state, fault, Fault, no-fault, fault-at, Blocks, Step, Quiet, marks-of, touched, open-in, state-or, marked, grid-after, step-of, quiet-outcome, quiet-step, run-of, quiet-run}
 use Rattle.automaton.specs.Quiet.{run-go, run-stop, quiet-then, quiet-run-from}
 use Rattle.automaton.specs.Shape.{product, neighbour}
 use Rattle.automaton.specs.ShapeLaws.{alike-length, neighbour-lt}
@@ -24,7 +24,6 @@ use Rattle.semantics.specs.Evaluation.{entry, offsets, in-field}
 use Rattle.semantics.specs.Written.{written-in}
 use Rattle.stepper.specs.Reach.{running}
 use Rattle.stepper.specs.Admission.{Request, Refusal, refusal, all-between, good-sizes, good-rooms, good-times, too-far, out-of-field, admission}
-use Rattle.stepper.specs.Report.{Counting, ended, report-of, run}
 use Rattle.stepper.specs.Locality.{InRanges, in-at, evaluate-in-ranges}
 
 -- A grid of a program: cells times fields entries, of which the test of reply 24 finds none out of its field's range.
@@ -62,6 +61,11 @@ pub entry-in-range : {p : Program} {sizes : List ℕ} {g : List ℤ} → FieldsI
     → in-field (getD (p .fields) (e % length (p .fields)) no-range) (entry g e) ≡ true
 entry-in-range {p} {sizes} {g} h e l = rw (zero-add e) at (fine-of (p .fields) 0 g (h .within) e l)
 
+-- and a list of that size of which each entry is in its range is such a grid
+pub all-in-range : {p : Program} {sizes : List ℕ} {g : List ℤ} → length g ≡ product sizes * length (p .fields)
+    → ((e : ℕ) → e < length g → in-field (getD (p .fields) (e % length (p .fields)) no-range) (entry g e) ≡ true) → FieldsInRange p sizes g
+all-in-range {p} {sizes} {g} size h = record { entries = size; within = ap (λ (r : Refusal). r .number) (all-fine (p .fields) 0 g (λ k l. rw (zero-add k) (h k l))) }
+
 -- ---- cells
 
 -- values that are as many as the ranges, each in its range
@@ -93,17 +97,15 @@ module _ (p : Program) (sizes : List ℕ) where
 
   grid-in-range : (s : ℕ → List ℤ) → ((c : ℕ) → c < product sizes → InRanges (p .fields) (s c)) → FieldsInRange p sizes (grid-of (length (p .fields)) (product sizes) s)
   unfolding grid-of
-  grid-in-range s h = record {
-    entries = length-list-of _ (product sizes * length (p .fields));
-    within = ap (λ (r : Refusal). r .number) (all-fine (p .fields) 0 _ at);
-  }
+  grid-in-range s h = all-in-range (length-list-of _ (product sizes * length (p .fields))) at
     where
-      at : (k : ℕ) → k < length (grid-of (length (p .fields)) (product sizes) s) → Fine (p .fields) 0 (grid-of (length (p .fields)) (product sizes) s) k
+      at : (k : ℕ) → k < length (grid-of (length (p .fields)) (product sizes) s)
+          → in-field (getD (p .fields) (k % length (p .fields)) no-range) (entry (grid-of (length (p .fields)) (product sizes) s) k) ≡ true
       at k l =
           let n = length (p .fields) in
           let m : k < product sizes * n = subst (λ (x : ℕ). k < x) (length-list-of _ (product sizes * n)) l in
-          rw (zero-add k) (ap (in-field (getD (p .fields) (k % n) no-range)) (getD-list-of (λ (e : ℕ). getD (s (e / n)) (e % n) (pos 0)) (product sizes * n) k (pos 0) m)
-          ∙ in-at (p .fields) (s (k / n)) (h (k / n) (div-lt-iff-lt-mul (some-field (product sizes) n k m) .1 m)) (k % n))
+          ap (in-field (getD (p .fields) (k % n) no-range)) (getD-list-of (λ (e : ℕ). getD (s (e / n)) (e % n) (pos 0)) (product sizes * n) k (pos 0) m)
+          ∙ in-at (p .fields) (s (k / n)) (h (k / n) (div-lt-iff-lt-mul (some-field (product sizes) n k m) .1 m)) (k % n)
 
   -- ---- a step, under any marks or none
 
@@ -238,24 +240,3 @@ module _ (p : Program) (q : Request) where
         far-none = a .far-none;
         out-none = h .within;
       })
-
--- every entry of the grid that an admitted run leaves is in its field's range
-pub report-in-range : (counting : Counting) (p : Program) (q : Request) → admission p q .number ≡ 0 → FieldsInRange p (q .sizes) (report-of counting p q .grid)
-unfolding report-of
-report-in-range counting p q e =
-    let r = run-of (running p (q .sizes)) no-blocks (natAbs (q .steps)) (natAbs (q .start)) (q .grid) in
-    subst (FieldsInRange p (q .sizes)) (sym (ended-grid (r .fault) (r .steps) _ (r .grid)))
-    (run-keeps p (q .sizes) (admitted-dims p q e) no-blocks (λ t g h. h) (natAbs (q .steps)) (natAbs (q .start)) (q .grid) (admitted-in-range p q e))
-  where
-    ended-grid : (f : Fault) (steps count : ℕ) (g : List ℤ) → ended f steps count g .grid ≡ g
-    ended-grid no-fault steps count g = refl
-    ended-grid (fault-at cell number place) steps count g = refl
-
-pub run-in-range : (counting : Counting) (p : Program) (q : Request) → admission p q .number ≡ 0 → FieldsInRange p (q .sizes) (run counting p q .grid)
-unfolding run
-run-in-range counting p q e = rw (eq-eqb (admission p q .number) 0 e, run) (report-in-range counting p q e)
-
--- a refused run leaves its grid as it was
-pub run-refused : (counting : Counting) (p : Program) (q : Request) → eqb (admission p q .number) 0 ≡ false → run counting p q .grid ≡ q .grid
-unfolding run
-run-refused counting p q e = rw (e, run) refl

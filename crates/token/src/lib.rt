@@ -9,7 +9,7 @@ ghost use Rattle.token.specs.Promises.{Sorts, all-rows, Walks, Reads, Sc
 pub mod bytes;
 pub mod kind;
 mod lexing;
-mod runs;
+pub mod runs;
 pub mod scanning;
 mod spelling;
 

@@ -1,4 +1,5 @@
 // Running a source.
+ghost use mathlib.Core.List.{[]};
 ghost use Rattle.stepper.specs.Report.{full, quiet};
 ghost use Rattle.services.specs.Calls.{flat-names, memory, lent, asked, read-lent, run-report};
 ghost use Rattle.services.specs.RangesKept.{RangesKept};
@@ -9,7 +10,7 @@ use runner::run;
 use spelling::told_part;
 
 // Runs a source on a grid, each step of which evaluates every cell, and gives the reply's number.
-// `report` is told number, place, cell, steps and count, and the spelling: where it stands, its first byte and its length.
+// `report` is told number, place, cell, steps and count, the spelling: where it stands, its first byte and its length, and the line of a value list.
 #[no_mangle]
 pub extern "C" fn cellang_run_full(
     source: &[u8],
@@ -24,8 +25,8 @@ pub extern "C" fn cellang_run_full(
     steps: i64,
     report: &mut [u64],
 ) -> u32
-    ensures { λ r. ⌜ TellsRun full (lent (now (source .entry)) (now (list .entry)) (now (sizes .entry)) (memory (now (words .entry)) (now (names .entry)) (now (grid .entry)) (now (scratch .entry)) (now (marks .entry))) start steps) (now (report .entry)) r (memory (now (words .exit)) (now (names .exit)) (now (grid .exit)) (now (scratch .exit)) (now (marks .exit))) (now (report .exit)) ⌝ }
-    ensures ranges { λ _. ⌜ RangesKept (read-lent flat-names (lent (now (source .entry)) (now (list .entry)) (now (sizes .entry)) (memory (now (words .entry)) (now (names .entry)) (now (grid .entry)) (now (scratch .entry)) (now (marks .entry))) start steps)) (asked (lent (now (source .entry)) (now (list .entry)) (now (sizes .entry)) (memory (now (words .entry)) (now (names .entry)) (now (grid .entry)) (now (scratch .entry)) (now (marks .entry))) start steps)) (now (grid .exit)) ⌝ }
+    ensures { λ r. ⌜ TellsRun full (lent (now (source .entry)) (now (list .entry)) (now (sizes .entry)) (memory (now (words .entry)) (now (names .entry)) (now (grid .entry)) (now (scratch .entry)) (now (marks .entry))) [] start steps) (now (report .entry)) r (memory (now (words .exit)) (now (names .exit)) (now (grid .exit)) (now (scratch .exit)) (now (marks .exit))) (now (report .exit)) ⌝ }
+    ensures ranges { λ _. ⌜ RangesKept (read-lent flat-names (lent (now (source .entry)) (now (list .entry)) (now (sizes .entry)) (memory (now (words .entry)) (now (names .entry)) (now (grid .entry)) (now (scratch .entry)) (now (marks .entry))) [] start steps)) (asked (lent (now (source .entry)) (now (list .entry)) (now (sizes .entry)) (memory (now (words .entry)) (now (names .entry)) (now (grid .entry)) (now (scratch .entry)) (now (marks .entry))) [] start steps)) (now (grid .exit)) ⌝ }
 {
     let told = run(
         source,
@@ -36,6 +37,7 @@ pub extern "C" fn cellang_run_full(
         grid,
         scratch,
         marks,
+        &source[..0],
         start,
         steps,
         false,
@@ -51,6 +53,7 @@ pub extern "C" fn cellang_run_full(
         part.stands,
         part.start,
         part.len,
+        told.line,
     );
     told.number
 }
@@ -71,9 +74,9 @@ pub extern "C" fn cellang_run_quiet(
     steps: i64,
     report: &mut [u64],
 ) -> u32
-    ensures { λ r. ⌜ TellsRun quiet (lent (now (source .entry)) (now (list .entry)) (now (sizes .entry)) (memory (now (words .entry)) (now (names .entry)) (now (grid .entry)) (now (scratch .entry)) (now (marks .entry))) start steps) (now (report .entry)) r (memory (now (words .exit)) (now (names .exit)) (now (grid .exit)) (now (scratch .exit)) (now (marks .exit))) (now (report .exit)) ⌝ }
-    ensures ranges { λ _. ⌜ RangesKept (read-lent flat-names (lent (now (source .entry)) (now (list .entry)) (now (sizes .entry)) (memory (now (words .entry)) (now (names .entry)) (now (grid .entry)) (now (scratch .entry)) (now (marks .entry))) start steps)) (asked (lent (now (source .entry)) (now (list .entry)) (now (sizes .entry)) (memory (now (words .entry)) (now (names .entry)) (now (grid .entry)) (now (scratch .entry)) (now (marks .entry))) start steps)) (now (grid .exit)) ⌝ }
-    ensures agrees { λ _. ⌜ Agree (run-report flat-names quiet (lent (now (source .entry)) (now (list .entry)) (now (sizes .entry)) (memory (now (words .entry)) (now (names .entry)) (now (grid .entry)) (now (scratch .entry)) (now (marks .entry))) start steps)) (run-report flat-names full (lent (now (source .entry)) (now (list .entry)) (now (sizes .entry)) (memory (now (words .entry)) (now (names .entry)) (now (grid .entry)) (now (scratch .entry)) (now (marks .entry))) start steps)) ⌝ }
+    ensures { λ r. ⌜ TellsRun quiet (lent (now (source .entry)) (now (list .entry)) (now (sizes .entry)) (memory (now (words .entry)) (now (names .entry)) (now (grid .entry)) (now (scratch .entry)) (now (marks .entry))) [] start steps) (now (report .entry)) r (memory (now (words .exit)) (now (names .exit)) (now (grid .exit)) (now (scratch .exit)) (now (marks .exit))) (now (report .exit)) ⌝ }
+    ensures ranges { λ _. ⌜ RangesKept (read-lent flat-names (lent (now (source .entry)) (now (list .entry)) (now (sizes .entry)) (memory (now (words .entry)) (now (names .entry)) (now (grid .entry)) (now (scratch .entry)) (now (marks .entry))) [] start steps)) (asked (lent (now (source .entry)) (now (list .entry)) (now (sizes .entry)) (memory (now (words .entry)) (now (names .entry)) (now (grid .entry)) (now (scratch .entry)) (now (marks .entry))) [] start steps)) (now (grid .exit)) ⌝ }
+    ensures agrees { λ _. ⌜ Agree (run-report flat-names quiet (lent (now (source .entry)) (now (list .entry)) (now (sizes .entry)) (memory (now (words .entry)) (now (names .entry)) (now (grid .entry)) (now (scratch .entry)) (now (marks .entry))) [] start steps)) (run-report flat-names full (lent (now (source .entry)) (now (list .entry)) (now (sizes .entry)) (memory (now (words .entry)) (now (names .entry)) (now (grid .entry)) (now (scratch .entry)) (now (marks .entry))) [] start steps)) ⌝ }
 {
     let told = run(
         source,
@@ -84,6 +87,7 @@ pub extern "C" fn cellang_run_quiet(
         grid,
         scratch,
         marks,
+        &source[..0],
         start,
         steps,
         true,
@@ -99,6 +103,7 @@ pub extern "C" fn cellang_run_quiet(
         part.stands,
         part.start,
         part.len,
+        told.line,
     );
     told.number
 }

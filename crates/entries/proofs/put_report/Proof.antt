@@ -1,5 +1,5 @@
 use borrow.Author.Needs.{needs}
-use Rattle.entries.proofs.EntryLaws.{put-eight}
+use Rattle.entries.proofs.EntryLaws.{put-nine}
 use Rattle.entries.proofs.put_report.Statement.{statement}
 use Rattle.entries.proofs.put_report.Tie as tie
 
@@ -27,12 +27,16 @@ put-number-requires-7 c κs = search needs
 put-number-requires-8 : tie.Need-put-number-requires-8
 put-number-requires-8 c κs = search needs
 
+put-number-requires-9 : tie.Need-put-number-requires-9
+put-number-requires-9 c κs = search needs
+
 same-length : tie.Need-same-length
 same-length c = search needs
 
 returns : tie.Need-returns
 returns c =
-    let e8 = c .before .before in
+    let e9 = c .before .before in
+    let e8 = e9 .before .before .before .before in
     let e7 = e8 .before .before .before .before in
     let e6 = e7 .before .before .before .before in
     let e5 = e6 .before .before .before .before in
@@ -41,7 +45,7 @@ returns c =
     let e2 = e3 .before .before .before .before in
     let e1 = e2 .before .before .before .before in
     let s = e1 .before .before .before in
-    put-eight (s .args .entries .now) (s .args .number) (s .args .place) (s .args .cell) (s .args .steps) (s .args .count) (e1 .put-number .ensures) (e2 .put-number2 .ensures) (e3 .put-number3 .ensures) (e4 .put-number4 .ensures) (e5 .put-number5 .ensures) (s .args .stands) (s .args .start) (s .args .len) (e6 .put-number6 .ensures) (e7 .put-number7 .ensures) (e8 .put-number8 .ensures)
+    put-nine (s .args .entries .now) (s .args .number) (s .args .place) (s .args .cell) (s .args .steps) (s .args .count) (e1 .put-number .ensures) (e2 .put-number2 .ensures) (e3 .put-number3 .ensures) (e4 .put-number4 .ensures) (e5 .put-number5 .ensures) (s .args .stands) (s .args .start) (s .args .len) (s .args .line) (e6 .put-number6 .ensures) (e7 .put-number7 .ensures) (e8 .put-number8 .ensures) (e9 .put-number9 .ensures)
 
 pub put-report-spec : {M : Type 1} → statement M
 put-report-spec =
@@ -55,5 +59,6 @@ put-report-spec =
     put-number-requires-6
     put-number-requires-7
     put-number-requires-8
+    put-number-requires-9
     same-length
     returns)

@@ -15,16 +15,16 @@ abbrev μ-loop : tie.MeasureT-loop
 μ-loop sizes bounds steps listed fields old grid marks₀ counts n c₀ marks c = n - c
 
 counts-of-requires : tie.Need-counts-of-requires Inv-loop μ-loop
-counts-of-requires c κs = shaped _ _ _ _ _ _ _ _ (c .before .before .before .pre)
+counts-of-requires c κs = shaped _ _ _ _ _ _ _ _ (c .before .before .before .pre .markable)
 
 next-odd-requires : tie.Need-next-odd-requires Inv-loop μ-loop
 next-odd-requires c κs = search needs
 
 loop-holds : tie.Need-loop-holds Inv-loop μ-loop
-loop-holds c = (opening-skip _ _ _ _ _ _ _ _ (c .before .before .before .before .before .before .pre) _ _ _ (opening-start _ _ _ _ _ _ _ _ (c .before .before .before .before .before .before .pre)) (c .next-odd .ensures), refl, c .before .before .counts-of .ensures)
+loop-holds c = (opening-skip _ _ _ _ _ _ _ _ (c .before .before .before .before .before .before .pre) _ _ _ (opening-start _ _ _ _ _ _ _ _ (c .before .before .before .before .before .before .pre .markable)) (c .next-odd .ensures), refl, c .before .before .counts-of .ensures)
 
 open-changed-requires : tie.Need-open-changed-requires Inv-loop μ-loop
-open-changed-requires c κs = (shaped _ _ _ _ _ _ _ _ (c .before .before .before .before .before .before .before .before .before .before .pre), c .before .before .before .loop .inv .2, c .before .before .before .before .before .before .before .before .before .before .pre .led, c .before .before .before .before .before .before .before .before .before .before .pre .few, c .before .before .before .before .before .before .before .before .before .before .pre .old-fits, c .before .before .before .before .before .before .before .before .before .before .pre .grid-fits, c .before .before .before .loop .inv .0 .len ∙ c .before .before .before .before .before .before .before .before .before .before .pre .marks-fit, omega (arith, c .before .before .before .before .before .before .before .before .before .before .pre .marks-fit, c .before .before .loop-test .taken, c .before .before .before .loop .inv .1))
+open-changed-requires c κs = (shaped _ _ _ _ _ _ _ _ (c .before .before .before .before .before .before .before .before .before .before .pre .markable), c .before .before .before .loop .inv .2, c .before .before .before .before .before .before .before .before .before .before .pre .markable .led, c .before .before .before .before .before .before .before .before .before .before .pre .markable .few, c .before .before .before .before .before .before .before .before .before .before .pre .markable .old-fits, c .before .before .before .before .before .before .before .before .before .before .pre .markable .grid-fits, c .before .before .before .loop .inv .0 .len ∙ c .before .before .before .before .before .before .before .before .before .before .pre .markable .marks-fit, omega (arith, c .before .before .before .before .before .before .before .before .before .before .pre .markable .marks-fit, c .before .before .loop-test .taken, c .before .before .before .loop .inv .1))
 
 add-next-odd : tie.Need-add-next-odd Inv-loop μ-loop
 add-next-odd c = omega (arith, c .before .before .before .before .before .before .loop-test .taken)
@@ -36,7 +36,7 @@ loop-less : tie.Need-loop-less Inv-loop μ-loop
 loop-less c = search needs
 
 loop-again : tie.Need-loop-again Inv-loop μ-loop
-loop-again c = (opening-skip _ _ _ _ _ _ _ _ (c .before .before .before .before .before .before .before .before .before .before .before .before .before .before .before .pre) _ _ _ (opening-more _ _ _ _ _ _ _ _ (c .before .before .before .before .before .before .before .before .before .before .before .before .before .before .before .pre) (c .before .before .before .before .before .before .before .before .loop .marks) _ (c .before .before .before .before .before .before .before .before .loop .c) (c .before .before .before .before .before .before .before .before .loop .inv .0) (omega (arith, c .before .before .before .before .before .before .before .loop-test .taken, c .before .before .before .before .before .before .before .before .loop .inv .1)) (c .before .before .before .before .open-changed .ensures)) (c .next-odd2 .ensures), c .before .before .before .before .before .before .before .before .loop .inv .1, c .before .before .before .before .before .before .before .before .loop .inv .2)
+loop-again c = (opening-skip _ _ _ _ _ _ _ _ (c .before .before .before .before .before .before .before .before .before .before .before .before .before .before .before .pre) _ _ _ (opening-more _ _ _ _ _ _ _ _ (c .before .before .before .before .before .before .before .before .before .before .before .before .before .before .before .pre .markable) (c .before .before .before .before .before .before .before .before .loop .marks) _ (c .before .before .before .before .before .before .before .before .loop .c) (c .before .before .before .before .before .before .before .before .loop .inv .0) (omega (arith, c .before .before .before .before .before .before .before .loop-test .taken, c .before .before .before .before .before .before .before .before .loop .inv .1)) (c .before .before .before .before .open-changed .ensures)) (c .next-odd2 .ensures), c .before .before .before .before .before .before .before .before .loop .inv .1, c .before .before .before .before .before .before .before .before .loop .inv .2)
 
 halve-requires : tie.Need-halve-requires Inv-loop μ-loop
 halve-requires c κs = search needs

@@ -29,7 +29,7 @@ returns : tie.Need-returns
 returns c =
     let ran = c .before .before .before .before .before .before in
     let s = ran .before .before .before .before .before .before .before .before in
-    let begun = s .before .before .before .before .before in
+    let begun = s .before .before .before .before .before .before in
     runs-of (begun .pre) (s .no-names .ensures) (search needs) (search needs) (ran .run .ensures)
 
 pub run-spec : {M : Type 1} → statement M

@@ -4,10 +4,10 @@ use Rattle.console.proofs.lines.bytes_behind.Statement.{statement}
 use Rattle.console.proofs.lines.bytes_behind.Tie as tie
 
 abbrev Inv-loop : tie.InvT-loop
-Inv-loop source place k₀ k = Unit {0}
+Inv-loop source place most k₀ k = Unit {0}
 
 abbrev μ-loop : tie.MeasureT-loop
-μ-loop source place k₀ k = 60 - k
+μ-loop source place most k₀ k = most - k
 
 loop-holds : tie.Need-loop-holds Inv-loop μ-loop
 loop-holds c = search needs

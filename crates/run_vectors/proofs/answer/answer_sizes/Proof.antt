@@ -44,8 +44,8 @@ mul-word-at c = search needs
 word-at-requires : tie.Need-word-at-requires
 word-at-requires c κs = search needs
 
-answer-grid-requires : tie.Need-answer-grid-requires
-answer-grid-requires c κs = search needs
+answer-kind-requires : tie.Need-answer-kind-requires
+answer-kind-requires c κs = search needs
 
 returns-3 : tie.Need-returns-3
 returns-3 c = search needs
@@ -67,5 +67,5 @@ answer-sizes-spec =
     slice-aggregate-word-at
     mul-word-at
     word-at-requires
-    answer-grid-requires
+    answer-kind-requires
     returns-3)

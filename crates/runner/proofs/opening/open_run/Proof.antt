@@ -1,75 +1,73 @@
 use borrow.Author.Needs.{needs}
 use mathlib.Core.Path.{refl}
 use borrow.Author.Tests.{not-false}
-use Rattle.runner.proofs.OpeningLaws.{accepts, unread, not-admitted, begun, read-opens}
+use Rattle.runner.proofs.OpeningLaws as laws
+use Rattle.runner.proofs.OpeningLaws.{accepts, unread, not-admitted, list-ready, not-listed, begun, read-opens}
 use Rattle.runner.proofs.opening.open_run.Statement.{statement}
 use Rattle.runner.proofs.opening.open_run.Tie as tie
 
--- src/opening.rt:62:9
 load-requires : tie.Need-load-requires
 load-requires c κs = search needs
 
--- src/opening.rt:64:9
 closed-requires : tie.Need-closed-requires
 closed-requires c κs = search needs
 
--- src/opening.rt:64:9
 same-length : tie.Need-same-length
 same-length c = search needs
 
--- src/opening.rt:64:9
 same-length-2 : tie.Need-same-length-2
 same-length-2 c = search needs
 
--- src/opening.rt:64:9
 returns : tie.Need-returns
 returns c = unread (c .before .before .before .before .before .before .before .load .ensures .0) (c .before .before .before .before .before .before .before .load .ensures .1) (c .before .if1 .taken) (c .closed .ensures)
 
--- src/opening.rt:75:9
 admit-requires : tie.Need-admit-requires
-admit-requires c κs =
-    let a = accepts (c .before .before .before .before .before .before .before .before .load .ensures .1) (c .before .before .before .before .before .before .before .before .load .ensures .0 .words) (not-false _ (c .before .before .if1 .left)) in
-    (a .sized, a .some-fields)
+admit-requires c κs = (let a = accepts (c .before .before .before .before .before .before .before .before .load .ensures .1) (c .before .before .before .before .before .before .before .before .load .ensures .0 .words) (not-false _ (c .before .before .if1 .left)) in (a .sized, a .some-fields))
 
--- src/opening.rt:77:9
 closed-requires-2 : tie.Need-closed-requires-2
 closed-requires-2 c κs = search needs
 
--- src/opening.rt:77:9
 same-length-3 : tie.Need-same-length-3
 same-length-3 c = search needs
 
--- src/opening.rt:77:9
 same-length-4 : tie.Need-same-length-4
 same-length-4 c = search needs
 
--- src/opening.rt:77:9
 returns-2 : tie.Need-returns-2
-returns-2 c =
-    let w = c .before in
-    let v = w .before .before in
-    let u = v .before .before .before in
-    let t = u .before .before .before .before .before .before in
-    let s = t .before .before .before .before .before .before .before in
-    read-opens (s .fits .start) (s .fits .steps) (not-admitted (t .load .ensures .0) (t .load .ensures .1) (u .if1 .left) (v .admit .ensures) (w .if2 .taken) (c .closed2 .ensures))
+returns-2 c = read-opens (c .before .before .before .before .before .before .before .before .before .before .before .before .before .before .before .before .before .before .before .before .fits .start) (c .before .before .before .before .before .before .before .before .before .before .before .before .before .before .before .before .before .before .before .before .fits .steps) (not-admitted (c .before .before .before .before .before .before .before .before .before .before .before .before .load .ensures .0) (c .before .before .before .before .before .before .before .before .before .before .before .before .load .ensures .1) (c .before .before .before .before .before .before .if1 .left) (c .before .before .before .admit .ensures) (c .before .if2 .taken) (c .closed2 .ensures))
 
--- src/opening.rt:49:1
+cast-first : tie.Need-cast-first
+cast-first c = laws.cast-first (c .before .before .admit .ensures) (c .if2 .left)
+
+cast-last : tie.Need-cast-last
+cast-last c = laws.cast-last (c .before .before .admit .ensures) (c .if2 .left)
+
+add-last : tie.Need-add-last
+add-last c = laws.add-last (c .before .before .admit .ensures) (c .if2 .left)
+
+check-list-requires : tie.Need-check-list-requires
+check-list-requires c κs = list-ready (c .before .before .before .before .before .before .before .before .before .before .before .before .load .ensures .0) (c .before .before .before .before .before .before .before .before .before .before .before .before .load .ensures .1) (c .before .before .before .before .before .before .if1 .left) (c .before .before .before .admit .ensures) (c .before .if2 .left)
+
+closed-requires-3 : tie.Need-closed-requires-3
+closed-requires-3 c κs = search needs
+
 same-length-5 : tie.Need-same-length-5
-same-length-5 c = search needs
+same-length-5 c = search (c .before .before .before .before .before .before .before .before .before .before .before .before .before .before .before .before .load .kept, needs)
 
--- src/opening.rt:49:1
 same-length-6 : tie.Need-same-length-6
-same-length-6 c = search needs
+same-length-6 c = search (c .before .before .before .before .before .before .before .before .before .before .before .before .before .before .before .before .load .kept, needs)
 
--- src/opening.rt:49:1
 returns-3 : tie.Need-returns-3
-returns-3 c =
-    let w = c .before in
-    let v = w .before .before in
-    let u = v .before .before .before in
-    let t = u .before .before .before .before .before .before in
-    let s = t .before .before .before .before .before .before .before in
-    read-opens (s .fits .start) (s .fits .steps) (begun (t .load .ensures .0) (t .load .ensures .1) (u .if1 .left) (v .admit .ensures) (w .if2 .left) refl)
+returns-3 c = read-opens (c .before .before .before .before .before .before .before .before .before .before .before .before .before .before .before .before .before .before .before .before .before .before .before .before .fits .start) (c .before .before .before .before .before .before .before .before .before .before .before .before .before .before .before .before .before .before .before .before .before .before .before .before .fits .steps) (not-listed (c .before .before .before .before .before .before .before .before .before .before .before .before .before .before .before .before .load .ensures .0) (c .before .before .before .before .before .before .before .before .before .before .before .before .before .before .before .before .load .ensures .1) (c .before .before .before .before .before .before .before .before .before .before .if1 .left) (c .before .before .before .before .before .before .before .admit .ensures) (c .before .before .before .before .before .if2 .left) refl refl (c .before .before .before .check-list .ensures) (c .before .if3 .taken) (c .closed3 .ensures))
+
+same-length-7 : tie.Need-same-length-7
+same-length-7 c = search (c .before .before .before .before .before .before .before .before .before .before .before .before .before .before .before .before .load .kept, needs)
+
+same-length-8 : tie.Need-same-length-8
+same-length-8 c = search (c .before .before .before .before .before .before .before .before .before .before .before .before .before .before .before .before .load .kept, needs)
+
+returns-4 : tie.Need-returns-4
+returns-4 c = read-opens (c .before .before .before .before .before .before .before .before .before .before .before .before .before .before .before .before .before .before .before .before .before .before .before .before .fits .start) (c .before .before .before .before .before .before .before .before .before .before .before .before .before .before .before .before .before .before .before .before .before .before .before .before .fits .steps) (begun (c .before .before .before .before .before .before .before .before .before .before .before .before .before .before .before .before .load .ensures .0) (c .before .before .before .before .before .before .before .before .before .before .before .before .before .before .before .before .load .ensures .1) (c .before .before .before .before .before .before .before .before .before .before .if1 .left) (c .before .before .before .before .before .before .before .admit .ensures) (c .before .before .before .before .before .if2 .left) refl refl (c .before .before .before .check-list .ensures) (c .before .if3 .left) refl)
 
 pub open-run-spec : {M : Type 1} → statement M
 open-run-spec =
@@ -85,6 +83,14 @@ open-run-spec =
     same-length-3
     same-length-4
     returns-2
+    cast-first
+    cast-last
+    add-last
+    check-list-requires
+    closed-requires-3
     same-length-5
     same-length-6
-    returns-3)
+    returns-3
+    same-length-7
+    same-length-8
+    returns-4)

@@ -10,8 +10,8 @@ is-built-in-requires c κs = search needs
 
 returns : tie.Need-returns
 returns c =
-    let s = c .before .before .before .before .before .before .before .before in
-    let ran = unlisted (s .args .list .now) (c .before .is-built-in .ensures) (s .args .quiet) (lent _ _ _ (memory _ _ _ (s .args .scratch .now) (s .args .marks .now)) (s .args .start) (s .args .steps)) refl (c .if1 .taken) in
+    let s = c .before .before .before .before .before .before .before .before .before in
+    let ran = unlisted (s .args .list .now) (c .before .is-built-in .ensures) (s .args .quiet) (lent _ _ _ (memory _ _ _ (s .args .scratch .now) (s .args .marks .now)) (s .args .values .now) (s .args .start) (s .args .steps)) refl (c .if1 .taken) in
     (ran, (run-agrees flat-names (s .args .quiet) _ ran, run-ranges flat-names _ _ ran))
 
 run-listed-requires : tie.Need-run-listed-requires
@@ -36,7 +36,7 @@ returns-2 : tie.Need-returns-2
 returns-2 c =
     let r = c .before .before .before .before .before .before .before .before in
     let t = r .before .before .before .before .before .before in
-    let s = t .before .before .before .before .before .before .before .before in
+    let s = t .before .before .before .before .before .before .before .before .before in
     let ran = read-times (s .fits .start) (s .fits .steps) (listed (s .args .list .now) (t .before .is-built-in .ensures) (t .if1 .left) (r .run-listed .ensures)) in
     (ran, (run-agrees flat-names (s .args .quiet) _ ran, run-ranges flat-names _ _ ran))
 

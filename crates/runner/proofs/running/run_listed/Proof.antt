@@ -21,8 +21,8 @@ same-length-3 c = search needs
 returns : tie.Need-returns
 returns c =
     let o = c .before .before .before .before .before .before in
-    let s = o .before .before .before .before .before .before .before .before .before in
-    record { each = λ list e. read-times (s .fits .start) (s .fits .steps) (closed-run (lent _ list _ (memory _ _ _ (s .args .scratch .now) (s .args .marks .now)) _ _) e (o .open-run .ensures) (s .args .quiet) (c .if1 .taken)) }
+    let s = o .before .before .before .before .before .before .before .before .before .before in
+    record { each = λ list e. read-times (s .fits .start) (s .fits .steps) (closed-run (lent _ list _ (memory _ _ _ (s .args .scratch .now) (s .args .marks .now)) (s .args .values .now) _ _) e (o .open-run .ensures) (s .args .quiet) (c .if1 .taken)) }
 
 all-open-requires : tie.Need-all-open-requires
 all-open-requires c κs = search needs
@@ -31,22 +31,22 @@ cast-run-steps : tie.Need-cast-run-steps
 cast-run-steps c =
     let t = c .before .before .before .before .before .before .before in
     let o = t .before .before .before .before .before .before in
-    let s = o .before .before .before .before .before .before .before .before .before in
-    cast-start (lent _ built-in-names _ (memory _ _ _ (s .args .scratch .now) (s .args .marks .now)) _ _) the-list (o .open-run .ensures) (s .args .quiet) (t .if1 .left)
+    let s = o .before .before .before .before .before .before .before .before .before .before in
+    cast-start (lent _ built-in-names _ (memory _ _ _ (s .args .scratch .now) (s .args .marks .now)) (s .args .values .now) _ _) the-list (o .open-run .ensures) (s .args .quiet) (t .if1 .left)
 
 cast-run-steps-2 : tie.Need-cast-run-steps-2
 cast-run-steps-2 c =
     let t = c .before .before .before .before .before .before .before in
     let o = t .before .before .before .before .before .before in
-    let s = o .before .before .before .before .before .before .before .before .before in
-    cast-steps (lent _ built-in-names _ (memory _ _ _ (s .args .scratch .now) (s .args .marks .now)) _ _) the-list (o .open-run .ensures) (s .args .quiet) (t .if1 .left)
+    let s = o .before .before .before .before .before .before .before .before .before .before in
+    cast-steps (lent _ built-in-names _ (memory _ _ _ (s .args .scratch .now) (s .args .marks .now)) (s .args .values .now) _ _) the-list (o .open-run .ensures) (s .args .quiet) (t .if1 .left)
 
 run-steps-requires : tie.Need-run-steps-requires
 run-steps-requires c κs =
     let t = c .before .before .before .before .before .before .before in
     let o = t .before .before .before .before .before .before in
-    let s = o .before .before .before .before .before .before .before .before .before in
-    run-ready (lent _ built-in-names _ (memory _ _ _ (s .args .scratch .now) (s .args .marks .now)) _ _) the-list (o .open-run .ensures) (s .args .quiet) (t .if1 .left)
+    let s = o .before .before .before .before .before .before .before .before .before .before in
+    run-ready (lent _ built-in-names _ (memory _ _ _ (s .args .scratch .now) (s .args .marks .now)) (s .args .values .now) _ _) the-list (o .open-run .ensures) (s .args .quiet) (t .if1 .left)
 
 clear-numbers-requires : tie.Need-clear-numbers-requires
 clear-numbers-requires c κs = search needs
@@ -72,11 +72,11 @@ same-length-8 c = search needs
 returns-2 : tie.Need-returns-2
 returns-2 c =
     let r = c .before .before .before .before .before .before .before .before .before .before .before in
-    let s = r .before .before .before .before .before .before .before .before .before .before .before .before .before .before .before .before .before .before .before .before .before .before .before in
+    let s = r .before .before .before .before .before .before .before .before .before .before .before .before .before .before .before .before .before .before .before .before .before .before .before .before in
     record {
       each = λ list e. read-times (s .fits .start) (s .fits .steps)
-          (run-done (lent _ list _ (memory _ _ _ (s .args .scratch .now) (s .args .marks .now)) _ _) e (r .before .before .before .before .before .before .before .before .before .before .before .before .before .before .open-run .ensures) (s .args .quiet) (r .before .before .before .before .before .before .before .before .if1 .left) (length (r .run-steps .last .1 .1 .1 .1 .1 .1 .0))
-          (length (r .run-steps .last .1 .1 .1 .1 .1 .1 .1 .0)) (r .before .before .before .before .before .all-open .ensures) (r .run-steps .ensures) (c .before .before .before .before .before .clear-numbers .ensures) (search needs) (c .before .before .clear-marks .ensures) (search needs));
+          (run-done (lent _ list _ (memory _ _ _ (s .args .scratch .now) (s .args .marks .now)) (s .args .values .now) _ _) e (r .before .before .before .before .before .before .before .before .before .before .before .before .before .before .open-run .ensures) (s .args .quiet) (r .before .before .before .before .before .before .before .before .if1 .left) (length (r .run-steps .last .1 .1 .1 .1 .1 .1 .0))
+          (length (r .run-steps .last .1 .1 .1 .1 .1 .1 .1 .0)) (r .before .before .before .before .before .all-open .ensures) (r .run-steps .ensures) (c .before .before .before .before .before .clear-numbers .ensures) (search needs) (c .before .before .clear-marks .ensures) (search (c .before .before .clear-marks .kept, r .run-steps .kept, needs)));
     }
 
 pub run-listed-spec : {M : Type 1} → statement M

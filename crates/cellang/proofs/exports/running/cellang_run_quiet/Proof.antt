@@ -6,6 +6,9 @@ use Rattle.cellang.proofs.Telling.{tells-run}
 use Rattle.cellang.proofs.exports.running.cellang_run_quiet.Statement.{statement}
 use Rattle.cellang.proofs.exports.running.cellang_run_quiet.Tie as tie
 
+slice-aggregate-run : tie.Need-slice-aggregate-run
+slice-aggregate-run c = search needs
+
 run-requires : tie.Need-run-requires
 run-requires c κs = search needs
 
@@ -37,13 +40,14 @@ returns : tie.Need-returns
 returns c =
     let t = c .before .before .before .before in
     let r = t .before .before .before .before .before .before .before .before .before in
-    let s = r .before .before .before .before .before .before .before .before .before .before .before .before .before in
+    let s = r .before .before .before .before .before .before .before .before .before .before .before .before .before .before in
     (tells-run (s .fits .start) (s .fits .steps) (r .run .ensures .0) (t .told-part .ensures) (c .before .before .put-report .ensures), (run-ranges flat-names _ _ (read-times (s .fits .start) (s .fits .steps) (r .run .ensures .0)), property-3 _ _ _ .agree))
 
 pub cellang-run-quiet-spec : {M : Type 1} → statement M
 cellang-run-quiet-spec =
     tie.close
     (tie.spec
+    slice-aggregate-run
     run-requires
     told-part-requires
     put-report-requires

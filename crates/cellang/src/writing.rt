@@ -1,0 +1,106 @@
+// The writer of value lists.
+ghost use mathlib.Core.List.{List};
+ghost use Rattle.records.specs.declared.Name.{Name};
+ghost use Rattle.list_writer.specs.WriterCalls.{wanted, writer-lent};
+ghost use Rattle.list_writer.specs.Contracts.Writing.{WriterLeaves};
+ghost use Rattle.cellang.specs.Left.{row-names};
+ghost use Rattle.cellang.specs.Promises.{NothingWritten, WritesOver};
+use crate::rows::row_fits;
+use crate::rows::stored;
+use list_writer::Written;
+use records::Name;
+use records::rows::rows_of;
+use records::rows::store_first;
+
+// What the writer gives: its numbers, the records, and how many of them are stored.
+pub struct WriteAnswer {
+    pub written: Written,
+    pub rows: [Name; 256],
+    pub count: usize,
+}
+
+// A call that is turned away.
+fn nothing_written() -> WriteAnswer
+    ensures { λ r. ⌜ NothingWritten r ⌝ }
+{
+    let flat = [0u32; 1024];
+    let rows = rows_of(&flat);
+    let written = Written {
+        number: 1,
+        place: 0,
+        length: 0,
+    };
+    WriteAnswer {
+        written: written,
+        rows: rows,
+        count: 0,
+    }
+}
+
+// Writes a list, where `names` is the length of the row of records.
+fn wrote(
+    source: &[u8],
+    list: &[u8],
+    words: &mut [u32],
+    names: usize,
+    sizes: &[u32],
+    earlier: &[i32],
+    later: &[i32],
+    time: i64,
+    room: &mut [u8],
+) -> WriteAnswer
+    ensures { λ r. ⌜ WritesOver names (λ (ns : List Name). (writer-lent (now (source .entry)) (now (list .entry)) (wanted (now (sizes .entry)) (now (earlier .entry)) (now (later .entry)) time) (now (words .entry)) ns (now (room .entry)))) r (now (words .exit)) (now (room .exit)) ⌝ }
+{
+    if !row_fits(list, names) {
+        return nothing_written();
+    }
+    let mut flat = [0u32; 1024];
+    let count = stored(source.len(), words.len());
+    let written = list_writer::write_list(
+        source,
+        list,
+        words,
+        &mut flat,
+        sizes,
+        earlier,
+        later,
+        time,
+        room,
+    );
+    let rows = rows_of(&flat);
+    WriteAnswer {
+        written: written,
+        rows: rows,
+        count: count,
+    }
+}
+
+// Writes the list that leads from the grid at the last block, `earlier`, to the grid now, `later`, at a time: the text at the front of the room, which
+// keeps its rest. After a refusal the room is as it was; 57: it is shorter than the text. Table and records are left as after a run.
+pub fn write_list(
+    source: &[u8],
+    list: &[u8],
+    words: &mut [u32],
+    names: &mut [Name],
+    sizes: &[u32],
+    earlier: &[i32],
+    later: &[i32],
+    time: i64,
+    room: &mut [u8],
+) -> Written
+    ensures { λ r. ⌜ WriterLeaves row-names (writer-lent (now (source .entry)) (now (list .entry)) (wanted (now (sizes .entry)) (now (earlier .entry)) (now (later .entry)) time) (now (words .entry)) (now (names .entry)) (now (room .entry))) r (now (words .exit)) (now (names .exit)) (now (room .exit)) ⌝ }
+{
+    let c = wrote(
+        source,
+        list,
+        words,
+        names.len(),
+        sizes,
+        earlier,
+        later,
+        time,
+        room,
+    );
+    store_first(names, c.rows, c.count);
+    c.written
+}

@@ -1,0 +1,159 @@
+-- The room, a program that is loaded, a source, and the call.
+use Prim.Native.Nat.{ℕ, _≤_, _<_}
+use native.Mathlib.Nat.{zero-add}
+use native.Mathlib.Omega.{arith}
+use mathlib.Core.Path.{_≡_, refl, sym, ap, ap₂, _∙_, subst}
+use mathlib.Core.Bool.{Bool, true, false, not, _&&_}
+use mathlib.Core.List.{List, _++_}
+use lib.ListN.{length, drop}
+use lib.Seq.{sets-eq}
+use lib.Dec.{T, eqb}
+use lib.IntN.{ℤ, natAbs}
+use lib.Signed.{nonNeg}
+use mir.Syntax.{w32, w64}
+use mir.Val.{Fits, SFits, toZ, ofZ}
+use mir.Facts.{toZ-ofZ}
+use borrow.Author.Tests.{eq-eqb, ne-eqb, lt-ltb, le-ltb, not-true, not-false}
+use Rattle.value.specs.Laws.{never}
+use Rattle.token.specs.Lexeme.{is-built-in}
+use Rattle.program.specs.Syntax.{Program}
+use Rattle.grammar.specs.Complaint.{Complaint, complaint}
+use Rattle.grammar.specs.Checking as checking
+use Rattle.grammar.specs.Checking.{Outcome, turned-away, accepted, rooms-fit, read-source, check, words-after, names-after}
+use Rattle.semantics.specs.declared.Rule.{Rule}
+use Rattle.stepper.specs.Admission.{Refusal, refusal}
+use Rattle.stepper.specs.Fitting.{held-fields}
+use Rattle.services.specs.Calls.{NameForm, flat-names, names-left}
+use Rattle.checker.specs.declared.checking.Outline.{Outline}
+use Rattle.checker.specs.Promises.{Loads, Checks, is-accepted}
+use Rattle.admission.specs.declared.Refusal as declared
+use Rattle.lists.specs.Writing.{written-text, Wanted, Wrote, unwritten, put-text, writing-admission, write, write-read, write-source}
+use Rattle.list_writer.specs.declared.Written.{Written}
+use Rattle.list_writer.specs.WriterCalls.{WriterLent, wanted, writer-fits, writer-left}
+use Rattle.list_writer.specs.Contracts.Printing.{Puts}
+use Rattle.list_writer.specs.Contracts.Admitting.{Timely, AdmitsBoth}
+use Rattle.list_writer.specs.Contracts.Writing.{wrote-of, WritesLoaded, WritesSource, WriterLeaves}
+use Rattle.list_writer.proofs.SourceLaws.{rule-in, Read, source-read}
+
+-- ---- the room
+
+pub too-short : (text room : List ℕ) {n : ℕ} → n ≡ length text → length room < n → unwritten 57 0 room ≡ put-text text room
+unfolding put-text
+too-short text room e l = rw (lt-ltb (length room) (length text) (omega arith))
+
+pub fits-room : {text room room′ : List ℕ} {n r : ℕ} → n ≡ length text → n ≤ length room → Puts room 0 text room′ r → wrote-of (record { number = 0; place = 0; length = n }) room′ ≡ put-text text room
+unfolding put-text
+fits-room {text} {room} {room′} e l x =
+    rw (le-ltb (length room) (length text) (omega arith))
+    (ap₂ (λ (k : ℕ) (new : List ℕ). wrote-of (record { number = 0; place = 0; length = k }) new) e
+    (x .is ∙ sets-eq text room 0 (omega arith) ∙ ap (λ (k : ℕ). text ++ drop k room) (zero-add (length text))))
+
+-- ---- a program that is loaded
+
+-- what is written, by the writer's checks
+write-by : Program → Wanted → List ℕ → Refusal → Wrote
+write-by p q room a =
+    elim (eqb (a .number) 0) [
+      | true ↦ put-text (written-text (q .sizes) (length (p .fields)) (q .earlier) (q .later) (natAbs (q .time))) room
+      | false ↦ unwritten (a .number) (a .place) room
+    ]
+
+write-is : (p : Program) (q : Wanted) (room : List ℕ) → write p q room ≡ write-by p q room (writing-admission p q)
+unfolding write write-by
+write-is p q room = refl
+
+refused-is : (p : Program) (q : Wanted) (room : List ℕ) (n i : ℕ) → (n ≡ 0 → ⊥) → unwritten n i room ≡ write-by p q room (refusal n i)
+unfolding write-by
+refused-is p q room n i z = rw (ne-eqb n 0 z, write-by)
+
+admitted-is : (p : Program) (q : Wanted) (room : List ℕ) (n i : ℕ) → n ≡ 0
+    → put-text (written-text (q .sizes) (length (p .fields)) (q .earlier) (q .later) (natAbs (q .time))) room ≡ write-by p q room (refusal n i)
+unfolding write-by
+admitted-is p q room n i z = rw (eq-eqb n 0 z, write-by)
+
+module _ {words : List ℕ} {rule : Rule} {q : Wanted} {count : ℕ} {a : declared.Refusal} (x : AdmitsBoth words rule q count a) (room : List ℕ) where
+  pub loaded-refused : (a .number ≡ 0 → ⊥) → WritesLoaded words rule q room (record { number = a .number; place = a .place; length = 0 }) room
+  loaded-refused z =
+      record { is = λ p h l. refused-is p q room (a .number) (a .place) z ∙ ap (write-by p q room) (x .says p h l) ∙ sym (write-is p q room) }
+
+  pub loaded-written : a .number ≡ 0 → {r : Written} {room′ : List ℕ}
+      → wrote-of r room′ ≡ put-text (written-text (q .sizes) (rule .fields) (q .earlier) (q .later) (natAbs (q .time))) room → WritesLoaded words rule q room r room′
+  loaded-written z e =
+      record {
+        is = λ p h l.
+            e ∙ ap (λ (f : ℕ). put-text (written-text (q .sizes) f (q .earlier) (q .later) (natAbs (q .time))) room) (sym (held-fields p h))
+            ∙ admitted-is p q room (a .number) (a .place) z ∙ ap (write-by p q room) (x .says p h l) ∙ sym (write-is p q room);
+      }
+
+-- the time can be cast
+pub cast-time : (z : ℤ) → Timely z → T (nonNeg z) × Fits w32 (natAbs z)
+cast-time z t = (subst (λ (x : ℤ). T (nonNeg x)) (sym (t .is)) tt, record { fits = omega (arith, t .small) })
+
+-- the time as the machine reads it
+pub read-loaded : {words : List ℕ} {rule : Rule} {sizes : List ℕ} {earlier later : List ℤ} {time : ℤ} {room : List ℕ} {r : Written} {room′ : List ℕ} → SFits w64 time
+    → WritesLoaded words rule (wanted sizes earlier later (toZ w64 (ofZ w64 time))) room r room′ → WritesLoaded words rule (wanted sizes earlier later time) room r room′
+read-loaded {words} {rule} {sizes} {earlier} {later} {time} {room} {r} {room′} f = subst (λ (t : ℤ). WritesLoaded words rule (wanted sizes earlier later t) room r room′) (toZ-ofZ f)
+
+-- ---- a source
+
+module _ (fit : Bool) (source : List ℕ) (q : Wanted) (room : List ℕ) {n i : ℕ} (reply : complaint n i ≡ check fit source) where
+  not-read : is-accepted (read-source fit source) ≡ false → unwritten n i room ≡ write-source fit source q room
+  unfolding write-source check
+  not-read e = by (read-source fit source) reply e
+    where
+      by : (r : Outcome) → complaint n i ≡ checking.reply-of r → is-accepted r ≡ false → unwritten n i room ≡ write-read q room r
+      by (turned-away k j) c d = ap (λ (x : Complaint). unwritten (x .number) (x .place) room) c
+      by (checking.refused k j) c d = ap (λ (x : Complaint). unwritten (x .number) (x .place) room) c
+      by (accepted a) c d = never (sym d)
+
+module _ {source ws ns : List ℕ} {known : Bool} {o : Outline} {n i : ℕ} {ws′ ns′ : List ℕ} (checked : Checks (rooms-fit (length ws) (length ns)) source ws ns n i ws′ ns′) (loaded : Loads source ws ns known o)
+    (q : Wanted) (room : List ℕ) where
+  pub source-refused : not known ≡ true → WritesSource (rooms-fit (length ws) (length ns)) source q ws ns room (record { number = n; place = i; length = 0 }) ws′ ns′ room
+  source-refused unknown =
+      record {
+        wrote = not-read (rooms-fit (length ws) (length ns)) source q room (checked .reply) (sym (loaded .is) ∙ not-true known unknown);
+        words-are = checked .words;
+        names-are = checked .names;
+      }
+
+  module _ (sure : not known ≡ false) where
+    source-known : Read (rooms-fit (length ws) (length ns)) source ws′ o
+    source-known = source-read loaded (checked .words) (not-false known sure)
+
+    pub source-written : {r : Written} {room′ : List ℕ} → WritesLoaded ws′ (rule-in o) q room r room′ → WritesSource (rooms-fit (length ws) (length ns)) source q ws ns room r ws′ ns′ room′
+    unfolding write-source
+    source-written x =
+        record {
+          wrote = x .is (source-known .read .program) (source-known .holds) (source-known .lists) ∙ ap (write-read q room) (sym (source-known .is));
+          words-are = checked .words;
+          names-are = checked .names;
+        }
+
+pub read-written : {fit : Bool} {source sizes : List ℕ} {earlier later : List ℤ} {time : ℤ} {ws ns room : List ℕ} {r : Written} {ws′ ns′ room′ : List ℕ} → SFits w64 time
+    → WritesSource fit source (wanted sizes earlier later (toZ w64 (ofZ w64 time))) ws ns room r ws′ ns′ room′ → WritesSource fit source (wanted sizes earlier later time) ws ns room r ws′ ns′ room′
+read-written {fit} {source} {sizes} {earlier} {later} {time} {ws} {ns} {room} {r} {ws′} {ns′} {room′} f =
+    subst (λ (t : ℤ). WritesSource fit source (wanted sizes earlier later t) ws ns room r ws′ ns′ room′) (toZ-ofZ f)
+
+-- ---- the call
+
+pub left-by : {N : Type 0} {form : NameForm N} {l : WriterLent N} {r : Written} {words : List ℕ} {names : List N} {room : List ℕ} → wrote-of r room ≡ write-source (writer-fits form l) (l .source) (l .wanted) (l .room)
+    → words ≡ words-after (writer-fits form l) (l .source) (l .words) → names ≡ names-left form (writer-fits form l) (l .source) (l .names) → WriterLeaves form l r words names room
+unfolding writer-left
+left-by e w n = record { is = λ i. record { wrote = e i; words = w i; names = n i } }
+
+-- another list than the built-in one: nothing is read, and nothing changes
+pub unlisted-writer : {N : Type 0} (form : NameForm N) (l : WriterLent N) → writer-fits form l ≡ false → WriterLeaves form l (record { number = 1; place = 0; length = 0 }) (l .words) (l .names) (l .room)
+unfolding write-source words-after read-source
+unlisted-writer form l e = left-by (rw e) (rw e) (rw e)
+
+module _ (l : WriterLent ℕ) {t : Bool} (is : t ≡ is-built-in (l .list)) where
+  pub unlisted : not t ≡ true → WriterLeaves flat-names l (record { number = 1; place = 0; length = 0 }) (l .words) (l .names) (l .room)
+  unlisted n = unlisted-writer flat-names l (ap (λ (u : Bool). u && rooms-fit (length (l .words)) (length (l .names))) (sym is ∙ not-true t n))
+
+  pub listed : not t ≡ false → {r : Written} {words names room : List ℕ} → WritesSource (rooms-fit (length (l .words)) (length (l .names))) (l .source) (l .wanted) (l .words) (l .names) (l .room) r words names room
+      → WriterLeaves flat-names l r words names room
+  unfolding names-after
+  listed n {r} {words} {names} {room} x =
+      let e : rooms-fit (length (l .words)) (length (l .names)) ≡ writer-fits flat-names l = ap (λ (u : Bool). u && rooms-fit (length (l .words)) (length (l .names))) (sym (sym is ∙ not-false t n)) in
+      let y = subst (λ (fit : Bool). WritesSource fit (l .source) (l .wanted) (l .words) (l .names) (l .room) r words names room) e x in
+      left-by (y .wrote) (y .words-are) (y .names-are)

@@ -1,0 +1,84 @@
+-- `list_writer::lines::put_changed` meets its contract.
+use native.Mathlib.Omega.{arith}
+use Rattle.list_writer.proofs.LineLaws.{changed-within, same-put, changed-put}
+use borrow.Author.Needs.{needs}
+use Rattle.list_writer.proofs.lines.put_changed.Statement.{statement}
+use Rattle.list_writer.proofs.lines.put_changed.Tie as tie
+
+differs-requires : tie.Need-differs-requires
+differs-requires c κs = changed-within (c .before .before .before .pre .0) (c .before .before .before .pre .2)
+
+returns : tie.Need-returns
+returns c =
+    let o = c .before in
+    let s = o .before .before .before .before in
+    same-put (s .pre .0) (s .pre .2) (o .differs .ensures) (c .if1 .taken) _ _
+
+cast-set-place : tie.Need-cast-set-place
+cast-set-place c = search needs
+
+set-place-requires : tie.Need-set-place-requires
+set-place-requires c κs = search needs
+
+mul-from : tie.Need-mul-from
+mul-from c =
+    let s = c .before .before .before .before .before .before .before .before .before in
+    omega (arith, changed-within (s .pre .0) (s .pre .2))
+
+add-end : tie.Need-add-end
+add-end c =
+    let s = c .before .before .before .before .before .before .before .before .before in
+    omega (arith, changed-within (s .pre .0) (s .pre .2))
+
+mul-put-line : tie.Need-mul-put-line
+mul-put-line c =
+    let s = c .before .before .before .before .before .before .before .before .before .before .before in
+    omega (arith, changed-within (s .pre .0) (s .pre .2))
+
+sub-put-line : tie.Need-sub-put-line
+sub-put-line c = search needs
+
+part-put-line-start : tie.Need-part-put-line-start
+part-put-line-start c = search needs
+
+part-put-line-end : tie.Need-part-put-line-end
+part-put-line-end c =
+    let s = c .before .before .before .before .before .before .before .before .before .before .before in
+    omega (arith, changed-within (s .pre .0) (s .pre .2))
+
+put-line-requires : tie.Need-put-line-requires
+put-line-requires c κs = search needs
+
+same-length : tie.Need-same-length
+same-length c = search needs
+
+same-length-2 : tie.Need-same-length-2
+same-length-2 c = search needs
+
+returns-2 : tie.Need-returns-2
+returns-2 c =
+    let o = c .before .before in
+    let p = o .before .before .before .before .before .before in
+    let q = p .before .before in
+    let r = q .before in
+    let s = r .before .before .before .before in
+    changed-put (s .pre .0) (s .pre .2) (r .differs .ensures) (q .if1 .left) (p .set-place .ensures) (o .put-line .ensures)
+
+pub put-changed-spec : {M : Type 1} → statement M
+put-changed-spec =
+    tie.close
+    (tie.spec
+    differs-requires
+    returns
+    cast-set-place
+    set-place-requires
+    mul-from
+    add-end
+    mul-put-line
+    sub-put-line
+    part-put-line-start
+    part-put-line-end
+    put-line-requires
+    same-length
+    same-length-2
+    returns-2)

@@ -1,0 +1,52 @@
+-- `list_writer::lines::put_line` meets its contract.
+use native.Mathlib.Omega.{arith}
+use Rattle.list_writer.proofs.LineLaws.{numbers-length, values-length, line-put}
+use borrow.Author.Needs.{needs}
+use Rattle.list_writer.proofs.lines.put_line.Statement.{statement}
+use Rattle.list_writer.proofs.lines.put_line.Tie as tie
+
+put-byte-requires : tie.Need-put-byte-requires
+put-byte-requires c κs = search needs
+
+put-numbers-requires : tie.Need-put-numbers-requires
+put-numbers-requires c κs = search needs
+
+put-between-requires : tie.Need-put-between-requires
+put-between-requires c κs =
+    let s = c .before .before .before .before .before .before .before .before .before .before .before in
+    omega (arith, numbers-length (s .args .place .now) (s .pre .0))
+
+put-values-requires : tie.Need-put-values-requires
+put-values-requires c κs =
+    let s = c .before .before .before .before .before .before .before .before .before .before .before .before .before .before .before in
+    (s .pre .1, omega (arith, numbers-length (s .args .place .now) (s .pre .0)))
+
+put-byte-requires-2 : tie.Need-put-byte-requires-2
+put-byte-requires-2 c κs =
+    let s = c .before .before .before .before .before .before .before .before .before .before .before .before .before .before .before .before .before .before .before in
+    omega (arith, numbers-length (s .args .place .now) (s .pre .0), values-length (s .args .values .now) (s .pre .1))
+
+same-length : tie.Need-same-length
+same-length c = search needs
+
+returns : tie.Need-returns
+returns c =
+    let o = c .before .before in
+    let p = o .before .before .before .before in
+    let q = p .before .before .before .before in
+    let r = q .before .before .before .before in
+    let t = r .before .before .before .before in
+    let s = t .before .before .before .before in
+    line-put (s .args .place .now) (s .args .values .now) (t .put-byte .ensures) (r .put-numbers .ensures) (q .put-between .ensures) (p .put-values .ensures) (o .put-byte2 .ensures)
+
+pub put-line-spec : {M : Type 1} → statement M
+put-line-spec =
+    tie.close
+    (tie.spec
+    put-byte-requires
+    put-numbers-requires
+    put-between-requires
+    put-values-requires
+    put-byte-requires-2
+    same-length
+    returns)

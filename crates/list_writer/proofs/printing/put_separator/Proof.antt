@@ -1,0 +1,28 @@
+-- `list_writer::printing::put_separator` meets its contract.
+use Rattle.list_writer.proofs.PrintingLaws.{separator-none, separator-put}
+use borrow.Author.Needs.{needs}
+use Rattle.list_writer.proofs.printing.put_separator.Statement.{statement}
+use Rattle.list_writer.proofs.printing.put_separator.Tie as tie
+
+returns : tie.Need-returns
+returns c = separator-none (c .if1 .taken) _ _
+
+put-byte-requires : tie.Need-put-byte-requires
+put-byte-requires c κs = search needs
+
+put-byte-requires-2 : tie.Need-put-byte-requires-2
+put-byte-requires-2 c κs = search needs
+
+same-length : tie.Need-same-length
+same-length c = search needs
+
+returns-2 : tie.Need-returns-2
+returns-2 c =
+    let o = c .before .before in
+    let p = o .before .before .before .before in
+    let s = p .before .before in
+    separator-put _ (s .if1 .left) (p .put-byte .ensures) (o .put-byte2 .ensures)
+
+pub put-separator-spec : {M : Type 1} → statement M
+put-separator-spec =
+    tie.close (tie.spec returns put-byte-requires put-byte-requires-2 same-length returns-2)

@@ -1,0 +1,29 @@
+-- The lines of the cells that differ.
+use mathlib.Core.Path.{_≡_}
+use mathlib.Core.Bool.{true, false}
+use mathlib.Core.List.{List, [], _∷_, _++_, map}
+use mathlib.Core.Option.{some}
+use Prim.Native.Nat.{ℕ, _*_, _≤_}
+use lib.ListN.{length}
+use lib.IntN.{ℤ}
+use Rattle.automaton.specs.Shape.{product, coordinates}
+use Rattle.automaton.specs.ShapeLaws.{Positive}
+use Rattle.automaton.specs.Grid.{cell-of, differ}
+use Rattle.lists.specs.Writing.{cell-line}
+
+-- two grids of these sizes with so many fields
+pub record Grids (sizes : List ℕ) (fields : ℕ) (earlier later : List ℤ) : Type 0 where
+  pub dims : length sizes ≤ 3
+  pub positive : Positive sizes
+  pub cells : product sizes ≤ 1048576
+  pub fields-few : fields ≤ 8
+  pub earlier-entries : product sizes * fields ≡ length earlier
+  pub later-entries : product sizes * fields ≡ length later
+
+-- the line of the cell c, if it differs
+unfoldable pub changed-line : List ℕ → ℕ → List ℤ → List ℤ → ℕ → List ℕ
+changed-line sizes fields earlier later c =
+    elim (differ (cell-of fields earlier c) (cell-of fields later c)) [
+      | true ↦ cell-line (coordinates sizes c) (map some (cell-of fields later c)) ++ 10 ∷ []
+      | false ↦ []
+    ]

@@ -1,0 +1,131 @@
+// The text of a list that leads from one grid to another: the time's line, and a line for each cell that differs.
+ghost use mathlib.Core.Path.{_≡_};
+ghost use mathlib.Core.List.{[], _∷_, _++_, map};
+ghost use mathlib.Core.Option.{some};
+ghost use Prim.Native.Nat.{_+_, _*_, _<_, _≤_};
+ghost use lib.ListN.{length};
+ghost use Rattle.automaton.specs.Shape.{product};
+ghost use Rattle.lists.specs.Writing.{cell-line, cells-text, written-text};
+ghost use Rattle.list_writer.specs.Contracts.Printing.{Puts};
+ghost use Rattle.list_writer.specs.Contracts.Lines.{Grids, changed-line};
+use crate::printing::put_byte;
+use crate::printing::put_digits;
+use crate::printing::put_numbers;
+use crate::printing::put_values;
+use marked_cells::places::set_place;
+use marking::marks::differs;
+
+// Puts what stands between the coordinates of a cell and its values.
+fn put_between(room: &mut [u8], at: usize) -> usize
+    requires { ⌜ at + 4 ≤ 4294967296 ⌝ }
+    ensures { λ r. ⌜ Puts (now (room .entry)) at (93 ∷ 32 ∷ 61 ∷ 32 ∷ []) (now (room .exit)) r ⌝ }
+{
+    let a = put_byte(room, at, b']');
+    let b = put_byte(room, a, b' ');
+    let c = put_byte(room, b, b'=');
+    put_byte(room, c, b' ')
+}
+
+// Puts the line of a cell with these coordinates and values.
+fn put_line(room: &mut [u8], at: usize, place: &[u32], values: &[i32]) -> usize
+    requires { ⌜ (length (now place) ≤ 3) × (length (now values) ≤ 64) × (at + 1000 ≤ 4294967296) ⌝ }
+    ensures { λ r. ⌜ Puts (now (room .entry)) at (cell-line (now (place .entry)) (map some (now (values .entry))) ++ 10 ∷ []) (now (room .exit)) r ⌝ }
+{
+    let a = put_byte(room, at, b'[');
+    let b = put_numbers(room, a, place);
+    let c = put_between(room, b);
+    let d = put_values(room, c, values);
+    put_byte(room, d, b'\n')
+}
+
+// Puts the line of a cell, if it differs. `place` is memory for its coordinates.
+fn put_changed(
+    room: &mut [u8],
+    at: usize,
+    place: &mut [u32],
+    sizes: &[u32],
+    fields: usize,
+    earlier: &[i32],
+    later: &[i32],
+    c: usize,
+) -> usize
+    requires { ⌜ Grids (now sizes) fields (now earlier) (now later) × (length (now place) ≡ length (now sizes)) × (c < product (now sizes)) × (at + 1000 ≤ 4294967296) ⌝ }
+    ensures { λ r. ⌜ Puts (now (room .entry)) at (changed-line (now (sizes .entry)) fields (now (earlier .entry)) (now (later .entry)) c) (now (room .exit)) r ⌝ }
+{
+    if !differs(earlier, later, fields, c) {
+        return at;
+    }
+    set_place(sizes, c as u32, place);
+    let from = c * fields;
+    let end = from + fields;
+    put_line(room, at, place, &later[from..end])
+}
+
+// Puts the lines of all cells that differ.
+fn put_cells(
+    room: &mut [u8],
+    at: usize,
+    place: &mut [u32],
+    sizes: &[u32],
+    fields: usize,
+    earlier: &[i32],
+    later: &[i32],
+    cells: usize,
+) -> usize
+    requires { ⌜ Grids (now sizes) fields (now earlier) (now later) × (length (now place) ≡ length (now sizes)) × (cells ≡ product (now sizes)) × (at ≤ 1000) ⌝ }
+    ensures { λ r. ⌜ Puts (now (room .entry)) at (cells-text (now (sizes .entry)) fields (now (earlier .entry)) (now (later .entry)) cells 0) (now (room .exit)) r ⌝ }
+{
+    let mut here = at;
+    let mut c: usize = 0;
+    while c < cells {
+        here = put_changed(room, here, place, sizes, fields, earlier, later, c);
+        c += 1;
+    }
+    here
+}
+
+// Puts the whole text at the front of a room, as far as the room goes, and returns its length.
+pub fn put_list(
+    room: &mut [u8],
+    sizes: &[u32],
+    fields: usize,
+    earlier: &[i32],
+    later: &[i32],
+    cells: usize,
+    time: u32,
+) -> usize
+    requires { ⌜ Grids (now sizes) fields (now earlier) (now later) × (cells ≡ product (now sizes)) ⌝ }
+    ensures { λ r. ⌜ Puts (now (room .entry)) 0 (written-text (now (sizes .entry)) fields (now (earlier .entry)) (now (later .entry)) time) (now (room .exit)) r ⌝ }
+{
+    let mut place = [0u32; 3];
+    let dims = sizes.len();
+    let a = put_digits(room, 0, time);
+    let b = put_byte(room, a, b'\n');
+    put_cells(
+        room,
+        b,
+        &mut place[..dims],
+        sizes,
+        fields,
+        earlier,
+        later,
+        cells,
+    )
+}
+
+// The length of the text: it is put into a room without a byte, which only counts it.
+pub fn text_length(
+    sizes: &[u32],
+    fields: usize,
+    earlier: &[i32],
+    later: &[i32],
+    cells: usize,
+    time: u32,
+) -> usize
+    requires { ⌜ Grids (now sizes) fields (now earlier) (now later) × (cells ≡ product (now sizes)) ⌝ }
+    ensures { λ r. ⌜ r ≡ length (written-text (now (sizes .entry)) fields (now (earlier .entry)) (now (later .entry)) time) ⌝ }
+{
+    let mut one = [0u8; 1];
+    let none: usize = 0;
+    put_list(&mut one[..none], sizes, fields, earlier, later, cells, time)
+}

@@ -1,0 +1,15 @@
+-- Timed value lists. Read in this order; Printing and what follows are theorems.
+pub mod Text
+pub mod Lines
+pub mod ListChecking
+pub mod Setting
+pub mod Writing
+pub mod Cases
+pub mod Examples
+pub mod Printing
+pub mod Rereading
+pub mod RoundTrip
+pub mod Sources
+pub mod Passing
+pub mod Kept
+pub mod Walking

@@ -1,0 +1,60 @@
+-- What an admitted run has, and what a run gives by whether it is admitted.
+use mathlib.Core.Path.{_≡_, refl, sym, ap, _∙_}
+use mathlib.Core.Bool.{Bool, true, false}
+use mathlib.Core.List.{List}
+use mathlib.Core.Option.{none}
+use Prim.Native.Nat.{ℕ}
+use native.Mathlib.Omega.{arith}
+use lib.Dec.{eqb}
+use borrow.Author.Tests.{eqb-true, eqb-false, eq-eqb, ne-eqb}
+use Rattle.program.specs.Syntax.{Program}
+use Rattle.stepper.specs.Admission.{Request, Refusal, refusal, admission}
+use Rattle.stepper.specs.Report.{Counting, refused}
+use Rattle.lists.specs.Lines.{said}
+use Rattle.lists.specs.ListChecking.{Turned, Verdict, limits-of, check-list, admission-with}
+use Rattle.lists.specs.Passing.{Passes}
+use Rattle.services.specs.Running.{Asked, admitted, report-of, run}
+
+-- ---- the run is refused with 20 to 24, or the list decides
+
+abbrev pub turned : ℕ → ℕ → ℕ → Turned
+turned number place line = record { number = number; place = place; line = line }
+
+module _ (p : Program) (q : Asked) where
+  abbrev verdict-of : Verdict
+  verdict-of = check-list (limits-of p (q .request)) (q .values)
+
+  pub list-decides : admission p (q .request) .number ≡ 0 → admitted p q ≡ turned (verdict-of .number) 0 (verdict-of .line)
+  unfolding admission-with
+  list-decides e = rw (eq-eqb (admission p (q .request) .number) 0 e, admission-with)
+
+  pub refused-first : (admission p (q .request) .number ≡ 0 → ⊥) → admitted p q ≡ turned (admission p (q .request) .number) (admission p (q .request) .place) 0
+  unfolding admission-with
+  refused-first d = rw (ne-eqb (admission p (q .request) .number) 0 d, admission-with)
+
+  -- ---- an admitted run
+
+  pub request-admitted : admitted p q .number ≡ 0 → admission p (q .request) .number ≡ 0
+  request-admitted e = by (eqb (admission p (q .request) .number) 0) refl
+    where
+      by : (b : Bool) → eqb (admission p (q .request) .number) 0 ≡ b → admission p (q .request) .number ≡ 0
+      by true t = eqb-true _ 0 t
+      by false t = ap (λ (x : Turned). x .number) (sym (refused-first (eqb-false _ 0 t))) ∙ e
+
+  pub list-passes : admitted p q .number ≡ 0 → Passes (limits-of p (q .request)) none 1 (said (q .values))
+  unfolding check-list
+  list-passes e = record { is = ap (λ (x : Turned). x .number) (sym (list-decides (request-admitted e))) ∙ e }
+
+  pub both-admit : admission p (q .request) .number ≡ 0 → Passes (limits-of p (q .request)) none 1 (said (q .values)) → admitted p q .number ≡ 0
+  unfolding check-list
+  both-admit e pass = ap (λ (x : Turned). x .number) (list-decides e) ∙ pass .is
+
+  -- ---- what a run gives
+
+  pub run-admitted : (counting : Counting) → admitted p q .number ≡ 0 → run counting p q ≡ report-of counting p q
+  unfolding run
+  run-admitted counting e = rw (eq-eqb (admitted p q .number) 0 e, run)
+
+  pub run-refused : (counting : Counting) → (admitted p q .number ≡ 0 → ⊥) → run counting p q ≡ refused (admitted p q .number) (admitted p q .place) (admitted p q .line) (q .request .grid)
+  unfolding run
+  run-refused counting d = rw (ne-eqb (admitted p q .number) 0 d, run)

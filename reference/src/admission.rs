@@ -1,0 +1,168 @@
+//! What is tried before a run or a writing: the lengths of the tables, the
+//! source, 20 to 24, and a run's list.
+
+use crate::lists::{read_list, Block, Limits};
+use crate::names::MAX_NAMES;
+use crate::parse::check;
+use crate::spelling::BUILT_IN;
+use crate::tree::Program;
+
+pub const WORDS: usize = 16_384;
+pub const MAX_SIZE: u32 = 4_096;
+pub const MAX_CELLS: u64 = 1_048_576;
+pub const GREATEST: i64 = 2_147_483_647;
+
+#[derive(Clone, Copy, PartialEq, Eq, Debug, Default)]
+pub struct Report {
+    pub number: u32,
+    pub place: u32,
+    pub line: u64,
+    pub cell: u32,
+    pub steps: u32,
+    pub count: u64,
+}
+
+/// A refusal 1 to 24 or 40 to 45.
+#[derive(Clone, Copy, PartialEq, Eq, Debug)]
+pub struct Refusal {
+    pub number: u32,
+    pub place: u32,
+}
+
+impl From<Refusal> for Report {
+    fn from(refusal: Refusal) -> Report {
+        Report {
+            number: refusal.number,
+            place: refusal.place,
+            ..Report::default()
+        }
+    }
+}
+
+/// A source with what is lent beside it in every call that reads one: the
+/// built-in list, and the lengths of the word table and the name list.
+#[derive(Clone, Copy)]
+pub struct Read<'a> {
+    pub source: &'a [u8],
+    pub list: &'a [u8],
+    pub words: usize,
+    pub names: usize,
+}
+
+/// The program of a source that is accepted.
+pub fn program_of(read: &Read) -> Result<Program, Refusal> {
+    if read.list != BUILT_IN || read.words != WORDS || read.names != MAX_NAMES {
+        return Err(Refusal {
+            number: 1,
+            place: 0,
+        });
+    }
+    let checked = check(read.source);
+    checked.program.ok_or(Refusal {
+        number: checked.reply.number,
+        place: checked.reply.place,
+    })
+}
+
+/// The number of cells, or none if the sizes are wrong.
+fn cells_of(program: &Program, shape: &[u32]) -> Option<usize> {
+    let holds = shape.iter().all(|size| (1..=MAX_SIZE).contains(size));
+    if shape.len() != program.dimensions || !holds {
+        return None;
+    }
+    let cells: u64 = shape.iter().map(|&size| u64::from(size)).product();
+    (cells <= MAX_CELLS).then_some(cells as usize)
+}
+
+/// What 20 to 24 are tried on, beside the program. Without rooms, those of
+/// the right lengths are supposed.
+pub struct Asked<'a> {
+    pub shape: &'a [u32],
+    pub grid: &'a [i32],
+    /// The lengths of scratch and marks.
+    pub rooms: Option<(usize, usize)>,
+    pub start: i64,
+    pub steps: i64,
+}
+
+/// 20 to 24, in this order.
+pub fn admit_grid(program: &Program, asked: &Asked) -> Result<(), Refusal> {
+    let refused = |number, place| Err(Refusal { number, place });
+    let Some(cells) = cells_of(program, asked.shape) else {
+        return refused(20, 0);
+    };
+    let entries = cells * program.fields.len();
+    let rooms = asked.rooms.unwrap_or((entries, cells));
+    if asked.grid.len() != entries || rooms != (entries, cells) {
+        return refused(21, 0);
+    }
+    let last = i128::from(asked.start) + i128::from(asked.steps);
+    if asked.start < 0 || asked.steps < 0 || last > i128::from(GREATEST) {
+        return refused(22, 0);
+    }
+    for written in &program.written {
+        let size = i64::from(asked.shape[written.dimension]);
+        if i64::from(written.low).abs() > size || i64::from(written.high).abs() > size {
+            return refused(23, written.place);
+        }
+    }
+    for (entry, value) in asked.grid.iter().enumerate() {
+        let field = program.fields[entry % program.fields.len()];
+        if *value < field.low || *value > field.high {
+            return refused(24, entry as u32);
+        }
+    }
+    Ok(())
+}
+
+/// What is lent to a run beside the memory it writes.
+#[derive(Clone, Copy)]
+pub struct Lent<'a> {
+    pub source: &'a [u8],
+    /// The built-in list.
+    pub list: &'a [u8],
+    pub words: usize,
+    pub names: usize,
+    pub shape: &'a [u32],
+    /// The timed value list; an empty one is none.
+    pub values: &'a [u8],
+    pub start: i64,
+    pub steps: i64,
+}
+
+/// The program and the blocks of a run that is admitted, or its refusal.
+pub fn admit(
+    lent: &Lent,
+    grid: &[i32],
+    scratch: &[i32],
+    marks: &[u8],
+) -> Result<(Program, Vec<Block>), Report> {
+    let program = program_of(&Read {
+        source: lent.source,
+        list: lent.list,
+        words: lent.words,
+        names: lent.names,
+    })?;
+    let asked = Asked {
+        shape: lent.shape,
+        grid,
+        rooms: Some((scratch.len(), marks.len())),
+        start: lent.start,
+        steps: lent.steps,
+    };
+    admit_grid(&program, &asked)?;
+    let limits = Limits {
+        sizes: lent.shape,
+        fields: &program.fields,
+        start: lent.start,
+        steps: lent.steps,
+    };
+    match read_list(lent.values, &limits) {
+        Ok(blocks) => Ok((program, blocks)),
+        Err(bad) => Err(Report {
+            number: bad.number,
+            line: bad.line,
+            ..Report::default()
+        }),
+    }
+}
