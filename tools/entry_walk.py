@@ -8,7 +8,7 @@
     }
 
 The positions of the walk's context are computed: the script keeps the context as a list of names. After a change of a signature, change CALLS below and run it, then
-`rt fmt`. A parameter is (kind, row): ("shr", "u8"), ("mut", "u32"), ("names", "Row"), ("uint", "w32"), ("sint", "w64"), ("bool", "").
+`rt fmt`. A parameter is (kind, row): ("shr", "u8"), ("mut", "u32"), ("names", "Row"), ("uint", "w32"), ("sint", "w64"), ("bool", ""), ("enum", "Manner").
 """
 import os
 
@@ -47,13 +47,13 @@ def gen(spec):
     sl = [i for i in range(n) if kind[i] in ('shr', 'mut', 'names')]          # the slices, in order: their lifetimes
     nm = kind.index('names'); lft = {i: k for k, i in enumerate(sl)}
     cs = [i for i in sl if i != nm]                                           # the core's slices
-    R = lambda i: row[i] if kind[i] in ('shr', 'mut', 'names') else 'bool' if kind[i] == 'bool' else {('uint','w8'):'u8',('uint','w16'):'u16',('uint','w32'):'u32',('uint','w64'):'usize',('sint','w32'):'i32',('sint','w64'):'i64'}[(kind[i], row[i])]
+    R = lambda i: row[i] if kind[i] in ('shr', 'mut', 'names') else 'bool' if kind[i] == 'bool' else f'{row[i]}Row' if kind[i] == 'enum' else {('uint','w8'):'u8',('uint','w16'):'u16',('uint','w32'):'u32',('uint','w64'):'usize',('sint','w32'):'i32',('sint','w64'):'i64'}[(kind[i], row[i])]
     elem = lambda i: 'Name' if kind[i] == 'names' else ('ℤ' if row[i].startswith('i') else 'ℕ')
-    plain = lambda i, what: f'bool-{what}' if kind[i] == 'bool' else f'{"u" if kind[i] == "uint" else "s"}int-{what}'
-    width = lambda i: '' if kind[i] == 'bool' else f' {row[i]}'
-    ty = lambda i: f'RefT (List {elem(i)})' if i in sl else {'sint': 'ℤ', 'uint': 'ℕ', 'bool': 'Bool'}[kind[i]]
-    val = lambda i: f's{i} ∷ []' if i in sl else {'uint': f'vint {row[i]} v{i} ∷ []', 'sint': f'sint-vals {row[i]} v{i}', 'bool': f'vbool v{i} ∷ []'}[kind[i]]
-    one = lambda i: f's{i}' if i in sl else {'uint': f'vint {row[i]} v{i}', 'sint': f'vint {row[i]} (ofZ {row[i]} v{i})', 'bool': f'vbool v{i}'}[kind[i]]
+    plain = lambda i, what: f'bool-{what}' if kind[i] == 'bool' else f'{row[i].lower()}-{what}' if kind[i] == 'enum' else f'{"u" if kind[i] == "uint" else "s"}int-{what}'
+    width = lambda i: '' if kind[i] in ('bool', 'enum') else f' {row[i]}'
+    ty = lambda i: f'RefT (List {elem(i)})' if i in sl else {'sint': 'ℤ', 'uint': 'ℕ', 'bool': 'Bool', 'enum': row[i]}[kind[i]]
+    val = lambda i: f's{i} ∷ []' if i in sl else {'uint': f'vint {row[i]} v{i} ∷ []', 'sint': f'sint-vals {row[i]} v{i}', 'bool': f'vbool v{i} ∷ []', 'enum': f'{row[i].lower()}-vals v{i}'}[kind[i]]
+    one = lambda i: f's{i}' if i in sl else {'uint': f'vint {row[i]} v{i}', 'sint': f'vint {row[i]} (ofZ {row[i]} v{i})', 'bool': f'vbool v{i}', 'enum': f'{row[i].lower()}-val v{i}'}[kind[i]]
     arg = lambda i: f'x{i}' if i in sl else f'v{i}'
     carg = lambda i: f'length v{nm}' if i == nm else arg(i)
     cval = lambda i: f'vint w64 (length v{nm}) ∷ []' if i == nm else val(i)
@@ -133,7 +133,7 @@ use {here}.{f}.Statement as stated
 use {here}.{f}.Code as code
 ''')
     st = {'shr': lambda i: f'stay-none-slice ({lft[i]} ∷ []) tt (plain (λ _. {R(i)})) yes', 'mut': lambda i: f'gave-slice ({lft[i]} ∷ []) tt (plain (λ _. {R(i)}))', 'uint': lambda i: f'stay-none (λ _. {R(i)}) yes'}
-    st['names'] = st['mut']; st['sint'] = st['bool'] = st['uint']
+    st['names'] = st['mut']; st['sint'] = st['bool'] = st['enum'] = st['uint']
     P('abbrev stayed : Stays (f.ended .signature .params) (f.ended .kept)\nstayed = ' + tup([st[kind[i]](i) for i in range(n)]) + '\n')
     hdr = 'module _ {M : Type 1} (𝓤 : URA M) (H : Heap 𝓤) (A : Atoms 𝓤)'
     mr = '(mem : Memory → SProp 𝓤) (run : Routine → Fun 𝓤)'
@@ -203,7 +203,7 @@ use {here}.{f}.Code as code
     w.emit('frame !'); w.ctx = w.ctx[1:]
     w.nothing('own')
     for i in reversed(range(n)):
-        if kind[i] in ('uint', 'sint', 'bool'): w.owned(made(i), 'one')
+        if kind[i] in ('uint', 'sint', 'bool', 'enum'): w.owned(made(i), 'one')
         else: w.front({'shr': f'own{i}', 'mut': f'fin{i}', 'names': f'fin{i}'}[kind[i]], 'own'); 
         w.fjoin('own')
     w.owned(f'owned ! {Answer}Row (Is {Answer}Row) ({answer}-makes 𝓤 H A) (r .{answer}) _ is', 'res'); w.front('own', 'res'); w.nl()
@@ -274,7 +274,7 @@ use {here}.{f}.Code as code
         w.front(f't{i}', 'tok'); w.join('tok')
     w.nothing('passed')
     for i in reversed(range(n)):
-        if i == nm or kind[i] in ('uint', 'sint', 'bool'): w.owned(made(i), 'one')
+        if i == nm or kind[i] in ('uint', 'sint', 'bool', 'enum'): w.owned(made(i), 'one')
         else: w.front(f'own{i}', 'passed')
         w.fjoin('passed')
     w.front('tok', 'passed'); w.emit(f'use2 W (raw (Ck {G} .pre to-ck)) goes-ck'); w.rep(2, ['pre']); w.nl()
@@ -339,7 +339,7 @@ use {here}.{f}.Code as code
     aa = ' '.join((f'(a{proj(i)} .ptr .0) (a{proj(i)} .ptr .1) (a{proj(i)} .name) (a{proj(i)} .now)' if i in sl else f'(a{proj(i)})') for i in range(n))
     fa = ' '.join((f'(are{proj(i)} .0 .1)' if i in sl else f'(are{proj(i)})') for i in range(n))
     go = {'shr': lambda i: f'goes-none-slice 𝓤 H A W {len(sl)} ({lft[i]} ∷ []) tt (plain (λ _. {R(i)})) yes', 'mut': lambda i: f'goes-gave-slice 𝓤 H A W {len(sl)} {lft[i]} tt (plain (λ _. {R(i)}))', 'uint': lambda i: f'goes-none 𝓤 H A W {len(sl)} (λ _. {R(i)}) yes (λ κs x f. refl)'}
-    go['names'] = go['mut']; go['sint'] = go['bool'] = go['uint']
+    go['names'] = go['mut']; go['sint'] = go['bool'] = go['enum'] = go['uint']
     P(f'''{hdr} (W : Given 𝓤 H A) {mr} where
   walks : (C : Calls 𝓤 H) (Λ : Loops 𝓤 H) → FmC 𝓤 H (W .laws) C → Triple 𝓤 (C #ck) (Ck {G}) → Triple 𝓤 (C #sf) (Sf {G})
       → Walks 𝓤 H A f.ended stayed (WpFn 𝓤 H C Λ code.function) (f.clauses {G})
@@ -393,16 +393,17 @@ use Rattle.cellang.proofs.AnswerRow.{OutRow, ReplyRow, reply-mach, out-
     },
     {
         'module': 'running', 'fn': 'run', 'core': 'ran', 'answer': 'report', 'outcome': 'RunAnswer',
-        'params': [('shr', 'u8'), ('shr', 'u8'), ('mut', 'u32'), ('names', 'Row'), ('shr', 'u32'), ('mut', 'i32'), ('mut', 'i32'), ('mut', 'u8'), ('shr', 'u8'), ('sint', 'w64'), ('sint', 'w64'), ('bool', '')],
-        'vals': ', vbool, ofZ', 'plains': ', bool-vals, bool-tells, bool-makes, bool-lawful', 'signed': 'use denote.Signed.{sint-vals, sint-tells, sint-makes, sint-lawful}\n',
-        'builtins': 'i32, i64, bool, ', 'integers': 'use mathlib.Core.Bool.{Bool}\nuse lib.IntN.{ℤ}\n',
+        'params': [('shr', 'u8'), ('shr', 'u8'), ('mut', 'u32'), ('names', 'Row'), ('shr', 'u32'), ('mut', 'i32'), ('mut', 'i32'), ('mut', 'u8'), ('shr', 'u8'), ('sint', 'w64'), ('sint', 'w64'), ('enum', 'Manner')],
+        'vals': ', ofZ', 'plains': '', 'signed': 'use denote.Signed.{sint-vals, sint-tells, sint-makes, sint-lawful}\n',
+        'builtins': 'i32, i64, ', 'integers': 'use lib.IntN.{ℤ}\n',
         'uses': '''
 use Rattle.stepper.specs.Report.{full}
 use Rattle.services.specs.Calls.{memory, lent, asked, read-lent, run-report}
 use Rattle.services.specs.RangesKept.{RangesKept}
+use Rattle.iteration.specs.declared.Manner.{Manner}
 use Rattle.iteration.specs.Stepwise.{told}
-use Rattle.runner.specs.Sourcewise.{counting-of, RunLeaves}
-use Rattle.runner.specs.Property3.{Agree}
+use Rattle.runner.specs.Sourcewise.{manner-of, RunLeaves}
+use Rattle.runner.specs.Property3.{AgreesFresh}
 use Rattle.runner.proofs.RunLaws.{run-agrees, run-ranges}
 use Rattle.records.specs.declared.Name.{Name}
 use Rattle.cellang.specs.declared.running.RunAnswer.{RunAnswer}
@@ -410,10 +411,11 @@ use Rattle.cellang.specs.Left.{row-names}
 use Rattle.cellang.specs.Promises.{RunsOver}
 use Rattle.cellang.proofs.running.RunAnswer.Laws as O′
 use Rattle.records.proofs.NameRow.{Row, vals, makes}
+use Rattle.cellang.proofs.MannerRow.{MannerRow, manner-val, manner-vals, manner-tells, manner-makes, manner-lawful}
 use Rattle.cellang.proofs.RunAnswerRow.{OutRow, ReportRow, report-mach, out-tells, rows-is, count-fits, report-is, report-makes, out-typed, report-typed}''',
-        'said': f'RunsOver (counting-of v11) (length v3) (λ m. {LENT.format("m")}) r (λ m. {EXIT.format("m")})',
-        'final': f'RunLeaves row-names (counting-of v11) {LENT.format("v3")} (r .report) {EXIT.format("ns")} × Agree (told (r .report) z5) (run-report row-names full {LENT.format("v3")}) × RangesKept (read-lent row-names {LENT.format("v3")}) (asked {LENT.format("v3")}) z5',
-        'proof': f'let left = subst (λ m. RunLeaves row-names (counting-of v11) {LENT.format("v3")} (r .report) {EXIT.format("m")}) (sym h) (e .stores v3 refl) in (left, run-agrees row-names v11 {LENT.format("v3")} left, run-ranges row-names (counting-of v11) {LENT.format("v3")} left)',
+        'said': f'RunsOver (manner-of v11 v7) (length v3) (λ m. {LENT.format("m")}) r (λ m. {EXIT.format("m")})',
+        'final': f'RunLeaves row-names (manner-of v11 v7) {LENT.format("v3")} (r .report) {EXIT.format("ns")} × AgreesFresh v11 (told (r .report) z5) (run-report row-names full {LENT.format("v3")}) × RangesKept (read-lent row-names {LENT.format("v3")}) (asked {LENT.format("v3")}) z5',
+        'proof': f'let left = subst (λ m. RunLeaves row-names (manner-of v11 v7) {LENT.format("v3")} (r .report) {EXIT.format("m")}) (sym h) (e .stores v3 refl) in (left, run-agrees row-names v11 {LENT.format("v3")} left, run-ranges row-names (manner-of v11 v7) {LENT.format("v3")} left)',
         'may': 'e .few',
     },
     {

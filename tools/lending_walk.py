@@ -37,13 +37,13 @@ def gen(spec):
     cs = [i for i in range(n) if i in sl or i == nm]                          # the callee's slices
     shr = [i for i in sl if kind[i] == 'shr']; muts = [i for i in sl if kind[i] == 'mut']
     lft = {i: k for k, i in enumerate(sl)}
-    R = lambda i: row[i] if i in sl else ARRAY if i == nm else 'bool' if kind[i] == 'bool' else INTS[(kind[i], row[i])]
+    R = lambda i: row[i] if i in sl else ARRAY if i == nm else 'bool' if kind[i] == 'bool' else f'{row[i]}Row' if kind[i] == 'enum' else INTS[(kind[i], row[i])]
     elem = lambda i: 'Name' if i == nm else ('ℤ' if row[i].startswith('i') else 'ℕ')
-    plain = lambda i, what: f'bool-{what}' if kind[i] == 'bool' else f'{"u" if kind[i] == "uint" else "s"}int-{what}'
-    width = lambda i: '' if kind[i] == 'bool' else f' {row[i]}'
-    ty = lambda i: f'RefT (List {elem(i)})' if i in sl else 'List Name' if i == nm else {'sint': 'ℤ', 'uint': 'ℕ', 'bool': 'Bool'}[kind[i]]
-    val = lambda i: f's{i} ∷ []' if i in sl else f'array-vals vals v{i}' if i == nm else {'uint': f'vint {row[i]} v{i} ∷ []', 'sint': f'sint-vals {row[i]} v{i}', 'bool': f'vbool v{i} ∷ []'}[kind[i]]
-    one = lambda i: f's{i}' if i in sl else f'array-mach v{i}' if i == nm else {'uint': f'vint {row[i]} v{i}', 'sint': f'vint {row[i]} (ofZ {row[i]} v{i})', 'bool': f'vbool v{i}'}[kind[i]]
+    plain = lambda i, what: f'bool-{what}' if kind[i] == 'bool' else f'{row[i].lower()}-{what}' if kind[i] == 'enum' else f'{"u" if kind[i] == "uint" else "s"}int-{what}'
+    width = lambda i: '' if kind[i] in ('bool', 'enum') else f' {row[i]}'
+    ty = lambda i: f'RefT (List {elem(i)})' if i in sl else 'List Name' if i == nm else {'sint': 'ℤ', 'uint': 'ℕ', 'bool': 'Bool', 'enum': row[i]}[kind[i]]
+    val = lambda i: f's{i} ∷ []' if i in sl else f'array-vals vals v{i}' if i == nm else {'uint': f'vint {row[i]} v{i} ∷ []', 'sint': f'sint-vals {row[i]} v{i}', 'bool': f'vbool v{i} ∷ []', 'enum': f'{row[i].lower()}-vals v{i}'}[kind[i]]
+    one = lambda i: f's{i}' if i in sl else f'array-mach v{i}' if i == nm else {'uint': f'vint {row[i]} v{i}', 'sint': f'vint {row[i]} (ofZ {row[i]} v{i})', 'bool': f'vbool v{i}', 'enum': f'{row[i].lower()}-val v{i}'}[kind[i]]
     arg = lambda i: f'x{i}' if i in sl else f'v{i}'
     typ = lambda i: f'{"ShrSlice" if kind[i]=="shr" else "MutSlice"} (named {lft[i]}) κ{i} {R(i)}' if i in sl else R(i).strip('()')
     made = lambda i: f'owned ! {ARRAY} (Is {ARRAY}) (array-makes 𝓤 H A W Row (makes 𝓤 H A) 256) v{i} _ is{i}' if i == nm else f'owned ! {R(i)} (Is {R(i)}) ({plain(i, "makes")} 𝓤 H A W{width(i)}) v{i} _ is{i}'
@@ -376,20 +376,22 @@ use Rattle.naming.specs.Promises.{ChecksSource}''',
     },
     {
         'fn': 'run', 'callee': 'run', 'answer': 'Report', 'wraps': True,
-        'params': [('shr', 'u8'), ('shr', 'u8'), ('mut', 'u32'), ('rows', 'Row'), ('shr', 'u32'), ('mut', 'i32'), ('mut', 'i32'), ('mut', 'u8'), ('shr', 'u8'), ('sint', 'w64'), ('sint', 'w64'), ('bool', '')],
+        'params': [('shr', 'u8'), ('shr', 'u8'), ('mut', 'u32'), ('rows', 'Row'), ('shr', 'u32'), ('mut', 'i32'), ('mut', 'i32'), ('mut', 'u8'), ('shr', 'u8'), ('sint', 'w64'), ('sint', 'w64'), ('enum', 'Manner')],
         'uses': '''
 use Rattle.stepper.specs.Report.{full}
 use Rattle.services.specs.Calls.{memory, lent, asked, read-lent, run-report}
 use Rattle.services.specs.RangesKept.{RangesKept}
 use Rattle.iteration.specs.declared.Report.{Report}
+use Rattle.iteration.specs.declared.Manner.{Manner}
 use Rattle.iteration.specs.Stepwise.{told}
-use Rattle.runner.specs.Sourcewise.{counting-of, RunLeaves}
-use Rattle.runner.specs.Property3.{Agree}
+use Rattle.runner.specs.Sourcewise.{manner-of, RunLeaves}
+use Rattle.runner.specs.Property3.{AgreesFresh}
 use Rattle.cellang.specs.Left.{row-names}
+use Rattle.cellang.proofs.MannerRow.{MannerRow, manner-val, manner-vals, manner-tells, manner-makes, manner-lawful}
 use Rattle.cellang.proofs.RunAnswerRow.{ReportRow}
 use Rattle.naming.specs.declared.Ran.{Ran}''',
-        'said': f'RunLeaves row-names (counting-of v11) {LENT.format("v3")} r {EXIT.format("ns")} × Agree (told r z5) (run-report row-names full {LENT.format("v3")}) × RangesKept (read-lent row-names {LENT.format("v3")}) (asked {LENT.format("v3")}) z5',
-        'final': f'RunLeaves row-names (counting-of v11) {LENT.format("v3")} r {EXIT.format("ns")}',
+        'said': f'RunLeaves row-names (manner-of v11 v7) {LENT.format("v3")} r {EXIT.format("ns")} × AgreesFresh v11 (told r z5) (run-report row-names full {LENT.format("v3")}) × RangesKept (read-lent row-names {LENT.format("v3")}) (asked {LENT.format("v3")}) z5',
+        'final': f'RunLeaves row-names (manner-of v11 v7) {LENT.format("v3")} r {EXIT.format("ns")}',
         'proof': 'e .0',
     },
 ]

@@ -12,7 +12,7 @@ use Rattle.spelling.specs.Spelling.{part-at, part-entries, told-entries}
 use Rattle.grammar.specs.Complaint.{Complaint}
 use Rattle.checker.specs.Promises.{Checks}
 use Rattle.stepper.specs.Report as report
-use Rattle.stepper.specs.Report.{Counting}
+use Rattle.stepper.specs.Report.{Manner}
 use Rattle.services.specs.Calls.{flat-names, Memory, lent}
 use Rattle.iteration.specs.declared.Report.{Report}
 use Rattle.runner.specs.Sourcewise.{RunLeaves}
@@ -39,10 +39,10 @@ tells-check {fit} {source} {ws} {ns} {reply} {number} {place} {ws′} {ns′} h 
 -- ---- a run
 
 -- the times as the machine reads them
-pub tells-run : {counting : Counting} {source list sizes values : List ℕ} {m m′ : Memory ℕ} {start steps : ℤ} {entries entries′ : List ℕ} {said : Report} {t : Told} → SFits w64 start → SFits w64 steps
-    → RunLeaves flat-names counting (lent source list sizes m values (toZ w64 (ofZ w64 start)) (toZ w64 (ofZ w64 steps))) said m′ → told-entries t ≡ part-entries (part-at source (said .number) (said .place))
-    → entries′ ≡ over (said .number ∷ said .place ∷ said .cell ∷ said .steps ∷ said .count ∷ told-entries t ++ said .line ∷ []) entries → TellsRun counting (lent source list sizes m values start steps) entries (said .number) m′ entries′
-tells-run {counting} {source} {list} {sizes} {values} {m} {m′} {start} {steps} {entries} {entries′} {said} a b h p e =
+pub tells-run : {manner : Manner} {source list sizes values : List ℕ} {m m′ : Memory ℕ} {start steps : ℤ} {entries entries′ : List ℕ} {said : Report} {t : Told} → SFits w64 start → SFits w64 steps
+    → RunLeaves flat-names manner (lent source list sizes m values (toZ w64 (ofZ w64 start)) (toZ w64 (ofZ w64 steps))) said m′ → told-entries t ≡ part-entries (part-at source (said .number) (said .place))
+    → entries′ ≡ over (said .number ∷ said .place ∷ said .cell ∷ said .steps ∷ said .count ∷ told-entries t ++ said .line ∷ []) entries → TellsRun manner (lent source list sizes m values start steps) entries (said .number) m′ entries′
+tells-run {manner} {source} {list} {sizes} {values} {m} {m′} {start} {steps} {entries} {entries′} {said} a b h p e =
     let k = read-times a b h in
     record {
       number = ap (λ (x : report.Report). x .number) (left-report k);

@@ -7,7 +7,7 @@ use lib.ListN.{length, take, drop}
 use Rattle.names.specs.Names.{most-names}
 use Rattle.grammar.specs.Complaint.{complaint}
 use Rattle.grammar.specs.Checking.{check, words-after}
-use Rattle.stepper.specs.Report.{Counting}
+use Rattle.stepper.specs.Report.{Manner}
 use Rattle.services.specs.Calls.{Memory, Lent, names-left}
 use Rattle.checker.specs.declared.checking.Reply.{Reply}
 use Rattle.runner.specs.Sourcewise.{RunLeaves}
@@ -38,9 +38,9 @@ pub record ChecksOver (fit : Bool) (source ws : List ℕ) (names : ℕ) (r : Ans
 
 -- a run whose records are given and not yet stored: stored over any row of that length, they leave what the definition leaves. `lends` and `left` are what
 -- is lent and left, by the row
-pub record RunsOver (counting : Counting) (names : ℕ) (lends : List Name → Lent Name) (r : RunAnswer) (left : List Name → Memory Name) : Type 0 where
+pub record RunsOver (manner : Manner) (names : ℕ) (lends : List Name → Lent Name) (r : RunAnswer) (left : List Name → Memory Name) : Type 0 where
   pub few : (r .count ≤ most-names) × (r .count ≤ names)
-  pub stores : (ns : List Name) → length ns ≡ names → RunLeaves row-names counting (lends ns) (r .report) (left (take (r .count) (r .rows) ++ drop (r .count) ns))
+  pub stores : (ns : List Name) → length ns ≡ names → RunLeaves row-names manner (lends ns) (r .report) (left (take (r .count) (r .rows) ++ drop (r .count) ns))
 
 -- a run that is turned away stores nothing
 pub record TurnedAway (r : RunAnswer) : Type 0 where

@@ -7,7 +7,7 @@ use lib.IntN.{ℤ}
 use Rattle.spelling.specs.Spelling.{part-at, part-entries}
 use Rattle.grammar.specs.Complaint.{Complaint}
 use Rattle.grammar.specs.Checking.{check}
-use Rattle.stepper.specs.Report.{Counting, Report}
+use Rattle.stepper.specs.Report.{Manner, Report}
 use Rattle.services.specs.Calls.{flat-names, Memory, Lent, run-report, run-left}
 use Rattle.checker.specs.Promises.{Checks}
 use Rattle.lists.specs.Writing.{Wrote}
@@ -35,10 +35,10 @@ report-entries source said =
     said .number ∷ said .place ∷ said .cell ∷ said .steps ∷ said .count ∷ part-entries (part-at source (said .number) (said .place)) ++ said .line ∷ []
 
 -- the number that is given back, the entries that are told, and the rest of the memory
-pub record TellsRun (counting : Counting) (l : Lent ℕ) (entries : List ℕ) (r : ℕ) (m : Memory ℕ) (entries′ : List ℕ) : Type 0 where
-  pub number : r ≡ run-report flat-names counting l .number
-  pub told : entries′ ≡ over (report-entries (l .source) (run-report flat-names counting l)) entries
-  pub memory : m ≡ run-left flat-names counting l .memory
+pub record TellsRun (manner : Manner) (l : Lent ℕ) (entries : List ℕ) (r : ℕ) (m : Memory ℕ) (entries′ : List ℕ) : Type 0 where
+  pub number : r ≡ run-report flat-names manner l .number
+  pub told : entries′ ≡ over (report-entries (l .source) (run-report flat-names manner l)) entries
+  pub memory : m ≡ run-left flat-names manner l .memory
 
 -- ---- the writer
 

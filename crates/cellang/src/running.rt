@@ -4,13 +4,14 @@ ghost use Rattle.stepper.specs.Report.{full};
 ghost use Rattle.services.specs.Calls.{memory, lent, asked, read-lent, run-report};
 ghost use Rattle.services.specs.RangesKept.{RangesKept};
 ghost use Rattle.iteration.specs.Stepwise.{told};
-ghost use Rattle.runner.specs.Sourcewise.{counting-of, RunLeaves};
-ghost use Rattle.runner.specs.Property3.{Agree};
+ghost use Rattle.runner.specs.Sourcewise.{manner-of, RunLeaves};
+ghost use Rattle.runner.specs.Property3.{AgreesFresh};
 ghost use Rattle.records.specs.declared.Name.{Name};
 ghost use Rattle.cellang.specs.Left.{row-names};
 ghost use Rattle.cellang.specs.Promises.{TurnedAway, RunsOver};
 use crate::rows::row_fits;
 use crate::rows::stored;
+use iteration::Manner;
 use iteration::Report;
 use records::Name;
 use records::rows::rows_of;
@@ -57,9 +58,9 @@ fn ran(
     values: &[u8],
     start: i64,
     steps: i64,
-    quiet: bool,
+    manner: Manner,
 ) -> RunAnswer
-    ensures { λ r. ⌜ RunsOver (counting-of quiet) names (λ (ns : List Name). (lent (now (source .entry)) (now (list .entry)) (now (sizes .entry)) (memory (now (words .entry)) ns (now (grid .entry)) (now (scratch .entry)) (now (marks .entry))) (now (values .entry)) start steps)) r (λ (ns : List Name). (memory (now (words .exit)) ns (now (grid .exit)) (now (scratch .exit)) (now (marks .exit)))) ⌝ }
+    ensures { λ r. ⌜ RunsOver (manner-of manner (now (marks .entry))) names (λ (ns : List Name). (lent (now (source .entry)) (now (list .entry)) (now (sizes .entry)) (memory (now (words .entry)) ns (now (grid .entry)) (now (scratch .entry)) (now (marks .entry))) (now (values .entry)) start steps)) r (λ (ns : List Name). (memory (now (words .exit)) ns (now (grid .exit)) (now (scratch .exit)) (now (marks .exit)))) ⌝ }
 {
     if !row_fits(list, names) {
         return turned_away();
@@ -78,7 +79,7 @@ fn ran(
         values,
         start,
         steps,
-        quiet,
+        manner,
     );
     let rows = rows_of(&flat);
     RunAnswer {
@@ -88,8 +89,10 @@ fn ran(
     }
 }
 
-// Runs a source on a grid: so many steps from a start time, with the blocks of a value list, which is empty where there is none. A full run evaluates every cell in each step, a quiet one only the cells that are open in
-// it: the answer and the grid are the same, and the count is of the open cells.
+// Runs a source on a grid: so many steps from a start time, with the blocks of a value list, which is empty where there is none. A full run evaluates
+// every cell in each step, the others only the cells that are open in it: the answer and the grid are the same, and the count is of the open cells. A
+// pausing run leaves the marks of the cells that one more step would open; a resuming one begins, besides, from the marks that it is lent, whatever
+// they are.
 pub fn run(
     source: &[u8],
     list: &[u8],
@@ -102,9 +105,9 @@ pub fn run(
     values: &[u8],
     start: i64,
     steps: i64,
-    quiet: bool,
+    manner: Manner,
 ) -> Report
-    ensures { λ r. ⌜ (RunLeaves row-names (counting-of quiet) (lent (now (source .entry)) (now (list .entry)) (now (sizes .entry)) (memory (now (words .entry)) (now (names .entry)) (now (grid .entry)) (now (scratch .entry)) (now (marks .entry))) (now (values .entry)) start steps) r (memory (now (words .exit)) (now (names .exit)) (now (grid .exit)) (now (scratch .exit)) (now (marks .exit)))) × (Agree (told r (now (grid .exit))) (run-report row-names full (lent (now (source .entry)) (now (list .entry)) (now (sizes .entry)) (memory (now (words .entry)) (now (names .entry)) (now (grid .entry)) (now (scratch .entry)) (now (marks .entry))) (now (values .entry)) start steps))) × (RangesKept (read-lent row-names (lent (now (source .entry)) (now (list .entry)) (now (sizes .entry)) (memory (now (words .entry)) (now (names .entry)) (now (grid .entry)) (now (scratch .entry)) (now (marks .entry))) (now (values .entry)) start steps)) (asked (lent (now (source .entry)) (now (list .entry)) (now (sizes .entry)) (memory (now (words .entry)) (now (names .entry)) (now (grid .entry)) (now (scratch .entry)) (now (marks .entry))) (now (values .entry)) start steps)) (now (grid .exit))) ⌝ }
+    ensures { λ r. ⌜ (RunLeaves row-names (manner-of manner (now (marks .entry))) (lent (now (source .entry)) (now (list .entry)) (now (sizes .entry)) (memory (now (words .entry)) (now (names .entry)) (now (grid .entry)) (now (scratch .entry)) (now (marks .entry))) (now (values .entry)) start steps) r (memory (now (words .exit)) (now (names .exit)) (now (grid .exit)) (now (scratch .exit)) (now (marks .exit)))) × (AgreesFresh manner (told r (now (grid .exit))) (run-report row-names full (lent (now (source .entry)) (now (list .entry)) (now (sizes .entry)) (memory (now (words .entry)) (now (names .entry)) (now (grid .entry)) (now (scratch .entry)) (now (marks .entry))) (now (values .entry)) start steps))) × (RangesKept (read-lent row-names (lent (now (source .entry)) (now (list .entry)) (now (sizes .entry)) (memory (now (words .entry)) (now (names .entry)) (now (grid .entry)) (now (scratch .entry)) (now (marks .entry))) (now (values .entry)) start steps)) (asked (lent (now (source .entry)) (now (list .entry)) (now (sizes .entry)) (memory (now (words .entry)) (now (names .entry)) (now (grid .entry)) (now (scratch .entry)) (now (marks .entry))) (now (values .entry)) start steps)) (now (grid .exit))) ⌝ }
 {
     let c = ran(
         source,
@@ -118,7 +121,7 @@ pub fn run(
         values,
         start,
         steps,
-        quiet,
+        manner,
     );
     store_first(names, c.rows, c.count);
     c.report

@@ -5,7 +5,7 @@ use native.Mathlib.Numerals.{add-one}
 use native.Mathlib.Omega.{arith}
 use mathlib.Core.Path.{_≡_, refl, sym, ap, ap₂, _∙_, subst, subst₂, fun-ext}
 use mathlib.Core.Logic.{_↔_}
-use mathlib.Core.Bool.{Bool, true, false, not, cond, _||_}
+use mathlib.Core.Bool.{Bool, true, false, not, cond, _&&_, _||_}
 use mathlib.Core.List.{List, [], _∷_, map, List·Memᴰ, List·Memᴰ·head, List·Memᴰ·tail, Memᴰ·map, Memᴰ·cast}
 use lib.ListN.{length, getD, replicate, length-replicate}
 use lib.Seq.{ext-getD}
@@ -13,7 +13,7 @@ use lib.IntN.{ℤ}
 use borrow.Author.Tests.{not-true, not-false}
 use Rattle.value.specs.Laws.{never}
 use Rattle.automaton.specs.Listed.{list-of, length-list-of, getD-list-of, list-of-ext}
-use Rattle.automaton.specs.Step.{Fault, Blocks, any-of, marks-of, non-zero, marked, Quiet, every-cell, changed, touched, open-in}
+use Rattle.automaton.specs.Step.{no-fault, fault-at, any-of, marks-of, non-zero, marked, Quiet, every-cell, no-cell, changed, touched, open-in, quiet-step}
 use Rattle.automaton.specs.Quiet.{marked-marks-of, any-of-false, any-none}
 use Rattle.automaton.specs.Shape.{product, Bound, width, neighbour, reach-of, box-indices}
 use Rattle.automaton.specs.ShapeLaws.{Positive, Alike, neighbour-lt, neighbour-zeros}
@@ -30,7 +30,6 @@ use Rattle.stepper.specs.Reach.{reach-from, reach, running}
 use Rattle.stepper.specs.Locality.{own-zeros}
 use Rattle.stepper.specs.Covering.{reach-covers}
 use Rattle.stepper.specs.PlacesLaws.{places-box}
-use Rattle.stepper.specs.Report.{ended}
 use Rattle.stepper.specs.Fitting.{held-fields, Shaped}
 use Rattle.stepping.specs.declared.Step.{Step}
 use Rattle.stepping.specs.declared.Step.the-variants as Gives
@@ -43,22 +42,26 @@ use Rattle.lists.specs.Setting.{set-block}
 use Rattle.iteration.specs.declared.Report.{Report}
 use Rattle.iteration.specs.declared.blocks.Next.{Next}
 use Rattle.iteration.specs.Blockwise.{NextOf, is-due, Settable, DueSet}
-use Rattle.iteration.specs.Stepwise.{Begins, blocks-in, Runs, Renewed, Standing, Halfway, Begun, Underway, Placed, told, without-fault, steps-report, RanMarked}
+use Rattle.iteration.specs.Stepwise.{Copying, from-lent, pending-in, Started, Begins, blocks-in, Runs, Renewed, Standing, Halfway, Begun, Underway, Placed, told, without-fault, steps-give, report-in, RanMarked}
 use Rattle.iteration.proofs.BlockLaws.{Follows, follows-start, follows-within, follows-stay, follows-set}
 
 -- ---- marks
 
-ones : (n k : ℕ) → k < n → _≡_ {A = ℕ} (getD (replicate n 1) k 0) 1
-ones zero k l = absurd (omega arith)
-ones (suc n) zero l = refl
-ones (suc n) (suc k) l = ones n k (omega arith)
+alike-at : (v n k : ℕ) → k < n → getD (replicate n v) k 0 ≡ v
+alike-at v zero k l = absurd (omega arith)
+alike-at v (suc n) zero l = refl
+alike-at v (suc n) (suc k) l = alike-at v n k (omega arith)
+
+-- marks that are all the same
+all-alike : (b : Bool) (n : ℕ) → replicate n (cond b 1 0) ≡ marks-of (λ c. b) n
+unfolding marks-of
+all-alike b n =
+    ext-getD 0 (replicate n (cond b 1 0)) (list-of (λ (c : ℕ). cond b 1 0) n) (length-replicate n (cond b 1 0) ∙ sym (length-list-of (λ (c : ℕ). cond b 1 0) n))
+    (λ k l. let m : k < n = omega (arith, length-replicate {A = ℕ} n (cond b 1 0)) in alike-at (cond b 1 0) n k m ∙ sym (getD-list-of (λ (c : ℕ). cond b 1 0) n k 0 m))
 
 -- where every mark is 1, every cell is open
 all-ones : (n : ℕ) → replicate n 1 ≡ marks-of every-cell n
-unfolding marks-of
-all-ones n =
-    ext-getD 0 (replicate n 1) (list-of (λ (c : ℕ). 1) n) (length-replicate n 1 ∙ sym (length-list-of (λ (c : ℕ). 1) n))
-    (λ k l. let m : k < n = omega (arith, length-replicate {A = ℕ} n 1) in ones n k m ∙ sym (getD-list-of (λ (c : ℕ). 1) n k 0 m))
+all-ones n = all-alike true n
 
 bit : (b : Bool) → cond b 1 0 ≤ 1
 bit true = omega arith
@@ -149,41 +152,74 @@ timed-is : (p : Program) (sizes : List ℕ) → running p sizes .timed ≡ p .ti
 unfolding running automaton
 timed-is p sizes = refl
 
--- every cell is marked
-pub all-standing : {rule : Rule} {sizes : List ℕ} {all-open : Bool} {grid scratch : List ℤ} {n : ℕ} {marks : List ℕ} → n ≡ product sizes → marks ≡ replicate n 1
-    → Standing rule sizes all-open grid scratch marks
-all-standing {rule} {sizes} {all-open} {grid} {scratch} {n} {marks} e m =
-    record {
-      plain = marks-plain every-cell (product sizes) marks is;
-      still = λ c l z. absurd (let q = shut every-cell (product sizes) marks is c l z in let w : _≡_ {A = ℕ} 0 1 = cc in omega arith);
-      all-marked = λ _. is;
-    }
-  where
-    is : marks ≡ marks-of every-cell (product sizes)
-    is = m ∙ ap (λ (k : ℕ). replicate k 1) e ∙ all-ones (product sizes)
+-- ---- the marks at the beginning
 
--- a run can begin with other marks
-pub begins-marked : {words : List ℕ} {rule : Rule} {sizes : List ℕ} {r : Reach} {grid scratch : List ℤ} {marks marks′ text : List ℕ} {start steps : ℕ} → Begins words rule sizes r grid scratch marks text start steps
-    → marks′ ≡ replicate (length marks) 1 → Begins words rule sizes r grid scratch marks′ text start steps
-begins-marked {marks = marks} b e = record {
-  rule-fits = b .rule-fits;
-  some-dims = b .some-dims;
-  shaped = b .shaped;
-  scratch-fits = b .scratch-fits;
-  marks-fit = ap length e ∙ length-replicate {A = ℕ} (length marks) 1 ∙ b .marks-fit;
-  near = b .near;
-  sound = b .sound;
-  times = b .times;
-  dimensions = b .dimensions;
-  listed = b .listed;
-}
+or-yes : (b : Bool) → (b || true) ≡ true
+or-yes true = refl
+or-yes false = refl
 
-pub all-begun : (sizes : List ℕ) {n : ℕ} {marks : List ℕ} (all-open : Bool) → n ≡ product sizes → marks ≡ replicate n 1 → Begun sizes all-open marks every-cell
-all-begun sizes all-open e m = m ∙ ap (λ (k : ℕ). replicate k 1) e ∙ all-ones (product sizes) ∙ marks-same _ _ (product sizes) (λ c l. sym (or-yes all-open))
-  where
-    or-yes : (b : Bool) → (b || true) ≡ true
-    or-yes true = refl
-    or-yes false = refl
+module _ {lent : Bool} {grid : List ℤ} {marks : List ℕ} {t : Bool} (is : t ≡ lent) where
+  pub started-lent : t ≡ true → {scratch′ : List ℤ} {marks′ : List ℕ} → scratch′ ≡ grid → marks′ ≡ marks-of (marked marks) (length marks) → Started lent grid marks scratch′ marks′
+  started-lent e s m = record { fresh = λ f. never (sym (is ∙ f) ∙ e); resumed = λ _. (s, m) }
+
+  pub started-all : t ≡ false → {scratch′ : List ℤ} {marks′ : List ℕ} → marks′ ≡ replicate (length marks) 1 → Started lent grid marks scratch′ marks′
+  started-all e m = record { fresh = λ _. m; resumed = λ f. never (sym e ∙ is ∙ f) }
+
+module _ {words : List ℕ} {rule : Rule} {sizes : List ℕ} {r : Reach} {grid scratch : List ℤ} {marks text : List ℕ} {start steps : ℕ} (begins : Begins words rule sizes r grid scratch marks text start steps)
+    (resumed all-open : Bool) {scratch′ : List ℤ} {marks′ : List ℕ} (started : Started (from-lent resumed all-open) grid marks scratch′ marks′) where
+  -- all cells are marked
+  all-marked : from-lent resumed all-open ≡ false → marks′ ≡ marks-of every-cell (product sizes)
+  all-marked e = started .fresh e ∙ ap (λ (k : ℕ). replicate k 1) (begins .marks-fit) ∙ all-ones (product sizes)
+
+  -- those with a lent mark are
+  some-marked : from-lent resumed all-open ≡ true → marks′ ≡ marks-of (marked marks) (product sizes)
+  some-marked e = started .resumed e .1 ∙ ap (marks-of (marked marks)) (begins .marks-fit)
+
+  not-all : (resumed all-open : Bool) → from-lent resumed all-open ≡ true → all-open ≡ false
+  not-all true true e = never e
+  not-all true false e = refl
+  not-all false all-open e = never e
+
+  pub started-standing : Standing rule sizes all-open grid scratch′ marks′
+  started-standing = by (from-lent resumed all-open) refl
+    where
+      by : (b : Bool) → from-lent resumed all-open ≡ b → Standing rule sizes all-open grid scratch′ marks′
+      by true e = record {
+        plain = marks-plain (marked marks) (product sizes) marks′ (some-marked e);
+        still = λ c l z. ap (λ (g : List ℤ). cell-of (rule .fields) g c) (started .resumed e .0);
+        all-marked = λ a. never (sym (not-all resumed all-open e) ∙ a);
+      }
+      by false e = record {
+        plain = marks-plain every-cell (product sizes) marks′ (all-marked e);
+        still = λ c l z. absurd (let q = shut every-cell (product sizes) marks′ (all-marked e) c l z in let w : _≡_ {A = ℕ} 0 1 = cc in omega arith);
+        all-marked = λ _. all-marked e;
+      }
+
+  pub started-begun : Begun sizes all-open marks′ (pending-in resumed marks)
+  started-begun = by resumed all-open refl refl
+    where
+      same : {o : ℕ → Bool} → marks′ ≡ marks-of o (product sizes) → ((c : ℕ) → o c ≡ (all-open || pending-in resumed marks c)) → Begun sizes all-open marks′ (pending-in resumed marks)
+      same m h = m ∙ marks-same _ _ (product sizes) (λ c l. h c)
+
+      by : (a b : Bool) → resumed ≡ a → all-open ≡ b → Begun sizes all-open marks′ (pending-in resumed marks)
+      by true false e f = same (some-marked (rw (e, f))) (λ c. rw (e, f))
+      by true true e f = same (all-marked (rw (e, f))) (λ c. rw f)
+      by false b e f = same (all-marked (rw e)) (λ c. sym (or-yes all-open) ∙ ap (λ (x : Bool). all-open || pending-in x marks c) (sym e))
+
+  -- the run can begin with them
+  pub started-begins : length scratch′ ≡ length scratch → length marks′ ≡ length marks → Begins words rule sizes r grid scratch′ marks′ text start steps
+  started-begins s m = record {
+    rule-fits = begins .rule-fits;
+    some-dims = begins .some-dims;
+    shaped = begins .shaped;
+    scratch-fits = s ∙ begins .scratch-fits;
+    marks-fit = m ∙ begins .marks-fit;
+    near = begins .near;
+    sound = begins .sound;
+    times = begins .times;
+    dimensions = begins .dimensions;
+    listed = begins .listed;
+  }
 
 -- the entries of a grid are few
 entries-few : {cells fields entries : ℕ} → cells * fields ≡ entries → cells ≤ 1048576 → fields ≤ 8 → entries ≤ 8388608
@@ -198,6 +234,10 @@ runs-sound {words} {rule} {r} {all-open} {p} h = record {
       subst (λ (bs : List Bound). List·Memᴰ ds ps ↔ List·Memᴰ ds (box-indices bs)) (h .reaches)
       (places-box p ps (h .lists ∙ e) (n ∙ ap (λ (bs : List Bound). product (map width bs)) (sym (h .reaches))) ds);
 }
+
+-- the grid can be copied
+pub copying : {words : List ℕ} {rule : Rule} {sizes : List ℕ} {r : Reach} {grid scratch : List ℤ} {marks text : List ℕ} {start steps : ℕ} → Begins words rule sizes r grid scratch marks text start steps → Copying grid scratch
+copying b = record { alike = b .scratch-fits; few = entries-few (b .shaped .entries) (b .shaped .cells) (b .rule-fits .fields) }
 
 -- the leaf table can be filled
 pub fill-ready : {words : List ℕ} {rule : Rule} {sizes : List ℕ} {r : Reach} {grid scratch : List ℤ} {marks text : List ℕ} {start steps : ℕ} → Begins words rule sizes r grid scratch marks text start steps
@@ -407,34 +447,41 @@ module _ {words : List ℕ} {rule : Rule} {sizes : List ℕ} {r : Reach} {all-op
 
     -- ---- the last step
 
-    pub ends : done ≡ steps → RanMarked words rule sizes r all-open text start steps grid₀ marks₀ (without-fault steps count) grid
-    ends e = record { from = λ o b. record { says = λ p runs. report-is o b p runs } }
+    pub ends : done ≡ steps → RanMarked words rule sizes r all-open text start steps grid₀ marks₀ (without-fault steps count) grid marks
+    ends e = record { from = λ o b. record { says = λ p runs. ap report-in (sym (is o b p runs)); stand = λ p runs. ap (λ (q : Quiet (List ℤ)). q .marks) (sym (is o b p runs)) } }
       where
-        report-is : (o : ℕ → Bool) → Begun sizes all-open marks₀ o → (p : Program) → Runs words rule r all-open p → told (without-fault steps count) grid ≡ steps-report p sizes (blocks-in sizes rule text) o steps start grid₀
-        report-is o b p runs =
-            let M = running p sizes in
+        is : (o : ℕ → Bool) → Begun sizes all-open marks₀ o → (p : Program) → Runs words rule r all-open p
+            → steps-give p sizes (blocks-in sizes rule text) o steps start grid₀ ≡ record { run = record { fault = no-fault; steps = steps; grid = grid }; count = count; marks = marks }
+        is o b p runs =
             let g = now .goes .is p runs o b in
-            let is = going-done M (blocks-in sizes rule text) o steps start grid₀ (g .2) grid (now .set-is) marks (unfold running automaton in g .1) e in
-            ap (λ (q : Quiet (List ℤ)). ended (q .run .fault) (q .run .steps) (q .count) (q .run .grid)) (sym is)
+            going-done (running p sizes) (blocks-in sizes rule text) o steps start grid₀ (g .2) grid (now .set-is) marks (unfold running automaton in g .1) e
 
     module _ (more : done < steps) where
       -- ---- a step that faults
 
-      pub stops : {said : Step} {cell number place counted : ℕ} {grid′ scratch′ : List ℤ} → Stepped words rule sizes grid scratch marks (start + done) count said grid′ scratch′ → said ≡ Gives.Fault cell number place counted
-          → RanMarked words rule sizes r all-open text start steps grid₀ marks₀ (record { number = number; place = place; line = 0; cell = cell; steps = done; count = counted }) grid′
-      stops {said} {cell} {number} {place} {counted} {grid′} {scratch′} s₀ e = record { from = λ o b. record { says = λ p runs. report-is o b p runs } }
+      pub stops : {said : Step} {cell number place counted : ℕ} {grid′ scratch′ : List ℤ} {marks′ : List ℕ} → Stepped words rule sizes grid scratch marks (start + done) count said grid′ scratch′ → said ≡ Gives.Fault cell number place counted
+          → marks′ ≡ replicate (length marks) 0
+          → RanMarked words rule sizes r all-open text start steps grid₀ marks₀ (record { number = number; place = place; line = 0; cell = cell; steps = done; count = counted }) grid′ marks′
+      stops {said} {cell} {number} {place} {counted} {grid′} {scratch′} {marks′} s₀ e cleared =
+          record { from = λ o b. record { says = λ p runs. report-is o b p runs; stand = λ p runs. none p ∙ ap (λ (q : Quiet (List ℤ)). q .marks) (sym (is o b p runs)) } }
         where
           s : Stepped words rule sizes grid scratch marks (start + done) count (Gives.Fault cell number place counted) grid′ scratch′
           s = subst (λ (t : Step). Stepped words rule sizes grid scratch marks (start + done) count t grid′ scratch′) e s₀
 
-          report-is : (o : ℕ → Bool) → Begun sizes all-open marks₀ o → (p : Program) (runs : Runs words rule r all-open p)
-              → told (record { number = number; place = place; line = 0; cell = cell; steps = done; count = counted }) grid′ ≡ steps-report p sizes (blocks-in sizes rule text) o steps start grid₀
-          report-is o b p runs =
-              let M = running p sizes in
+          none : (p : Program) → marks′ ≡ marks-of no-cell (running p sizes .cells)
+          none p = unfold running automaton in cleared ∙ ap (λ (n : ℕ). replicate n 0) (so .marks-size) ∙ all-alike false (product sizes)
+
+          is : (o : ℕ → Bool) → Begun sizes all-open marks₀ o → (p : Program) (runs : Runs words rule r all-open p)
+              → steps-give p sizes (blocks-in sizes rule text) o steps start grid₀ ≡ record { run = record { fault = fault-at cell number place; steps = done; grid = quiet-step (running p sizes) marks grid (start + done) .grid }; count = count + quiet-step (running p sizes) marks grid (start + done) .count; marks = marks-of no-cell (running p sizes .cells) }
+          is o b p runs =
               let g = now .goes .is p runs o b in
-              let is = going-stop M (blocks-in sizes rule text) o steps start grid₀ (g .2) grid (now .set-is) marks (unfold running automaton in g .1) more cell number place (sym (s .fault p (runs .holds))) in
+              going-stop (running p sizes) (blocks-in sizes rule text) o steps start grid₀ (g .2) grid (now .set-is) marks (unfold running automaton in g .1) more cell number place (sym (s .fault p (runs .holds)))
+
+          report-is : (o : ℕ → Bool) → Begun sizes all-open marks₀ o → (p : Program) (runs : Runs words rule r all-open p)
+              → told (record { number = number; place = place; line = 0; cell = cell; steps = done; count = counted }) grid′ ≡ report-in (steps-give p sizes (blocks-in sizes rule text) o steps start grid₀)
+          report-is o b p runs =
               (λ i. record { number = number; place = place; line = 0; cell = cell; steps = done; count = s .count-is p (runs .holds) i; grid = s .grid-is p (runs .holds) i })
-              ∙ ap (λ (q : Quiet (List ℤ)). ended (q .run .fault) (q .run .steps) (q .count) (q .run .grid)) (sym is)
+              ∙ ap report-in (sym (is o b p runs))
 
       -- ---- a step that does not
 
@@ -575,8 +622,8 @@ module _ {words : List ℕ} {rule : Rule} {sizes : List ℕ} {r : Reach} {all-op
       pub placed-marks : length marks′ ≡ length marks₀
       placed-marks = after .placed .so-far .marks-size ∙ sym (now .begins .marks-fit)
 
-      pub loop-ends : done ≡ steps → {said : Report} → said ≡ without-fault steps count → RanMarked words rule sizes r all-open text start steps grid₀ marks₀ said grid′
-      loop-ends e {said} q = subst (λ (x : Report). RanMarked words rule sizes r all-open text start steps grid₀ marks₀ x grid′) (sym q) (ends (now .begins) (after .placed) e)
+      pub loop-ends : done ≡ steps → {said : Report} → said ≡ without-fault steps count → RanMarked words rule sizes r all-open text start steps grid₀ marks₀ said grid′ marks′
+      loop-ends e {said} q = subst (λ (x : Report). RanMarked words rule sizes r all-open text start steps grid₀ marks₀ x grid′ marks′) (sym q) (ends (now .begins) (after .placed) e)
 
       module _ (other : done ≡ steps → ⊥) where
         more : done < steps
@@ -589,9 +636,9 @@ module _ {words : List ℕ} {rule : Rule} {sizes : List ℕ} {r : Reach} {all-op
         loop-step = step-ready (now .begins) (after .placed) (now .noted) more
 
         module _ {said : Step} {grid″ scratch″ : List ℤ} (s : Stepped words rule sizes grid′ scratch′ marks′ (start + done) count said grid″ scratch″) where
-          pub loop-stops : {cell number place counted : ℕ} → said ≡ Gives.Fault cell number place counted
-              → RanMarked words rule sizes r all-open text start steps grid₀ marks₀ (record { number = number; place = place; line = 0; cell = cell; steps = done; count = counted }) grid″
-          loop-stops e = stops (now .begins) (after .placed) more s e
+          pub loop-stops : {cell number place counted : ℕ} → said ≡ Gives.Fault cell number place counted → {marks″ : List ℕ} → marks″ ≡ replicate (length marks′) 0
+              → RanMarked words rule sizes r all-open text start steps grid₀ marks₀ (record { number = number; place = place; line = 0; cell = cell; steps = done; count = counted }) grid″ marks″
+          loop-stops e m = stops (now .begins) (after .placed) more s e m
 
           module _ {counted : ℕ} (e : said ≡ Gives.Done counted) where
             pub loop-mark : marking.Ready sizes (r .bounds) backs listed (rule .fields) scratch″ grid″ marks′

@@ -1,12 +1,12 @@
 -- What the loop over the steps of a run promises.
 use mathlib.Core.Path.{_≡_}
-use mathlib.Core.Bool.{Bool, true, cond, _||_}
+use mathlib.Core.Bool.{Bool, true, false, not, cond, _&&_, _||_}
 use mathlib.Core.List.{List}
 use mathlib.Core.Option.{none}
 use Prim.Native.Nat.{ℕ, _+_, _*_, _<_, _≤_}
-use lib.ListN.{length, getD}
+use lib.ListN.{length, getD, replicate}
 use lib.IntN.{ℤ}
-use Rattle.automaton.specs.Step.{Blocks, every-cell, marks-of, open-in, quiet-run}
+use Rattle.automaton.specs.Step.{Blocks, Quiet, every-cell, marks-of, marked, open-in, quiet-run}
 use Rattle.automaton.specs.Shape.{product}
 use Rattle.automaton.specs.Grid.{cell-of}
 use Rattle.automaton.specs.Going.{Going}
@@ -62,6 +62,27 @@ pub record Runs (words : List ℕ) (rule : Rule) (r : Reach) (all-open : Bool) (
   pub timed : p .timed ≡ all-open
   pub flagged : Flagged p
 
+-- ---- the marks at the beginning
+
+-- what is asked for copying a grid
+pub record Copying (grid scratch : List ℤ) : Type 0 where
+  pub alike : length scratch ≡ length grid
+  pub few : length grid ≤ 8388608
+
+-- whether a run begins from the marks that it is lent
+abbrev pub from-lent : Bool → Bool → Bool
+from-lent resumed all-open = resumed && not all-open
+
+-- the cells that are pending then: those whose lent mark is not 0, in a resumed run, else all
+abbrev pub pending-in : Bool → List ℕ → ℕ → Bool
+pending-in true marks = marked marks
+pending-in false marks = every-cell
+
+-- all cells are marked; or, from lent marks, those whose mark is not 0, and scratch is the grid
+pub record Started (lent : Bool) (grid : List ℤ) (marks : List ℕ) (scratch′ : List ℤ) (marks′ : List ℕ) : Type 0 where
+  pub fresh : lent ≡ false → marks′ ≡ replicate (length marks) 1
+  pub resumed : lent ≡ true → (scratch′ ≡ grid) × (marks′ ≡ marks-of (marked marks) (length marks))
+
 -- ---- the marks for the next step
 
 -- the marks stay, where all cells are open; else they are those of the cells that the step opened, for the index vectors that the way stands for
@@ -113,15 +134,19 @@ told r grid = record { number = r .number; place = r .place; line = r .line; cel
 abbrev pub without-fault : ℕ → ℕ → Report
 without-fault steps count = record { number = 0; place = 0; line = 0; cell = 0; steps = steps; count = count }
 
--- the report that n steps with their blocks give, of which each evaluates the open cells, begun with these cells pending
-abbrev pub steps-report : Program → List ℕ → Blocks (List ℤ) → (ℕ → Bool) → ℕ → ℕ → List ℤ → report.Report
-steps-report p sizes block o n t g =
-    let q = quiet-run (running p sizes) block o n t g in
-    ended (q .run .fault) (q .run .steps) (q .count) (q .run .grid)
+-- what n steps with their blocks give, of which each evaluates the open cells, begun with these cells pending
+abbrev pub steps-give : Program → List ℕ → Blocks (List ℤ) → (ℕ → Bool) → ℕ → ℕ → List ℤ → Quiet (List ℤ)
+steps-give p sizes block o n t g = quiet-run (running p sizes) block o n t g
 
-pub record Ran (words : List ℕ) (rule : Rule) (sizes : List ℕ) (r : Reach) (all-open : Bool) (text : List ℕ) (start steps : ℕ) (o : ℕ → Bool) (grid : List ℤ) (said : Report) (grid′ : List ℤ) : Type 0 where
-  pub says : (p : Program) → Runs words rule r all-open p → told said grid′ ≡ steps-report p sizes (blocks-in sizes rule text) o steps start grid
+-- its report
+abbrev pub report-in : Quiet (List ℤ) → report.Report
+report-in q = ended (q .run .fault) (q .run .steps) (q .count) (q .run .grid)
+
+-- the report and the marks that stand are those of these steps
+pub record Ran (words : List ℕ) (rule : Rule) (sizes : List ℕ) (r : Reach) (all-open : Bool) (text : List ℕ) (start steps : ℕ) (o : ℕ → Bool) (grid : List ℤ) (said : Report) (grid′ : List ℤ) (marks′ : List ℕ) : Type 0 where
+  pub says : (p : Program) → Runs words rule r all-open p → told said grid′ ≡ report-in (steps-give p sizes (blocks-in sizes rule text) o steps start grid)
+  pub stand : (p : Program) → Runs words rule r all-open p → marks′ ≡ steps-give p sizes (blocks-in sizes rule text) o steps start grid .marks
 
 -- the same, begun with these marks
-pub record RanMarked (words : List ℕ) (rule : Rule) (sizes : List ℕ) (r : Reach) (all-open : Bool) (text : List ℕ) (start steps : ℕ) (grid : List ℤ) (marks : List ℕ) (said : Report) (grid′ : List ℤ) : Type 0 where
-  pub from : (o : ℕ → Bool) → Begun sizes all-open marks o → Ran words rule sizes r all-open text start steps o grid said grid′
+pub record RanMarked (words : List ℕ) (rule : Rule) (sizes : List ℕ) (r : Reach) (all-open : Bool) (text : List ℕ) (start steps : ℕ) (grid : List ℤ) (marks : List ℕ) (said : Report) (grid′ : List ℤ) (marks′ : List ℕ) : Type 0 where
+  pub from : (o : ℕ → Bool) → Begun sizes all-open marks o → Ran words rule sizes r all-open text start steps o grid said grid′ marks′

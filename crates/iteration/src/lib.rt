@@ -5,6 +5,14 @@ mod steps;
 
 pub use steps::run_steps;
 
+// The manner of a run: all cells in each step; the open ones; the open ones, with the marks left standing; or the same, begun from lent marks.
+pub enum Manner {
+    Full,
+    Quiet,
+    Pausing,
+    Resuming,
+}
+
 // The report of a run: the reply's number and place, the line of the value list, the faulting cell, the steps done, and the count of the cells
 // evaluated.
 pub struct Report {

@@ -1,14 +1,16 @@
 // The steps of a run.
 ghost use mathlib.Core.Path.{_≡_};
 ghost use Rattle.marking.specs.Opened as marking;
-ghost use Rattle.automaton.specs.Step.{every-cell};
 ghost use Rattle.semantics.specs.Leaves.{Leaves};
 ghost use Rattle.marking.specs.Opened.{WayOf};
-ghost use Rattle.iteration.specs.Stepwise.{without-fault, Begins, Standing, Renewed, RanMarked, Ran};
+ghost use Rattle.iteration.specs.Stepwise.{without-fault, Copying, from-lent, pending-in, Started, Begins, Standing, Renewed, RanMarked, Ran};
 use crate::Report;
 use crate::blocks::next_block;
 use crate::blocks::set_due;
 use leaf_table::fill_leaves;
+use marked_cells::rooms::clear_marks;
+use marked_cells::rooms::copy_numbers;
+use marked_cells::rooms::flag_marks;
 use marked_cells::rooms::mark_all;
 use marking::mark_open;
 use marking::ways::set_ways;
@@ -33,6 +35,30 @@ fn ended(steps: u32, count: u64) -> Report
     }
 }
 
+// Whether a run begins from the marks that it is lent: not where all cells are open.
+fn lent_marks(resumed: bool, all_open: bool) -> bool
+    ensures { λ r. ⌜ r ≡ from-lent resumed all_open ⌝ }
+{
+    if resumed {
+        return !all_open;
+    }
+    false
+}
+
+// The marks with which a run begins: those of all cells, or 1 for each lent mark that is not 0. Then `scratch` takes the grid, so that a cell without a
+// mark has the same fields in both.
+fn begin_marks(resumed: bool, all_open: bool, grid: &[i32], scratch: &mut [i32], marks: &mut [u8])
+    requires { ⌜ Copying (now grid) (now scratch) ⌝ }
+    ensures { λ _. ⌜ Started (from-lent resumed all_open) (now (grid .entry)) (now (marks .entry)) (now (scratch .exit)) (now (marks .exit)) ⌝ }
+{
+    if lent_marks(resumed, all_open) {
+        copy_numbers(grid, scratch);
+        flag_marks(marks);
+        return;
+    }
+    mark_all(marks);
+}
+
 // The marks for the next step: all cells stay open, or those are marked that the last step opened. `old` holds the fields before it.
 fn renew_marks(
     sizes: &[u32],
@@ -55,7 +81,7 @@ fn renew_marks(
 
 // Runs so many steps from a time on, up to the first that faults. Before each the block of its time is set, and behind the last the block of the time then
 // reached. In the first step the marked cells are open, and those that its block opens; later all, or those that the step before or a block since then
-// opened. Each step evaluates the open cells alone.
+// opened. Each step evaluates the open cells alone. Behind the last step the marks of the cells stand that one more would open, at a fault none.
 fn run_marked(
     leaves: &[u32; 32776],
     words: &[u32],
@@ -73,7 +99,7 @@ fn run_marked(
     steps: u32,
 ) -> Report
     requires { ⌜ (Begins (now words) rule (now sizes) reach (now grid) (now scratch) (now marks) (now values) start steps) × (Standing rule (now sizes) all_open (now grid) (now scratch) (now marks)) × (Leaves (now leaves) (now words) (now sizes) (rule .tokens) (rule .fields) (rule .slots)) × (WayOf (now sizes) reach (now backs) listed) ⌝ }
-    ensures { λ r. ⌜ RanMarked (now (words .entry)) rule (now (sizes .entry)) reach all_open (now (values .entry)) start steps (now (grid .entry)) (now (marks .entry)) r (now (grid .exit)) ⌝ }
+    ensures { λ r. ⌜ RanMarked (now (words .entry)) rule (now (sizes .entry)) reach all_open (now (values .entry)) start steps (now (grid .entry)) (now (marks .entry)) r (now (grid .exit)) (now (marks .exit)) ⌝ }
 {
     let kinds = kind_table();
     let mut next = next_block(values, &kinds, 0);
@@ -114,6 +140,7 @@ fn run_marked(
                 count = counted;
             }
             Step::Fault(cell, number, place, counted) => {
+                clear_marks(marks);
                 return Report {
                     number,
                     place,
@@ -141,7 +168,9 @@ fn run_marked(
     ended(steps, count)
 }
 
-// Runs so many steps from a time on, with their blocks, up to the first that faults. In the first step all cells are open.
+// Runs so many steps from a time on, with their blocks, up to the first that faults. In the first step all cells are open; where the run is resumed, those
+// with a lent mark that is not 0, and those that its block opens. The marks that are left are those of the cells that one more step would open, at a
+// fault none.
 pub fn run_steps(
     words: &[u32],
     rule: Rule,
@@ -154,9 +183,10 @@ pub fn run_steps(
     values: &[u8],
     start: u32,
     steps: u32,
+    resumed: bool,
 ) -> Report
     requires { ⌜ Begins (now words) rule (now sizes) reach (now grid) (now scratch) (now marks) (now values) start steps ⌝ }
-    ensures { λ r. ⌜ Ran (now (words .entry)) rule (now (sizes .entry)) reach all_open (now (values .entry)) start steps every-cell (now (grid .entry)) r (now (grid .exit)) ⌝ }
+    ensures { λ r. ⌜ Ran (now (words .entry)) rule (now (sizes .entry)) reach all_open (now (values .entry)) start steps (pending-in resumed (now (marks .entry))) (now (grid .entry)) r (now (grid .exit)) (now (marks .exit)) ⌝ }
 {
     let mut leaves = [0u32; 32776];
     fill_leaves(
@@ -169,7 +199,7 @@ pub fn run_steps(
     );
     let mut backs = [0u32; 768];
     let listed = set_ways(sizes, reach, &mut backs);
-    mark_all(marks);
+    begin_marks(resumed, all_open, grid, scratch, marks);
     run_marked(
         &leaves,
         words,

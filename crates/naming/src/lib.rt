@@ -3,10 +3,11 @@ ghost use mathlib.Core.Path.{_≡_};
 ghost use lib.ListN.{length};
 ghost use Rattle.names.specs.Names.{most-names};
 ghost use Rattle.services.specs.Calls.{memory, lent};
-ghost use Rattle.runner.specs.Sourcewise.{counting-of, RunLeaves};
+ghost use Rattle.runner.specs.Sourcewise.{manner-of, RunLeaves};
 ghost use Rattle.cellang.specs.Left.{lent-rows-fit, row-names};
 ghost use Rattle.naming.specs.Promises.{ChecksSource, NamesField};
 use checker::Reply;
+use iteration::Manner;
 use iteration::Report;
 use records::Name;
 
@@ -37,9 +38,9 @@ pub fn run(
     values: &[u8],
     start: i64,
     steps: i64,
-    quiet: bool,
+    manner: Manner,
 ) -> Ran
-    ensures { λ r. ⌜ RunLeaves row-names (counting-of quiet) (lent (now (source .entry)) (now (list .entry)) (now (sizes .entry)) (memory (now (words .entry)) rows (now (grid .entry)) (now (scratch .entry)) (now (marks .entry))) (now (values .entry)) start steps) (r .report) (memory (now (words .exit)) (r .rows) (now (grid .exit)) (now (scratch .exit)) (now (marks .exit))) ⌝ }
+    ensures { λ r. ⌜ RunLeaves row-names (manner-of manner (now (marks .entry))) (lent (now (source .entry)) (now (list .entry)) (now (sizes .entry)) (memory (now (words .entry)) rows (now (grid .entry)) (now (scratch .entry)) (now (marks .entry))) (now (values .entry)) start steps) (r .report) (memory (now (words .exit)) (r .rows) (now (grid .exit)) (now (scratch .exit)) (now (marks .exit))) ⌝ }
 {
     let mut names = rows;
     let report = cellang::run(
@@ -54,7 +55,7 @@ pub fn run(
         values,
         start,
         steps,
-        quiet,
+        manner,
     );
     Ran {
         report: report,

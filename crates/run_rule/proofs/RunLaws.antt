@@ -13,7 +13,7 @@ use Rattle.services.specs.Services.{run-source}
 use Rattle.services.specs.Calls.{Memory, memory, lent}
 use Rattle.admission.specs.Admitting.{request-of}
 use Rattle.iteration.specs.declared.Report.{Report}
-use Rattle.runner.specs.Sourcewise.{counting-of, RunLeaves}
+use Rattle.runner.specs.Sourcewise.{manner-of, RunLeaves}
 use Rattle.runner.proofs.RunLaws.{left-report, the-list, read-times}
 use Rattle.records.specs.declared.Name.{Name}
 use Rattle.cellang.specs.Left.{rows-fit, row-names}
@@ -26,11 +26,11 @@ fit w n = rw (← w, ← n) refl
 -- the times as the machine reads them
 pub runs-of : {quiet : Bool} {source ws : List ℕ} {ns : List Name} {sizes : List ℕ} {grid scratch : List ℤ} {marks values : List ℕ} {start steps : ℤ} {r : Report} {left : Memory Name}
     → 16384 ≡ length ws → 256 ≡ length ns → SFits w64 start → SFits w64 steps
-    → RunLeaves row-names (counting-of quiet) (lent source built-in-names sizes (memory ws ns grid scratch marks) values (toZ w64 (ofZ w64 start)) (toZ w64 (ofZ w64 steps))) r left
+    → RunLeaves row-names (manner-of quiet) (lent source built-in-names sizes (memory ws ns grid scratch marks) values (toZ w64 (ofZ w64 start)) (toZ w64 (ofZ w64 steps))) r left
     → Runs quiet source sizes grid (length scratch) (length marks) values start steps r (left .grid)
 runs-of {quiet} {source} {ws} {ns} {sizes} {grid} {scratch} {marks} {values} {start} {steps} w n h k leaves =
     record {
       report =
           left-report (read-times h k leaves)
-          ∙ ap (λ (fits : Bool). run-source (counting-of quiet) fits source (ask (request-of sizes grid (length scratch) (length marks) start steps) values)) (ap₂ (λ (a b : Bool). a && b) the-list (fit w n));
+          ∙ ap (λ (fits : Bool). run-source (manner-of quiet) fits source (ask (request-of sizes grid (length scratch) (length marks) start steps) values)) (ap₂ (λ (a b : Bool). a && b) the-list (fit w n));
     }

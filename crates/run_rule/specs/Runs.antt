@@ -8,9 +8,9 @@ use Rattle.services.specs.Running.{ask}
 use Rattle.services.specs.Services.{run-source}
 use Rattle.admission.specs.Admitting.{request-of}
 use Rattle.iteration.specs.declared.Report.{Report}
-use Rattle.runner.specs.Sourcewise.{counting-of}
+use Rattle.runner.specs.Sourcewise.{manner-of}
 use Rattle.iteration.specs.Stepwise.{told}
 
 -- the report with the grid that is left is that of the definition
 pub record Runs (quiet : Bool) (source sizes : List ℕ) (grid : List ℤ) (scratch marks : ℕ) (values : List ℕ) (start steps : ℤ) (r : Report) (grid′ : List ℤ) : Type 0 where
-  pub report : told r grid′ ≡ run-source (counting-of quiet) true source (ask (request-of sizes grid scratch marks start steps) values)
+  pub report : told r grid′ ≡ run-source (manner-of quiet) true source (ask (request-of sizes grid scratch marks start steps) values)

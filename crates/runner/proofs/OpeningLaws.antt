@@ -25,7 +25,7 @@ use Rattle.semantics.specs.Written.{relatives-in}
 use Rattle.linking.specs.Linking.{Linked, linking}
 use Rattle.linking.specs.Accepted.{Parsed, holds, written, flagged}
 use Rattle.stepper.specs.Admission.{Request, Refusal, refusal, admission}
-use Rattle.stepper.specs.Report.{Counting, refused}
+use Rattle.stepper.specs.Report.{Manner, refused}
 use Rattle.stepper.specs.Locality.{Flagged}
 use Rattle.stepper.specs.Fitting.{Sized, Shaped}
 use Rattle.lists.specs.ListChecking.{Turned, Verdict, verdict, limits-of, check-list}
@@ -121,13 +121,13 @@ module _ {source ws ns : List ℕ} {known : Bool} {o : Outline} {ws′ : List �
 -- ---- a source that is not accepted
 
 module _ (fit : Bool) (source : List ℕ) (q : Asked) {n place : ℕ} (reply : complaint n place ≡ check fit source) where
-  not-read : is-accepted (read-source fit source) ≡ false → (run-begins q (read-source fit source) ≡ false) × ((counting : Counting) → run-source counting fit source q ≡ refused n place 0 (q .request .grid))
+  not-read : is-accepted (read-source fit source) ≡ false → (run-begins q (read-source fit source) ≡ false) × ((manner : Manner) → run-source manner fit source q ≡ refused n place 0 (q .request .grid))
   unfolding run-source check
   not-read e = by (read-source fit source) reply e
     where
-      by : (r : Outcome) → complaint n place ≡ checking.reply-of r → is-accepted r ≡ false → (run-begins q r ≡ false) × ((counting : Counting) → run-read counting q r ≡ refused n place 0 (q .request .grid))
-      by (turned-away k p) c d = (refl, λ counting. ap (λ (x : Complaint). refused (x .number) (x .place) 0 (q .request .grid)) (sym c))
-      by (checking.refused k p) c d = (refl, λ counting. ap (λ (x : Complaint). refused (x .number) (x .place) 0 (q .request .grid)) (sym c))
+      by : (r : Outcome) → complaint n place ≡ checking.reply-of r → is-accepted r ≡ false → (run-begins q r ≡ false) × ((manner : Manner) → run-read manner q r ≡ refused n place 0 (q .request .grid))
+      by (turned-away k p) c d = (refl, λ manner. ap (λ (x : Complaint). refused (x .number) (x .place) 0 (q .request .grid)) (sym c))
+      by (checking.refused k p) c d = (refl, λ manner. ap (λ (x : Complaint). refused (x .number) (x .place) 0 (q .request .grid)) (sym c))
       by (accepted a) c d = never (sym d)
 
 -- ---- the times as unsigned numbers
@@ -162,7 +162,7 @@ module _ {source ws ns sizes : List ℕ} {grid : List ℤ} {scratch marks : ℕ}
         words = checked .words;
         names = checked .names;
         closed = λ _. both .0;
-        refuses = λ _ counting. both .1 counting ∙ (λ i. refused (sym (e .1) i) (sym (e .2) i) (sym (e .3) i) grid);
+        refuses = λ _ manner. both .1 manner ∙ (λ i. refused (sym (e .1) i) (sym (e .2) i) (sym (e .3) i) grid);
         opened = λ y. never (sym (e .0) ∙ y);
       }
 
@@ -181,8 +181,8 @@ module _ {source ws ns sizes : List ℕ} {grid : List ℤ} {scratch marks : ℕ}
           words = checked .words;
           names = checked .names;
           closed = λ _. ap (run-begins (ask (request-of sizes grid scratch marks start steps) values)) (is .is) ∙ ne-eqb _ 0 refused-by;
-          refuses = λ _ counting.
-              ap (run-read counting (ask (request-of sizes grid scratch marks start steps) values)) (is .is) ∙ run-refused (is .read .program) (ask (request-of sizes grid scratch marks start steps) values) counting refused-by ∙ ap (λ (x : Turned). refused (x .number) (x .place) (x .line) grid) t
+          refuses = λ _ manner.
+              ap (run-read manner (ask (request-of sizes grid scratch marks start steps) values)) (is .is) ∙ run-refused (is .read .program) (ask (request-of sizes grid scratch marks start steps) values) manner refused-by ∙ ap (λ (x : Turned). refused (x .number) (x .place) (x .line) grid) t
               ∙ (λ i. refused (sym (e .1) i) (sym (e .2) i) (sym (e .3) i) grid);
           opened = λ y. never (sym (e .0) ∙ y);
         }

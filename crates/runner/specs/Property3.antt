@@ -1,6 +1,6 @@
 -- Property 3, as one claim over all steps of a run of a source: the quiet run skips cells, and still gives the full run's answer and grid.
 -- That a quiet run gives the report `run-source quiet` is the contract of `run` (Sourcewise).
-use mathlib.Core.Path.{_≡_, refl, sym, ap, _∙_}
+use mathlib.Core.Path.{_≡_, refl, sym, ap, _∙_, subst}
 use mathlib.Core.Bool.{Bool, true, false}
 use mathlib.Core.List.{List}
 use Prim.Native.Nat.{ℕ, _≤_}
@@ -22,10 +22,12 @@ use Rattle.grammar.specs.Checking as checking
 use Rattle.grammar.specs.Checking.{Outcome, turned-away, accepted, outcome-of, read-source}
 use Rattle.linking.specs.Accepted.{parsed, flagged}
 use Rattle.stepper.specs.Reach.{running}
-use Rattle.stepper.specs.Report.{full, quiet, Report, ended}
+use Rattle.stepper.specs.Report.{full, quiet, pausing, Report, ended}
 use Rattle.stepper.specs.Covering as covering
 use Rattle.services.specs.Running.{Asked, admitted, blocks, report-of, run}
 use Rattle.services.specs.Services.{run-read, run-source}
+use Rattle.iteration.specs.declared.Manner.{Manner as Way}
+use Rattle.runner.specs.Sourcewise.{is-resumed}
 use Rattle.runner.specs.Timing.{timing}
 
 -- a quiet run's report beside a full run's: the same answer and grid, at a fault too, and no more cells counted
@@ -38,10 +40,16 @@ pub record Agree (q f : Report) : Type 0 where
   pub grid : q .grid ≡ f .grid
   pub count : q .count ≤ f .count
 
+-- the same of a run that does not begin from lent marks
+pub record AgreesFresh (way : Way) (q f : Report) : Type 0 where
+  pub agree : is-resumed way ≡ false → Agree q f
+
 -- what property 3 says of a source and what is asked of a run
 pub record Property3 (fit : Bool) (source : List ℕ) (q : Asked) : Type 0 where
   -- the reports of the definition
   pub agree : Agree (run-source quiet fit source q) (run-source full fit source q)
+  -- a run that leaves its marks standing gives the quiet run's report
+  pub paused : run-source pausing fit source q ≡ run-source quiet fit source q
   -- where `time` stands in the source, the counts are equal
   pub timed : (a : Accepted) → read-source fit source ≡ accepted a → a .program .timed ≡ true → run-source quiet fit source q .count ≡ run-source full fit source q .count
   -- the run that evaluates the open cells alone gives the run of the definition, and counts the definition's open cells, whatever blocks are set
@@ -74,6 +82,25 @@ outcomes-agree : (q : Asked) (o : Outcome) → Agree (run-read quiet q o) (run-r
 outcomes-agree q (turned-away number place) = same _
 outcomes-agree q (checking.refused number place) = same _
 outcomes-agree q (accepted a) = runs-agree (a .program) q
+
+-- ---- a run that leaves its marks standing
+
+reports-paused : (p : Program) (q : Asked) → report-of pausing p q ≡ report-of quiet p q
+unfolding report-of
+reports-paused p q = refl
+
+runs-paused : (p : Program) (q : Asked) → run pausing p q ≡ run quiet p q
+unfolding run
+runs-paused p q = by (eqb (admitted p q .number) 0) refl
+  where
+    by : (b : Bool) → eqb (admitted p q .number) 0 ≡ b → run pausing p q ≡ run quiet p q
+    by true e = rw (e, run) (reports-paused p q)
+    by false e = rw (e, run)
+
+outcomes-paused : (q : Asked) (o : Outcome) → run-read pausing q o ≡ run-read quiet q o
+outcomes-paused q (turned-away number place) = refl
+outcomes-paused q (checking.refused number place) = refl
+outcomes-paused q (accepted a) = runs-paused (a .program) q
 
 -- ---- where `time` stands in the source
 
@@ -123,8 +150,15 @@ unfolding run-source
 property-3 fit source q =
     record {
       agree = outcomes-agree q (read-source fit source);
+      paused = outcomes-paused q (read-source fit source);
       timed = λ a e t. rw e (runs-count (a .program) q t);
       skips = λ a e dims block n t.
           let r = read-of fit source a e in
           covering.property-3 (a .program) (q .request .sizes) dims (flagged timing source a (parsed source (r .0) a (r .1))) block n t (q .request .grid);
     }
+
+-- So a run that leaves its marks standing agrees with the full run.
+pub paused-agrees : (fit : Bool) (source : List ℕ) (q : Asked) → Agree (run-source pausing fit source q) (run-source full fit source q)
+paused-agrees fit source q =
+    let p = property-3 fit source q in
+    subst (λ (r : Report). Agree r (run-source full fit source q)) (sym (p .paused)) (p .agree)

@@ -3,7 +3,7 @@ use mathlib.Core.Path.{_≡_}
 use mathlib.Core.Bool.{Bool, true, false}
 use mathlib.Core.List.{List}
 use Prim.Native.Nat.{ℕ, _+_, _<_, _≤_}
-use lib.ListN.{length}
+use lib.ListN.{length, replicate}
 use lib.IntN.{pos, natAbs}
 use Rattle.automaton.specs.Shape.{product}
 use Rattle.token.specs.Lexeme.{is-built-in}
@@ -11,25 +11,45 @@ use Rattle.grammar.specs.Source.{Accepted}
 use Rattle.grammar.specs.Checking.{read-source, accepted, words-after, names-after}
 use Rattle.semantics.specs.declared.Rule.{Rule}
 use Rattle.stepper.specs.declared.Reach.{Reach}
-use Rattle.stepper.specs.Report.{Counting, full, quiet, refused}
+use Rattle.stepper.specs.Report.{Manner, full, quiet, pausing, resuming, refused}
 use Rattle.stepper.specs.Fitting.{Sized, Shaped, Near}
 use Rattle.list_reader.specs.Places.{Dimensions}
 use Rattle.services.specs.Running.{Asked, admitted}
 use Rattle.services.specs.Services.{run-begins, run-source}
 use Rattle.services.specs.Calls.{NameForm, flat-names, Memory, Lent, run-left}
 use Rattle.iteration.specs.declared.Report.{Report}
+use Rattle.iteration.specs.declared.Manner.{Manner as Way}
+use Rattle.iteration.specs.declared.Manner.the-variants.{Full, Quiet, Pausing, Resuming}
 use Rattle.runner.specs.declared.opening.Opening.{Opening}
 use Rattle.iteration.specs.Stepwise.{Listed, Runs, told}
 
--- which cells a run counts: the open ones, or all
-abbrev pub counting-of : Bool → Counting
-counting-of true = quiet
-counting-of false = full
+-- the manner of a run that is lent these marks
+abbrev pub manner-of : Way → List ℕ → Manner
+manner-of Full marks = full
+manner-of Quiet marks = quiet
+manner-of Pausing marks = pausing
+manner-of Resuming marks = resuming marks
 
 -- whether every cell is open in every step: in a full run, and where `time` stands in the source
-abbrev pub every-step : Bool → Bool → Bool
-every-step true timed = timed
-every-step false timed = true
+abbrev pub every-step : Way → Bool → Bool
+every-step Full timed = true
+every-step Quiet timed = timed
+every-step Pausing timed = timed
+every-step Resuming timed = timed
+
+-- whether a run begins from the marks that it is lent
+abbrev pub is-resumed : Way → Bool
+is-resumed Full = false
+is-resumed Quiet = false
+is-resumed Pausing = false
+is-resumed Resuming = true
+
+-- the marks that a run leaves of those that stand
+abbrev pub marks-left : Way → List ℕ → List ℕ
+marks-left Full marks = replicate (length marks) 0
+marks-left Quiet marks = replicate (length marks) 0
+marks-left Pausing marks = marks
+marks-left Resuming marks = marks
 
 -- ---- the beginning
 
@@ -56,15 +76,15 @@ pub record Opens (fit : Bool) (source ws ns : List ℕ) (q : Asked) (r : Opening
   pub words : ws′ ≡ words-after fit source ws
   pub names : ns′ ≡ names-after fit source ns
   pub closed : r .begun ≡ false → run-begins q (read-source fit source) ≡ false
-  pub refuses : r .begun ≡ false → (counting : Counting) → run-source counting fit source q ≡ refused (r .number) (r .place) (r .line) (q .request .grid)
+  pub refuses : r .begun ≡ false → (manner : Manner) → run-source manner fit source q ≡ refused (r .number) (r .place) (r .line) (q .request .grid)
   pub opened : r .begun ≡ true → Begun fit source q ws′ (r .rule) (r .reach) (r .timed)
 
 -- ---- the whole run
 
 -- the numbers that a run returns, and the memory that it leaves, are those of the definition
-pub record RunLeaves {N : Type 0} (form : NameForm N) (counting : Counting) (l : Lent N) (r : Report) (m : Memory N) : Type 0 where
-  pub is : record { report = told r (m .grid); memory = m } ≡ run-left form counting l
+pub record RunLeaves {N : Type 0} (form : NameForm N) (manner : Manner) (l : Lent N) (r : Report) (m : Memory N) : Type 0 where
+  pub is : record { report = told r (m .grid); memory = m } ≡ run-left form manner l
 
 -- the same of every built-in list; `lends` is what is lent, by the list
-pub record RunsListed (counting : Counting) (lends : List ℕ → Lent ℕ) (r : Report) (m : Memory ℕ) : Type 0 where
-  pub each : (list : List ℕ) → is-built-in list ≡ true → RunLeaves flat-names counting (lends list) r m
+pub record RunsListed (manner : Manner) (lends : List ℕ → Lent ℕ) (r : Report) (m : Memory ℕ) : Type 0 where
+  pub each : (list : List ℕ) → is-built-in list ≡ true → RunLeaves flat-names manner (lends list) r m

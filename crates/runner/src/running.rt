@@ -1,4 +1,4 @@
-// A run of a source, full or quiet.
+// A run of a source.
 ghost use mathlib.Core.Path.{_≡_};
 ghost use mathlib.Core.List.{List};
 ghost use Prim.Native.Nat.{ℕ};
@@ -6,9 +6,10 @@ ghost use Rattle.stepper.specs.Report.{full};
 ghost use Rattle.services.specs.Calls.{flat-names, memory, lent, asked, read-lent, run-report};
 ghost use Rattle.services.specs.RangesKept.{RangesKept};
 ghost use Rattle.iteration.specs.Stepwise.{told};
-ghost use Rattle.runner.specs.Sourcewise.{counting-of, every-step, RunLeaves, RunsListed};
-ghost use Rattle.runner.specs.Property3.{Agree};
+ghost use Rattle.runner.specs.Sourcewise.{manner-of, every-step, is-resumed, marks-left, RunLeaves, RunsListed};
+ghost use Rattle.runner.specs.Property3.{AgreesFresh};
 use crate::opening::open_run;
+use iteration::Manner;
 use iteration::Report;
 use iteration::run_steps;
 use marked_cells::rooms::clear_marks;
@@ -16,13 +17,43 @@ use marked_cells::rooms::clear_numbers;
 use spelling::is_built_in;
 
 // Whether every cell is open in every step: in a full run, and where `time` stands in the source.
-fn all_open(quiet: bool, timed: bool) -> bool
-    ensures { λ r. ⌜ r ≡ every-step quiet timed ⌝ }
+fn all_open(manner: Manner, timed: bool) -> bool
+    ensures { λ r. ⌜ r ≡ every-step manner timed ⌝ }
 {
-    if quiet {
-        return timed;
+    match manner {
+        Manner::Full => true,
+        Manner::Quiet => timed,
+        Manner::Pausing => timed,
+        Manner::Resuming => timed,
     }
-    true
+}
+
+// Whether a run begins from the marks that it is lent.
+fn resumes(manner: Manner) -> bool
+    ensures { λ r. ⌜ r ≡ is-resumed manner ⌝ }
+{
+    match manner {
+        Manner::Full => false,
+        Manner::Quiet => false,
+        Manner::Pausing => false,
+        Manner::Resuming => true,
+    }
+}
+
+// Leaves the marks standing behind a run that is to be resumed, and none behind another.
+fn leave_marks(manner: Manner, marks: &mut [u8])
+    ensures { λ _. ⌜ now (marks .exit) ≡ marks-left manner (now (marks .entry)) ⌝ }
+{
+    match manner {
+        Manner::Full => {
+            clear_marks(marks);
+        }
+        Manner::Quiet => {
+            clear_marks(marks);
+        }
+        Manner::Pausing => {}
+        Manner::Resuming => {}
+    }
 }
 
 // Runs a source, where the built-in list is the one there is.
@@ -37,9 +68,9 @@ fn run_listed(
     values: &[u8],
     start: i64,
     steps: i64,
-    quiet: bool,
+    manner: Manner,
 ) -> Report
-    ensures { λ r. ⌜ RunsListed (counting-of quiet) (λ (list : List ℕ). (lent (now (source .entry)) list (now (sizes .entry)) (memory (now (words .entry)) (now (names .entry)) (now (grid .entry)) (now (scratch .entry)) (now (marks .entry))) (now (values .entry)) start steps)) r (memory (now (words .exit)) (now (names .exit)) (now (grid .exit)) (now (scratch .exit)) (now (marks .exit))) ⌝ }
+    ensures { λ r. ⌜ RunsListed (manner-of manner (now (marks .entry))) (λ (list : List ℕ). (lent (now (source .entry)) list (now (sizes .entry)) (memory (now (words .entry)) (now (names .entry)) (now (grid .entry)) (now (scratch .entry)) (now (marks .entry))) (now (values .entry)) start steps)) r (memory (now (words .exit)) (now (names .exit)) (now (grid .exit)) (now (scratch .exit)) (now (marks .exit))) ⌝ }
 {
     let opening = open_run(
         source,
@@ -65,7 +96,7 @@ fn run_listed(
     }
     let rule = opening.rule;
     let reach = opening.reach;
-    let all = all_open(quiet, opening.timed);
+    let all = all_open(manner, opening.timed);
     let report = run_steps(
         words,
         rule,
@@ -78,14 +109,17 @@ fn run_listed(
         values,
         start as u32,
         steps as u32,
+        resumes(manner),
     );
     clear_numbers(scratch);
-    clear_marks(marks);
+    leave_marks(manner, marks);
     report
 }
 
-// Runs a source on a grid: so many steps from a start time, with the blocks of a value list, which is empty where there is none. A full run evaluates every cell in each step, a quiet one only the cells that are open in
-// it: the answer and the grid are the same, and the count is of the open cells.
+// Runs a source on a grid: so many steps from a start time, with the blocks of a value list, which is empty where there is none. A full run evaluates
+// every cell in each step, the others only the cells that are open in it: the answer and the grid are the same, and the count is of the open cells. A
+// pausing run leaves the marks of the cells that one more step would open; a resuming one begins, besides, from the marks that it is lent, whatever
+// they are.
 pub fn run(
     source: &[u8],
     list: &[u8],
@@ -98,10 +132,10 @@ pub fn run(
     values: &[u8],
     start: i64,
     steps: i64,
-    quiet: bool,
+    manner: Manner,
 ) -> Report
-    ensures { λ r. ⌜ RunLeaves flat-names (counting-of quiet) (lent (now (source .entry)) (now (list .entry)) (now (sizes .entry)) (memory (now (words .entry)) (now (names .entry)) (now (grid .entry)) (now (scratch .entry)) (now (marks .entry))) (now (values .entry)) start steps) r (memory (now (words .exit)) (now (names .exit)) (now (grid .exit)) (now (scratch .exit)) (now (marks .exit))) ⌝ }
-    ensures agrees { λ r. ⌜ Agree (told r (now (grid .exit))) (run-report flat-names full (lent (now (source .entry)) (now (list .entry)) (now (sizes .entry)) (memory (now (words .entry)) (now (names .entry)) (now (grid .entry)) (now (scratch .entry)) (now (marks .entry))) (now (values .entry)) start steps)) ⌝ }
+    ensures { λ r. ⌜ RunLeaves flat-names (manner-of manner (now (marks .entry))) (lent (now (source .entry)) (now (list .entry)) (now (sizes .entry)) (memory (now (words .entry)) (now (names .entry)) (now (grid .entry)) (now (scratch .entry)) (now (marks .entry))) (now (values .entry)) start steps) r (memory (now (words .exit)) (now (names .exit)) (now (grid .exit)) (now (scratch .exit)) (now (marks .exit))) ⌝ }
+    ensures agrees { λ r. ⌜ AgreesFresh manner (told r (now (grid .exit))) (run-report flat-names full (lent (now (source .entry)) (now (list .entry)) (now (sizes .entry)) (memory (now (words .entry)) (now (names .entry)) (now (grid .entry)) (now (scratch .entry)) (now (marks .entry))) (now (values .entry)) start steps)) ⌝ }
     ensures ranges { λ _. ⌜ RangesKept (read-lent flat-names (lent (now (source .entry)) (now (list .entry)) (now (sizes .entry)) (memory (now (words .entry)) (now (names .entry)) (now (grid .entry)) (now (scratch .entry)) (now (marks .entry))) (now (values .entry)) start steps)) (asked (lent (now (source .entry)) (now (list .entry)) (now (sizes .entry)) (memory (now (words .entry)) (now (names .entry)) (now (grid .entry)) (now (scratch .entry)) (now (marks .entry))) (now (values .entry)) start steps)) (now (grid .exit)) ⌝ }
 {
     if !is_built_in(list) {
@@ -125,6 +159,6 @@ pub fn run(
         values,
         start,
         steps,
-        quiet,
+        manner,
     )
 }

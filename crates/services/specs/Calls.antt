@@ -6,9 +6,9 @@ use lib.ListN.{length}
 use lib.IntN.{ℤ, pos}
 use Rattle.token.specs.Lexeme.{is-built-in}
 use Rattle.grammar.specs.Checking.{Outcome, rooms-fit, read-source, room-left, words-after}
-use Rattle.stepper.specs.Report.{Counting, Report}
+use Rattle.stepper.specs.Report.{Manner, Report}
 use Rattle.services.specs.Running.{Asked, ask}
-use Rattle.services.specs.Services.{run-source, room-after}
+use Rattle.services.specs.Services.{run-source, room-after, marks-after}
 
 -- how the name list is lent: whether a word table and a name list of these lengths fit, the entry where no name is declared, and the entries for the
 -- flat words of a name list
@@ -74,23 +74,23 @@ abbrev pub read-lent : {N : Type 0} → NameForm N → Lent N → Outcome
 read-lent form l = read-source (fits form l) (l .source)
 
 -- the report of a run
-abbrev pub run-report : {N : Type 0} → NameForm N → Counting → Lent N → Report
-run-report form counting l = run-source counting (fits form l) (l .source) (asked l)
+abbrev pub run-report : {N : Type 0} → NameForm N → Manner → Lent N → Report
+run-report form manner l = run-source manner (fits form l) (l .source) (asked l)
 
 -- the name list after a run
 abbrev pub names-left : {N : Type 0} → NameForm N → Bool → List ℕ → List N → List N
 names-left form fit source old = room-left (form .none) old (λ a. form .entries (a .names)) (read-source fit source)
 
 -- what a run leaves of what it is lent
-unfoldable pub run-left : {N : Type 0} → NameForm N → Counting → Lent N → Left N
-run-left form counting l =
+unfoldable pub run-left : {N : Type 0} → NameForm N → Manner → Lent N → Left N
+run-left form manner l =
     record {
-      report = run-report form counting l;
+      report = run-report form manner l;
       memory = record {
         words = words-after (fits form l) (l .source) (l .memory .words);
         names = names-left form (fits form l) (l .source) (l .memory .names);
-        grid = run-report form counting l .grid;
+        grid = run-report form manner l .grid;
         scratch = room-after (pos 0) (fits form l) (l .source) (asked l) (l .memory .scratch);
-        marks = room-after 0 (fits form l) (l .source) (asked l) (l .memory .marks);
+        marks = marks-after manner (fits form l) (l .source) (asked l) (l .memory .marks);
       };
     }

@@ -125,8 +125,8 @@ unfolding same-report Listed.list-of Step.first-fault Step.how-many Step.any-of 
     Admission.good-rooms Admission.good-times Admission.too-far Admission.out-of-field Admission.admission Text.lines
     Text.pieces Lines.indices Lines.values Lines.assigned Lines.said-by Lines.say Lines.said ListChecking.inside
     ListChecking.all-fit ListChecking.cell-number ListChecking.time-number ListChecking.check-lines ListChecking.check-list
-    ListChecking.admission-with Setting.store-values Setting.set-lines Setting.set-block Running.report-of Running.run
-    Services.run-source Services.room-after
+    ListChecking.admission-with Setting.store-values Setting.set-lines Setting.set-block Running.report-of Running.standing
+    Running.run Services.run-source Services.room-after Services.marks-after
 holds (checks l n place) =
     let c = check (fit l) (l .source) in
     eqb (c .number) n && eqb (c .place) place

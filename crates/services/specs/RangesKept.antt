@@ -8,7 +8,7 @@ use lib.Dec.{eqb}
 use lib.IntN.{ℤ, natAbs}
 use borrow.Author.Tests.{eqb-true, eqb-false, eq-eqb}
 use Rattle.value.specs.Laws.{never}
-use Rattle.automaton.specs.Step.{Fault, no-fault, fault-at, run-of}
+use Rattle.automaton.specs.Step.{Fault, no-fault, fault-at, Blocks, marked}
 use Rattle.program.specs.Syntax.{no-range, Program}
 use Rattle.grammar.specs.Source.{Accepted}
 use Rattle.grammar.specs.Checking as checking
@@ -16,8 +16,8 @@ use Rattle.grammar.specs.Checking.{Outcome, turned-away, accepted, read-source}
 use Rattle.semantics.specs.Evaluation.{entry, in-field}
 use Rattle.stepper.specs.Reach.{running}
 use Rattle.stepper.specs.Report as report
-use Rattle.stepper.specs.Report.{Counting, ended}
-use Rattle.stepper.specs.Ranges.{FieldsInRange, entry-in-range, run-keeps, on-grid, admitted-dims, admitted-in-range, admitted-on}
+use Rattle.stepper.specs.Report.{Manner, full, quiet, pausing, resuming, run-by, ended}
+use Rattle.stepper.specs.Ranges.{FieldsInRange, entry-in-range, run-keeps, quiet-run-keeps, on-grid, admitted-dims, admitted-in-range, admitted-on}
 use Rattle.lists.specs.ListChecking.{limits-of}
 use Rattle.lists.specs.Kept.{set-block-keeps}
 use Rattle.services.specs.Running.{Asked, ask, admitted, blocks, report-of, run}
@@ -38,48 +38,56 @@ pub record RangesKept (read : Outcome) (q : Asked) (left : List ℤ) : Type 0 wh
 unbegun : (read : Outcome) (q : Asked) → run-begins q read ≡ false → RangesKept read q (q .request .grid)
 unbegun read q e = record { entries = refl; within = λ a r b. never (sym e ∙ b); again = refl }
 
+-- steps in any manner, with blocks that keep the ranges, keep them
+run-by-keeps : (manner : Manner) (p : Program) (sizes : List ℕ) → length sizes ≡ p .dims → (block : Blocks (List ℤ)) → ((t : ℕ) (g : List ℤ) → FieldsInRange p sizes g → FieldsInRange p sizes (block t g))
+    → (n t : ℕ) (g : List ℤ) → FieldsInRange p sizes g → FieldsInRange p sizes (run-by manner (running p sizes) block n t g .grid)
+run-by-keeps full p sizes dims block kept = run-keeps p sizes dims block kept
+run-by-keeps quiet p sizes dims block kept = run-keeps p sizes dims block kept
+run-by-keeps pausing p sizes dims block kept = run-keeps p sizes dims block kept
+run-by-keeps (resuming marks) p sizes dims block kept = quiet-run-keeps p sizes dims block kept (marked marks)
+
 -- every entry of the grid that an admitted run leaves is in its field's range
-report-in-range : (counting : Counting) (p : Program) (q : Asked) → admitted p q .number ≡ 0 → FieldsInRange p (q .request .sizes) (report-of counting p q .grid)
+report-in-range : (manner : Manner) (p : Program) (q : Asked) → admitted p q .number ≡ 0 → FieldsInRange p (q .request .sizes) (report-of manner p q .grid)
 unfolding report-of
-report-in-range counting p q e =
+report-in-range manner p q e =
     let sizes = q .request .sizes in
     let passed = request-admitted p q e in
-    let r = run-of (running p sizes) (blocks p q) (natAbs (q .request .steps)) (natAbs (q .request .start)) (q .request .grid) in
+    let r = run-by manner (running p sizes) (blocks p q) (natAbs (q .request .steps)) (natAbs (q .request .start)) (q .request .grid) in
     subst (FieldsInRange p sizes) (sym (ended-grid (r .fault) (r .steps) _ (r .grid)))
-    (run-keeps p sizes (admitted-dims p (q .request) passed) (blocks p q) (set-block-keeps p sizes (limits-of p (q .request)) refl refl (q .values) (list-passes p q e))
+    (run-by-keeps manner p sizes (admitted-dims p (q .request) passed) (blocks p q) (set-block-keeps p sizes (limits-of p (q .request)) refl refl (q .values) (list-passes p q e))
     (natAbs (q .request .steps)) (natAbs (q .request .start)) (q .request .grid) (admitted-in-range p (q .request) passed))
   where
     ended-grid : (f : Fault) (steps count : ℕ) (g : List ℤ) → ended f steps count g .grid ≡ g
     ended-grid no-fault steps count g = refl
     ended-grid (fault-at cell number place) steps count g = refl
 
-run-kept : (counting : Counting) (a : Accepted) (q : Asked) → RangesKept (accepted a) q (run counting (a .program) q .grid)
-run-kept counting a q = by (eqb (admitted (a .program) q .number) 0) refl
+run-kept : (manner : Manner) (a : Accepted) (q : Asked) → RangesKept (accepted a) q (run manner (a .program) q .grid)
+run-kept manner a q = by (eqb (admitted (a .program) q .number) 0) refl
   where
     grid-of : {x y : report.Report} → x ≡ y → x .grid ≡ y .grid
     grid-of e = ap (λ (r : report.Report). r .grid) e
 
-    by : (b : Bool) → eqb (admitted (a .program) q .number) 0 ≡ b → RangesKept (accepted a) q (run counting (a .program) q .grid)
-    by false e = subst (RangesKept (accepted a) q) (sym (grid-of (run-refused (a .program) q counting (eqb-false _ 0 e)))) (unbegun (accepted a) q e)
+    by : (b : Bool) → eqb (admitted (a .program) q .number) 0 ≡ b → RangesKept (accepted a) q (run manner (a .program) q .grid)
+    by false e = subst (RangesKept (accepted a) q) (sym (grid-of (run-refused (a .program) q manner (eqb-false _ 0 e)))) (unbegun (accepted a) q e)
     by true e =
         let began = eqb-true (admitted (a .program) q .number) 0 e in
         let passed = request-admitted (a .program) q began in
-        let left = subst (FieldsInRange (a .program) (q .request .sizes)) (sym (grid-of (run-admitted (a .program) q counting began))) (report-in-range counting (a .program) q began) in
+        let left = subst (FieldsInRange (a .program) (q .request .sizes)) (sym (grid-of (run-admitted (a .program) q manner began))) (report-in-range manner (a .program) q began) in
         record {
           entries = left .entries ∙ sym (admitted-in-range (a .program) (q .request) passed .entries);
-          within = λ a′ r b k l. subst (λ (p : Program). in-field (getD (p .fields) (k % length (p .fields)) no-range) (entry (run counting (a .program) q .grid) k) ≡ true) (same r) (entry-in-range left k l);
+          within = λ a′ r b k l. subst (λ (p : Program). in-field (getD (p .fields) (k % length (p .fields)) no-range) (entry (run manner (a .program) q .grid) k) ≡ true) (same r) (entry-in-range left k l);
           again = eq-eqb _ 0 (both-admit (a .program) (ask (on-grid (q .request) _) (q .values)) (admitted-on (a .program) (q .request) passed _ left) (list-passes (a .program) q began)) ∙ sym e;
         }
       where
         same : {a′ : Accepted} → accepted a ≡ accepted a′ → a .program ≡ a′ .program
         same r = cc
 
-read-kept : (counting : Counting) (read : Outcome) (q : Asked) → RangesKept read q (run-read counting q read .grid)
-read-kept counting (turned-away number place) q = unbegun _ q refl
-read-kept counting (checking.refused number place) q = unbegun _ q refl
-read-kept counting (accepted a) q = run-kept counting a q
+read-kept : (manner : Manner) (read : Outcome) (q : Asked) → RangesKept read q (run-read manner q read .grid)
+read-kept manner (turned-away number place) q = unbegun _ q refl
+read-kept manner (checking.refused number place) q = unbegun _ q refl
+read-kept manner (accepted a) q = run-kept manner a q
 
--- It holds of every run, full or quiet, of every source.
-pub grid-in-ranges : (counting : Counting) (fit : Bool) (source : List ℕ) (q : Asked) → RangesKept (read-source fit source) q (run-source counting fit source q .grid)
+-- It holds of every run of every source, in any manner.
+pub grid-in-ranges : (manner : Manner) (fit : Bool) (source : List ℕ) (q : Asked) → RangesKept (read-source fit source) q (run-source manner fit source q .grid)
 unfolding run-source
-grid-in-ranges counting fit source q = read-kept counting (read-source fit source) q
+grid-in-ranges manner fit source q = read-kept manner (read-source fit source) q

@@ -5,11 +5,11 @@ use Prim.Native.Nat.{ℕ}
 use lib.ListN.{length}
 use lib.Dec.{eqb}
 use lib.IntN.{ℤ, natAbs}
-use Rattle.automaton.specs.Step.{Blocks, run-of}
+use Rattle.automaton.specs.Step.{Blocks, quiet-run}
 use Rattle.program.specs.Syntax.{Program}
 use Rattle.stepper.specs.Reach.{running}
 use Rattle.stepper.specs.Admission.{Request}
-use Rattle.stepper.specs.Report.{Counting, Report, refused, ended, count-of}
+use Rattle.stepper.specs.Report.{Manner, Report, refused, ended, pending-of, run-by, count-of}
 use Rattle.lists.specs.ListChecking.{Turned, admission-with}
 use Rattle.lists.specs.Setting.{set-block}
 
@@ -30,19 +30,25 @@ abbrev pub blocks : Program → Asked → Blocks (List ℤ)
 blocks p q = set-block (q .request .sizes) (length (p .fields)) (q .values)
 
 -- n steps of an admitted run with their blocks, or those before the first faulting one
-unfoldable pub report-of : Counting → Program → Asked → Report
-report-of counting p q =
+unfoldable pub report-of : Manner → Program → Asked → Report
+report-of manner p q =
     let M = running p (q .request .sizes) in
     let n = natAbs (q .request .steps) in
     let t = natAbs (q .request .start) in
-    let r = run-of M (blocks p q) n t (q .request .grid) in
-    ended (r .fault) (r .steps) (count-of counting M (blocks p q) n t (q .request .grid)) (r .grid)
+    let r = run-by manner M (blocks p q) n t (q .request .grid) in
+    ended (r .fault) (r .steps) (count-of manner M (blocks p q) n t (q .request .grid)) (r .grid)
+
+-- the marks that stand after an admitted run: 1 for a cell that one more step would open, else 0; after a fault all 0
+unfoldable pub standing : Manner → Program → Asked → List ℕ
+standing manner p q =
+    quiet-run (running p (q .request .sizes)) (blocks p q) (pending-of manner) (natAbs (q .request .steps)) (natAbs (q .request .start))
+    (q .request .grid) .marks
 
 -- a run of a program: refused with 20 to 24 or for its list, or its report
-unfoldable pub run : Counting → Program → Asked → Report
-run counting p q =
+unfoldable pub run : Manner → Program → Asked → Report
+run manner p q =
     let a = admitted p q in
     elim (eqb (a .number) 0) [
-      | true ↦ report-of counting p q
+      | true ↦ report-of manner p q
       | false ↦ refused (a .number) (a .place) (a .line) (q .request .grid)
     ]

@@ -9,7 +9,7 @@ use lib.Dec.{eqb}
 use borrow.Author.Tests.{eqb-true, eqb-false, eq-eqb, ne-eqb}
 use Rattle.program.specs.Syntax.{Program}
 use Rattle.stepper.specs.Admission.{Request, Refusal, refusal, admission}
-use Rattle.stepper.specs.Report.{Counting, refused}
+use Rattle.stepper.specs.Report.{Manner, refused}
 use Rattle.lists.specs.Lines.{said}
 use Rattle.lists.specs.ListChecking.{Turned, Verdict, limits-of, check-list, admission-with}
 use Rattle.lists.specs.Passing.{Passes}
@@ -51,10 +51,10 @@ module _ (p : Program) (q : Asked) where
 
   -- ---- what a run gives
 
-  pub run-admitted : (counting : Counting) → admitted p q .number ≡ 0 → run counting p q ≡ report-of counting p q
+  pub run-admitted : (manner : Manner) → admitted p q .number ≡ 0 → run manner p q ≡ report-of manner p q
   unfolding run
-  run-admitted counting e = rw (eq-eqb (admitted p q .number) 0 e, run)
+  run-admitted manner e = rw (eq-eqb (admitted p q .number) 0 e, run)
 
-  pub run-refused : (counting : Counting) → (admitted p q .number ≡ 0 → ⊥) → run counting p q ≡ refused (admitted p q .number) (admitted p q .place) (admitted p q .line) (q .request .grid)
+  pub run-refused : (manner : Manner) → (admitted p q .number ≡ 0 → ⊥) → run manner p q ≡ refused (admitted p q .number) (admitted p q .place) (admitted p q .line) (q .request .grid)
   unfolding run
-  run-refused counting d = rw (ne-eqb (admitted p q .number) 0 d, run)
+  run-refused manner d = rw (ne-eqb (admitted p q .number) 0 d, run)

@@ -7,18 +7,19 @@ use lib.Dec.{eqb}
 use Rattle.value.specs.Choice.{if_then_else_}
 use Rattle.grammar.specs.Checking as checking
 use Rattle.grammar.specs.Checking.{Outcome, turned-away, accepted, read-source}
-use Rattle.stepper.specs.Report.{Counting, Report, refused}
-use Rattle.services.specs.Running.{Asked, admitted, run}
+use Rattle.program.specs.Syntax.{Program}
+use Rattle.stepper.specs.Report.{Manner, full, quiet, pausing, resuming, Report, refused}
+use Rattle.services.specs.Running.{Asked, admitted, run, standing}
 
 -- a run reads the source first
-abbrev pub run-read : Counting → Asked → Outcome → Report
-run-read counting q (turned-away number place) = refused number place 0 (q .request .grid)
-run-read counting q (checking.refused number place) = refused number place 0 (q .request .grid)
-run-read counting q (accepted a) = run counting (a .program) q
+abbrev pub run-read : Manner → Asked → Outcome → Report
+run-read manner q (turned-away number place) = refused number place 0 (q .request .grid)
+run-read manner q (checking.refused number place) = refused number place 0 (q .request .grid)
+run-read manner q (accepted a) = run manner (a .program) q
 
--- the report that a run of a source gives, full or quiet, with the grid that it leaves
-unfoldable pub run-source : Counting → Bool → List ℕ → Asked → Report
-run-source counting fit source q = run-read counting q (read-source fit source)
+-- the report that a run of a source gives, with the grid that it leaves
+unfoldable pub run-source : Manner → Bool → List ℕ → Asked → Report
+run-source manner fit source q = run-read manner q (read-source fit source)
 
 -- whether a run of what is read begins: the source is accepted, and the run is admitted
 abbrev pub run-begins : Asked → Outcome → Bool
@@ -26,6 +27,22 @@ run-begins q (turned-away number place) = false
 run-begins q (checking.refused number place) = false
 run-begins q (accepted a) = eqb (admitted (a .program) q .number) 0
 
--- scratch or marks after a run: zeros after one that began, even with 0 steps, else as they were
+-- scratch after a run: zeros after one that began, even with 0 steps, else as it was
 unfoldable pub room-after : {A : Type 0} → A → Bool → List ℕ → Asked → List A → List A
 room-after none fit source q old = if run-begins q (read-source fit source) then replicate (length old) none else old
+
+-- the marks that an admitted run leaves: those that stand, where its manner leaves any, else zeros
+abbrev pub marks-admitted : Manner → Program → Asked → List ℕ → List ℕ
+marks-admitted full p q old = replicate (length old) 0
+marks-admitted quiet p q old = replicate (length old) 0
+marks-admitted pausing p q old = standing pausing p q
+marks-admitted (resuming marks) p q old = standing (resuming marks) p q
+
+abbrev pub marks-read : Manner → Asked → List ℕ → Outcome → List ℕ
+marks-read manner q old (turned-away number place) = old
+marks-read manner q old (checking.refused number place) = old
+marks-read manner q old (accepted a) = if eqb (admitted (a .program) q .number) 0 then marks-admitted manner (a .program) q old else old
+
+-- the marks after a run of a source: as they were, if it did not begin
+unfoldable pub marks-after : Manner → Bool → List ℕ → Asked → List ℕ → List ℕ
+marks-after manner fit source q old = marks-read manner q old (read-source fit source)

@@ -1,8 +1,9 @@
--- The answer of a run, and the grid that it leaves.
+-- The answer of a run, and the grid that it leaves; and the manners of a run.
+use mathlib.Core.Bool.{Bool}
 use mathlib.Core.List.{List}
 use Prim.Native.Nat.{ℕ}
 use lib.IntN.{ℤ}
-use Rattle.automaton.specs.Step.{Fault, no-fault, fault-at, Automaton, Blocks, full-count, open-count, every-cell}
+use Rattle.automaton.specs.Step.{Fault, no-fault, fault-at, Automaton, Blocks, Run, run-of, full-count, open-count, quiet-run, every-cell, marked}
 
 -- the reply's number, its place, its line in the value list, the faulting cell, the steps done, the count of evaluated cells, and the grid
 pub record Report : Type 0 where
@@ -24,12 +25,36 @@ ended no-fault steps count grid = record { number = 0; place = 0; line = 0; cell
 ended (fault-at cell number place) steps count grid =
     record { number = number; place = place; line = 0; cell = cell; steps = steps; count = count; grid = grid }
 
--- which cells are counted: all, or the open ones
-pub data Counting : Type 0 where
-  full : Counting
-  quiet : Counting
+-- ---- the manners of a run
 
--- how many cells are counted over n steps from a time on
-abbrev pub count-of : {Grid State : Type 0} → Counting → Automaton Grid State → Blocks Grid → ℕ → ℕ → Grid → ℕ
-count-of full M block n t g = full-count M block n t g
-count-of quiet M block n t g = open-count M block every-cell n t g
+pub data Manner : Type 0 where
+  -- every cell is evaluated in each step
+  full : Manner
+  -- the open cells alone; in the first step all are open
+  quiet : Manner
+  -- the same, and the marks are left standing
+  pausing : Manner
+  -- the same, and in the first step the cells are open whose lent mark is not 0, and those that its block or `time` opens
+  resuming : (marks : List ℕ) → Manner
+
+-- the cells that are pending when a run begins: all, or those whose lent mark is not 0
+abbrev pub pending-of : Manner → ℕ → Bool
+pending-of full = every-cell
+pending-of quiet = every-cell
+pending-of pausing = every-cell
+pending-of (resuming marks) = marked marks
+
+module _ {Grid State : Type 0} where
+  -- n steps from a time on. Of a run that begins from lent marks these are the steps that evaluate the open cells alone, since the marks may be any
+  abbrev pub run-by : Manner → Automaton Grid State → Blocks Grid → ℕ → ℕ → Grid → Run Grid
+  run-by full M block n t g = run-of M block n t g
+  run-by quiet M block n t g = run-of M block n t g
+  run-by pausing M block n t g = run-of M block n t g
+  run-by (resuming marks) M block n t g = quiet-run M block (marked marks) n t g .run
+
+  -- how many cells are counted in them: all, or the open ones
+  abbrev pub count-of : Manner → Automaton Grid State → Blocks Grid → ℕ → ℕ → Grid → ℕ
+  count-of full M block n t g = full-count M block n t g
+  count-of quiet M block n t g = open-count M block every-cell n t g
+  count-of pausing M block n t g = open-count M block every-cell n t g
+  count-of (resuming marks) M block n t g = quiet-run M block (marked marks) n t g .count

@@ -6,6 +6,7 @@ ghost use Rattle.services.specs.RangesKept.{RangesKept};
 ghost use Rattle.runner.specs.Property3.{Agree};
 ghost use Rattle.cellang.specs.Told.{TellsRun};
 use entries::put_report;
+use iteration::Manner;
 use runner::run;
 use spelling::told_part;
 
@@ -40,7 +41,7 @@ pub extern "C" fn cellang_run_full(
         &source[..0],
         start,
         steps,
-        false,
+        Manner::Full,
     );
     let part = told_part(source, told.number, told.place);
     put_report(
@@ -90,7 +91,7 @@ pub extern "C" fn cellang_run_quiet(
         &source[..0],
         start,
         steps,
-        true,
+        Manner::Quiet,
     );
     let part = told_part(source, told.number, told.place);
     put_report(

@@ -57,17 +57,20 @@ enum-known-counted c = search needs
 enum-known-cell : tie.Need-enum-known-cell Inv-loop μ-loop
 enum-known-cell c = search needs
 
+clear-marks-requires : tie.Need-clear-marks-requires Inv-loop μ-loop
+clear-marks-requires c κs = search needs
+
 same-length-4 : tie.Need-same-length-4 Inv-loop μ-loop
-same-length-4 c = c .before .before .before .before .before .step .ensures .grid-size ∙ placed-grid (c .before .before .before .before .before .before .before .before .before .before .before .before .before .before .before .before .before .before .before .before .before .loop .inv) (c .before .before .before .before .before .before .before .before .before .before .before .before .before .before .set-due .ensures) (search needs)
+same-length-4 c = c .before .before .before .before .before .before .before .before .before .step .ensures .grid-size ∙ placed-grid (c .before .before .before .before .before .before .before .before .before .before .before .before .before .before .before .before .before .before .before .before .before .before .before .before .before .loop .inv) (c .before .before .before .before .before .before .before .before .before .before .before .before .before .before .before .before .before .before .set-due .ensures) (search needs)
 
 same-length-5 : tie.Need-same-length-5 Inv-loop μ-loop
-same-length-5 c = c .before .before .before .before .before .step .ensures .scratch-size ∙ placed-scratch (c .before .before .before .before .before .before .before .before .before .before .before .before .before .before .before .before .before .before .before .before .before .loop .inv) (c .before .before .before .before .before .before .before .before .before .before .before .before .before .before .set-due .ensures) (search needs)
+same-length-5 c = c .before .before .before .before .before .before .before .before .before .step .ensures .scratch-size ∙ placed-scratch (c .before .before .before .before .before .before .before .before .before .before .before .before .before .before .before .before .before .before .before .before .before .before .before .before .before .loop .inv) (c .before .before .before .before .before .before .before .before .before .before .before .before .before .before .before .before .before .before .set-due .ensures) (search needs)
 
 same-length-6 : tie.Need-same-length-6 Inv-loop μ-loop
-same-length-6 c = placed-marks (c .before .before .before .before .before .before .before .before .before .before .before .before .before .before .before .before .before .before .before .before .before .loop .inv) (c .before .before .before .before .before .before .before .before .before .before .before .before .before .before .set-due .ensures) (search needs)
+same-length-6 c = omega (arith, c .before .before .clear-marks .kept, placed-marks (c .before .before .before .before .before .before .before .before .before .before .before .before .before .before .before .before .before .before .before .before .before .before .before .before .before .loop .inv) (c .before .before .before .before .before .before .before .before .before .before .before .before .before .before .before .before .before .before .set-due .ensures) (search needs))
 
 returns-2 : tie.Need-returns-2 Inv-loop μ-loop
-returns-2 c = loop-stops (c .before .before .before .before .before .before .before .before .before .before .before .before .before .before .before .before .before .before .before .before .before .loop .inv) (c .before .before .before .before .before .before .before .before .before .before .before .before .before .before .set-due .ensures) (search needs) (c .before .before .before .before .before .before .before .before .before .if1 .left) (c .before .before .before .before .before .step .ensures) (c .before .cell .given .1)
+returns-2 c = loop-stops (c .before .before .before .before .before .before .before .before .before .before .before .before .before .before .before .before .before .before .before .before .before .before .before .before .before .loop .inv) (c .before .before .before .before .before .before .before .before .before .before .before .before .before .before .before .before .before .before .set-due .ensures) (search needs) (c .before .before .before .before .before .before .before .before .before .before .before .before .before .if1 .left) (c .before .before .before .before .before .before .before .before .before .step .ensures) (c .before .before .before .before .before .cell .given .1) (c .before .before .clear-marks .ensures)
 
 cast-renew-marks : tie.Need-cast-renew-marks Inv-loop μ-loop
 cast-renew-marks c = search needs
@@ -119,6 +122,7 @@ run-marked-spec =
     step-requires
     enum-known-counted
     enum-known-cell
+    clear-marks-requires
     same-length-4
     same-length-5
     same-length-6

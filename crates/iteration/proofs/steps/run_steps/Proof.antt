@@ -1,6 +1,5 @@
 use mathlib.Core.Path.{refl}
-use Rattle.automaton.specs.Step.{every-cell}
-use Rattle.iteration.proofs.StepwiseLaws.{fill-ready, prepared, begins-marked, all-standing, all-begun}
+use Rattle.iteration.proofs.StepwiseLaws.{fill-ready, prepared, copying, started-begins, started-standing, started-begun}
 use borrow.Author.Needs.{needs}
 use Rattle.iteration.proofs.steps.run_steps.Statement.{statement}
 use Rattle.iteration.proofs.steps.run_steps.Tie as tie
@@ -20,14 +19,17 @@ slice-aggregate-set-ways c = search needs
 set-ways-requires : tie.Need-set-ways-requires
 set-ways-requires c κs = (prepared (c .before .before .before .before .before .before .before .before .before .pre), refl)
 
-mark-all-requires : tie.Need-mark-all-requires
-mark-all-requires c κs = search needs
+begin-marks-requires : tie.Need-begin-marks-requires
+begin-marks-requires c κs = copying (c .before .before .before .before .before .before .before .before .before .before .before .before .before .before .pre)
 
 slice-aggregate-run-marked : tie.Need-slice-aggregate-run-marked
 slice-aggregate-run-marked c = search needs
 
 run-marked-requires : tie.Need-run-marked-requires
-run-marked-requires c κs = (begins-marked (c .before .before .before .before .before .before .before .before .before .before .before .before .before .before .before .before .before .before .before .before .pre) (c .before .before .before .before .before .before .before .mark-all .ensures), all-standing (c .before .before .before .before .before .before .before .before .before .before .before .before .before .before .before .before .before .before .before .before .pre .marks-fit) (c .before .before .before .before .before .before .before .mark-all .ensures), c .before .before .before .before .before .before .before .before .before .before .before .before .fill-leaves .ensures, c .before .before .before .before .before .before .before .before .before .before .set-ways .ensures)
+run-marked-requires c κs =
+    let s = c .before .before .before .before .before .before .before .before .before .before .before .before .before .before .before .before .before .before .before .before .before .before .before in
+    let begun = c .before .before .before .before .before .before .before .before .begin-marks .ensures in
+    (started-begins (s .pre) (s .args .resumed) (s .args .all-open) begun (search needs) (search needs), started-standing (s .pre) (s .args .resumed) (s .args .all-open) begun, c .before .before .before .before .before .before .before .before .before .before .before .before .before .before .before .fill-leaves .ensures, c .before .before .before .before .before .before .before .before .before .before .before .before .before .set-ways .ensures)
 
 same-length : tie.Need-same-length
 same-length c = search needs
@@ -39,7 +41,9 @@ same-length-3 : tie.Need-same-length-3
 same-length-3 c = search needs
 
 returns : tie.Need-returns
-returns c = c .before .before .before .before .run-marked .ensures .from every-cell (all-begun (c .before .before .before .before .before .before .before .before .before .before .before .before .before .before .before .before .before .before .before .before .before .before .before .before .before .args .sizes .now) (c .before .before .before .before .before .before .before .before .before .before .before .before .before .before .before .before .before .before .before .before .before .before .before .before .before .args .all-open) (c .before .before .before .before .before .before .before .before .before .before .before .before .before .before .before .before .before .before .before .before .before .before .before .before .before .pre .marks-fit) (c .before .before .before .before .before .before .before .before .before .before .before .before .mark-all .ensures))
+returns c =
+    let s = c .before .before .before .before .before .before .before .before .before .before .before .before .before .before .before .before .before .before .before .before .before .before .before .before .before .before .before .before in
+    c .before .before .before .before .run-marked .ensures .from _ (started-begun (s .pre) (s .args .resumed) (s .args .all-open) (c .before .before .before .before .before .before .before .before .before .before .before .before .before .begin-marks .ensures))
 
 pub run-steps-spec : {M : Type 1} → statement M
 run-steps-spec =
@@ -50,7 +54,7 @@ run-steps-spec =
     fill-leaves-requires
     slice-aggregate-set-ways
     set-ways-requires
-    mark-all-requires
+    begin-marks-requires
     slice-aggregate-run-marked
     run-marked-requires
     same-length

@@ -1,6 +1,7 @@
 use mathlib.Core.Path.{refl}
 use borrow.Author.Needs.{needs}
 use Rattle.services.specs.Calls.{flat-names, memory, lent}
+use Rattle.runner.specs.Sourcewise.{manner-of}
 use Rattle.runner.proofs.RunLaws.{unlisted, listed, read-times, run-agrees, run-ranges}
 use Rattle.runner.proofs.running.run.Statement.{statement}
 use Rattle.runner.proofs.running.run.Tie as tie
@@ -11,8 +12,8 @@ is-built-in-requires c κs = search needs
 returns : tie.Need-returns
 returns c =
     let s = c .before .before .before .before .before .before .before .before .before in
-    let ran = unlisted (s .args .list .now) (c .before .is-built-in .ensures) (s .args .quiet) (lent _ _ _ (memory _ _ _ (s .args .scratch .now) (s .args .marks .now)) (s .args .values .now) (s .args .start) (s .args .steps)) refl (c .if1 .taken) in
-    (ran, (run-agrees flat-names (s .args .quiet) _ ran, run-ranges flat-names _ _ ran))
+    let ran = unlisted (s .args .list .now) (c .before .is-built-in .ensures) (manner-of (s .args .manner) (s .args .marks .now)) (lent _ _ _ (memory _ _ _ (s .args .scratch .now) (s .args .marks .now)) (s .args .values .now) (s .args .start) (s .args .steps)) refl (c .if1 .taken) in
+    (ran, (run-agrees flat-names (s .args .manner) _ ran, run-ranges flat-names _ _ ran))
 
 run-listed-requires : tie.Need-run-listed-requires
 run-listed-requires c κs = search needs
@@ -38,7 +39,7 @@ returns-2 c =
     let t = r .before .before .before .before .before .before in
     let s = t .before .before .before .before .before .before .before .before .before in
     let ran = read-times (s .fits .start) (s .fits .steps) (listed (s .args .list .now) (t .before .is-built-in .ensures) (t .if1 .left) (r .run-listed .ensures)) in
-    (ran, (run-agrees flat-names (s .args .quiet) _ ran, run-ranges flat-names _ _ ran))
+    (ran, (run-agrees flat-names (s .args .manner) _ ran, run-ranges flat-names _ _ ran))
 
 pub run-spec : {M : Type 1} → statement M
 run-spec =

@@ -1,3 +1,4 @@
+use native.Mathlib.Omega.{arith}
 use lib.ListN.{length}
 use Rattle.token.specs.Lexeme.{built-in-names}
 use Rattle.services.specs.Calls.{memory, lent}
@@ -22,7 +23,7 @@ returns : tie.Need-returns
 returns c =
     let o = c .before .before .before .before .before .before in
     let s = o .before .before .before .before .before .before .before .before .before .before in
-    record { each = λ list e. read-times (s .fits .start) (s .fits .steps) (closed-run (lent _ list _ (memory _ _ _ (s .args .scratch .now) (s .args .marks .now)) (s .args .values .now) _ _) e (o .open-run .ensures) (s .args .quiet) (c .if1 .taken)) }
+    record { each = λ list e. read-times (s .fits .start) (s .fits .steps) (closed-run (lent _ list _ (memory _ _ _ (s .args .scratch .now) (s .args .marks .now)) (s .args .values .now) _ _) e (o .open-run .ensures) (s .args .manner) (c .if1 .taken)) }
 
 all-open-requires : tie.Need-all-open-requires
 all-open-requires c κs = search needs
@@ -32,27 +33,30 @@ cast-run-steps c =
     let t = c .before .before .before .before .before .before .before in
     let o = t .before .before .before .before .before .before in
     let s = o .before .before .before .before .before .before .before .before .before .before in
-    cast-start (lent _ built-in-names _ (memory _ _ _ (s .args .scratch .now) (s .args .marks .now)) (s .args .values .now) _ _) the-list (o .open-run .ensures) (s .args .quiet) (t .if1 .left)
+    cast-start (lent _ built-in-names _ (memory _ _ _ (s .args .scratch .now) (s .args .marks .now)) (s .args .values .now) _ _) the-list (o .open-run .ensures) (s .args .manner) (t .if1 .left)
 
 cast-run-steps-2 : tie.Need-cast-run-steps-2
 cast-run-steps-2 c =
     let t = c .before .before .before .before .before .before .before in
     let o = t .before .before .before .before .before .before in
     let s = o .before .before .before .before .before .before .before .before .before .before in
-    cast-steps (lent _ built-in-names _ (memory _ _ _ (s .args .scratch .now) (s .args .marks .now)) (s .args .values .now) _ _) the-list (o .open-run .ensures) (s .args .quiet) (t .if1 .left)
+    cast-steps (lent _ built-in-names _ (memory _ _ _ (s .args .scratch .now) (s .args .marks .now)) (s .args .values .now) _ _) the-list (o .open-run .ensures) (s .args .manner) (t .if1 .left)
+
+resumes-requires : tie.Need-resumes-requires
+resumes-requires c κs = search needs
 
 run-steps-requires : tie.Need-run-steps-requires
 run-steps-requires c κs =
-    let t = c .before .before .before .before .before .before .before in
+    let t = c .before .before .before .before .before .before .before .before in
     let o = t .before .before .before .before .before .before in
     let s = o .before .before .before .before .before .before .before .before .before .before in
-    run-ready (lent _ built-in-names _ (memory _ _ _ (s .args .scratch .now) (s .args .marks .now)) (s .args .values .now) _ _) the-list (o .open-run .ensures) (s .args .quiet) (t .if1 .left)
+    run-ready (lent _ built-in-names _ (memory _ _ _ (s .args .scratch .now) (s .args .marks .now)) (s .args .values .now) _ _) the-list (o .open-run .ensures) (s .args .manner) (t .if1 .left)
 
 clear-numbers-requires : tie.Need-clear-numbers-requires
 clear-numbers-requires c κs = search needs
 
-clear-marks-requires : tie.Need-clear-marks-requires
-clear-marks-requires c κs = search needs
+leave-marks-requires : tie.Need-leave-marks-requires
+leave-marks-requires c κs = search needs
 
 same-length-4 : tie.Need-same-length-4
 same-length-4 c = search needs
@@ -72,11 +76,13 @@ same-length-8 c = search needs
 returns-2 : tie.Need-returns-2
 returns-2 c =
     let r = c .before .before .before .before .before .before .before .before .before .before .before in
-    let s = r .before .before .before .before .before .before .before .before .before .before .before .before .before .before .before .before .before .before .before .before .before .before .before .before in
+    let t = r .before .before .before .before .before .before .before .before .before in
+    let o = t .before .before .before .before .before .before in
+    let s = o .before .before .before .before .before .before .before .before .before .before in
     record {
       each = λ list e. read-times (s .fits .start) (s .fits .steps)
-          (run-done (lent _ list _ (memory _ _ _ (s .args .scratch .now) (s .args .marks .now)) (s .args .values .now) _ _) e (r .before .before .before .before .before .before .before .before .before .before .before .before .before .before .open-run .ensures) (s .args .quiet) (r .before .before .before .before .before .before .before .before .if1 .left) (length (r .run-steps .last .1 .1 .1 .1 .1 .1 .0))
-          (length (r .run-steps .last .1 .1 .1 .1 .1 .1 .1 .0)) (r .before .before .before .before .before .all-open .ensures) (r .run-steps .ensures) (c .before .before .before .before .before .clear-numbers .ensures) (search needs) (c .before .before .clear-marks .ensures) (search (c .before .before .clear-marks .kept, r .run-steps .kept, needs)));
+          (run-done (lent _ list _ (memory _ _ _ (s .args .scratch .now) (s .args .marks .now)) (s .args .values .now) _ _) e (o .open-run .ensures) (s .args .manner) (t .if1 .left) (length (r .run-steps .last .1 .1 .1 .1 .1 .1 .0))
+          (r .before .before .before .before .before .before .all-open .ensures) (r .before .resumes .ensures) (r .run-steps .ensures) (c .before .before .before .before .before .clear-numbers .ensures) (omega (arith, c .before .before .before .before .before .clear-numbers .kept, r .run-steps .kept .1 .1 .1 .1 .1 .1 .0)) (omega (arith, r .run-steps .kept .1 .1 .1 .1 .1 .1 .1 .0)) (c .before .before .leave-marks .ensures));
     }
 
 pub run-listed-spec : {M : Type 1} → statement M
@@ -91,9 +97,10 @@ run-listed-spec =
     all-open-requires
     cast-run-steps
     cast-run-steps-2
+    resumes-requires
     run-steps-requires
     clear-numbers-requires
-    clear-marks-requires
+    leave-marks-requires
     same-length-4
     same-length-5
     same-length-6
