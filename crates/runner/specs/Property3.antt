@@ -125,7 +125,7 @@ runs-count p q e = by (eqb (admitted p q .number) 0) refl
 
 -- ---- an accepted source is short, and parsed
 
-read-of : (fit : Bool) (source : List ℕ) (a : Accepted) → read-source fit source ≡ accepted a → (length source ≤ 65535) × (parse source ≡ ok a)
+pub read-of : (fit : Bool) (source : List ℕ) (a : Accepted) → read-source fit source ≡ accepted a → (length source ≤ 65535) × (parse source ≡ ok a)
 unfolding read-source
 read-of false source a e = absurd (clash e)
   where

@@ -36,10 +36,11 @@ use Rattle.services.specs.Running
 use Rattle.services.specs.Services
 use Rattle.automaton.specs.Grid.{differ}
 use Rattle.automaton.specs.Shape.{product}
-use Rattle.stepper.specs.Report.{Report, full, quiet}
+use Rattle.stepper.specs.Report.{Manner, Report, full, quiet}
 use Rattle.grammar.specs.Checking.{rooms-fit, check}
 use Rattle.services.specs.Running.{Asked}
-use Rattle.services.specs.Services.{run-source}
+use Rattle.services.specs.Services.{run-source, marks-after}
+use Rattle.token.specs.Bytes.{same}
 
 -- a source, and how many words and name records are lent to read it
 pub record Lent : Type 0 where
@@ -56,6 +57,8 @@ pub data Case : Type 0 where
   checks : Lent → ℕ → ℕ → Case
   -- a run, the report of the full run, and the quiet run's count
   runs : Lent → Asked → Report → ℕ → Case
+  -- a run in a manner, its report, and the marks that it leaves of those that it is lent
+  leaves : Lent → Manner → Asked → List ℕ → Report → List ℕ → Case
 
 -- a source with rooms of the right length
 abbrev pub text : List ℕ → Lent
@@ -132,6 +135,8 @@ holds (checks l n place) =
     eqb (c .number) n && eqb (c .place) place
 holds (runs l q r count) =
     same-report (run-source full (fit l) (l .source) q) r && same-report (run-source quiet (fit l) (l .source) q) (counting r count)
+holds (leaves l manner q marks r left) =
+    same-report (run-source manner (fit l) (l .source) q) r && same (marks-after manner (fit l) (l .source) q marks) left
 
 -- the numbers, from n on, of the cases that do not hold
 unfoldable pub failing : ℕ → List Case → List ℕ

@@ -5,8 +5,8 @@ use Prim.Native.Nat.{ℕ}
 use Prim.Native.String.{String}
 use lib.IntN.{ℤ, pos, negsuc}
 use Rattle.token.specs.Bytes.{as-bytes}
-use Rattle.stepper.specs.Report.{refused}
-use Rattle.services.specs.Cases.{Lent, Case, checks, runs, text, ask, ask-with, report, failing, holds}
+use Rattle.stepper.specs.Report.{Manner, quiet, pausing, resuming, refused}
+use Rattle.services.specs.Cases.{Lent, Case, checks, runs, leaves, text, ask, ask-with, report, failing, holds}
 
 -- a source of one dimension with an unnamed field of a range
 abbrev pub line : String → String → Lent
@@ -122,3 +122,50 @@ list-examples =
 pub lists-hold : failing 1 list-examples ≡ []
 unfolding list-examples failing holds
 lists-hold = refl
+
+-- ---- runs that are paused and resumed (request 12/13)
+
+-- zeros and ones as a grid
+abbrev pub bits : List ℕ → List ℤ
+bits [] = []
+bits (n ∷ ns) = pos n ∷ bits ns
+
+-- M5's rule on its five cells, so many steps from a time on
+abbrev pub shifted : Manner → List ℕ → String → List ℕ → ℕ → ℕ → ℕ → List ℕ → List ℕ → Case
+shifted manner marks values before start n count after left =
+    leaves (line "0..1" "cell := [-1]") manner (ask-with (as-bytes values) (5 ∷ []) (bits before) (pos start) (pos n)) marks (report 0 0 0 n count (bits after)) left
+
+unfoldable pub pause-examples : List Case
+pause-examples =
+    let first : List ℕ = 1 ∷ 0 ∷ 0 ∷ 0 ∷ 0 ∷ [] in
+    let none : List ℕ = 0 ∷ 0 ∷ 0 ∷ 0 ∷ 0 ∷ [] in
+    let all : List ℕ = 1 ∷ 1 ∷ 1 ∷ 1 ∷ 1 ∷ [] in
+    -- after 0 steps all cells are open still
+    shifted pausing none "" first 0 0 0 first all
+    -- M5 in two calls
+    ∷ shifted pausing none "" first 0 1 5 (0 ∷ 1 ∷ 0 ∷ 0 ∷ 0 ∷ []) (1 ∷ 1 ∷ 1 ∷ 0 ∷ 0 ∷ [])
+    ∷ shifted (resuming (1 ∷ 1 ∷ 1 ∷ 0 ∷ 0 ∷ [])) (1 ∷ 1 ∷ 1 ∷ 0 ∷ 0 ∷ []) "" (0 ∷ 1 ∷ 0 ∷ 0 ∷ 0 ∷ []) 1 1 3 (0 ∷ 0 ∷ 1 ∷ 0 ∷ 0 ∷ []) (0 ∷ 1 ∷ 1 ∷ 1 ∷ 0 ∷ [])
+    -- any mark that is not 0 opens its cell, and no other is evaluated
+    ∷ shifted (resuming (0 ∷ 7 ∷ 0 ∷ 0 ∷ 0 ∷ [])) (0 ∷ 7 ∷ 0 ∷ 0 ∷ 0 ∷ []) "" first 0 1 1 (1 ∷ 1 ∷ 0 ∷ 0 ∷ 0 ∷ []) (0 ∷ 1 ∷ 1 ∷ 0 ∷ 0 ∷ [])
+    ∷ shifted (resuming none) none "" first 0 2 0 first none
+    -- a block at the time of the pause, in the earlier call and in the later one
+    ∷ shifted pausing none "1\n[3] = 1\n" first 0 1 5 (0 ∷ 1 ∷ 0 ∷ 1 ∷ 0 ∷ []) all
+    ∷ shifted (resuming all) all "" (0 ∷ 1 ∷ 0 ∷ 1 ∷ 0 ∷ []) 1 1 5 (0 ∷ 0 ∷ 1 ∷ 0 ∷ 1 ∷ []) all
+    ∷ shifted (resuming (1 ∷ 1 ∷ 1 ∷ 0 ∷ 0 ∷ [])) (1 ∷ 1 ∷ 1 ∷ 0 ∷ 0 ∷ []) "1\n[3] = 1\n" (0 ∷ 1 ∷ 0 ∷ 0 ∷ 0 ∷ []) 1 1 5 (0 ∷ 0 ∷ 1 ∷ 0 ∷ 1 ∷ []) all
+    -- 0 steps resumed: marks become 0 or 1, and the block opens
+    ∷ shifted (resuming (0 ∷ 0 ∷ 3 ∷ 0 ∷ 0 ∷ [])) (0 ∷ 0 ∷ 3 ∷ 0 ∷ 0 ∷ []) "4\n[0] = 1\n" (0 ∷ 0 ∷ 1 ∷ 0 ∷ 0 ∷ []) 4 0 0 (1 ∷ 0 ∷ 1 ∷ 0 ∷ 0 ∷ []) (1 ∷ 1 ∷ 1 ∷ 0 ∷ 0 ∷ [])
+    -- changed by the step, and changed back by the block
+    ∷ shifted pausing none "1\n[0] = 1\n[1] = 0\n" first 0 1 5 first (1 ∷ 1 ∷ 1 ∷ 0 ∷ 0 ∷ [])
+    -- a quiet run leaves no mark
+    ∷ shifted quiet all "" first 0 1 5 (0 ∷ 1 ∷ 0 ∷ 0 ∷ 0 ∷ []) none
+    -- after a fault none stands
+    ∷ leaves (line "0..3" "cell := cell + 1") pausing (ask (3 ∷ []) (pos 0 ∷ pos 2 ∷ pos 1 ∷ []) (pos 0) (pos 5)) (1 ∷ 1 ∷ 1 ∷ []) (report 33 26 1 1 5 (pos 1 ∷ pos 3 ∷ pos 2 ∷ [])) (0 ∷ 0 ∷ 0 ∷ [])
+    -- with `time` all cells are open, whatever is lent
+    ∷ leaves (line "0..9" "cell := time") (resuming (0 ∷ 0 ∷ [])) (ask (2 ∷ []) (pos 0 ∷ pos 0 ∷ []) (pos 1) (pos 2)) (0 ∷ 0 ∷ []) (report 0 0 0 2 4 (pos 2 ∷ pos 2 ∷ [])) (1 ∷ 1 ∷ [])
+    -- a refusal leaves the marks as they were
+    ∷ leaves (line "0..1" "") pausing (ask (2 ∷ []) (pos 0 ∷ pos 2 ∷ []) (pos 0) (pos 1)) (7 ∷ 0 ∷ []) (refused 24 1 0 (pos 0 ∷ pos 2 ∷ [])) (7 ∷ 0 ∷ [])
+    ∷ []
+
+pub pauses-hold : failing 1 pause-examples ≡ []
+unfolding pause-examples failing holds
+pauses-hold = refl

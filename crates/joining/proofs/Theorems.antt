@@ -1,0 +1,2 @@
+-- The theorems on calls that are joined.
+pub mod Joining

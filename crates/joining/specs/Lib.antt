@@ -1,0 +1,2 @@
+-- Calls of a run that is paused and resumed.
+pub mod Joins
