@@ -54,6 +54,20 @@ impl RunCase {
         let values = values.to_vec();
         RunCase { values, ..self }
     }
+
+    /// What the case lends beside the memory that a run writes.
+    pub fn lent(&self) -> Lent<'_> {
+        Lent {
+            source: &self.source,
+            list: BUILT_IN,
+            words: self.words,
+            names: self.names,
+            shape: &self.shape,
+            values: &self.values,
+            start: self.start,
+            steps: self.steps,
+        }
+    }
 }
 
 /// The number of cells of a shape, held at 65,536 for sizes that are wrong.
@@ -73,11 +87,13 @@ pub fn marks_on_entry(length: usize) -> Vec<u8> {
     (0..length).map(|i| ((i * 5 + 1) % 256) as u8).collect()
 }
 
-fn began(number: u32) -> bool {
+/// Whether the run that a number is of began.
+pub fn began(number: u32) -> bool {
     number == 0 || (30..=33).contains(&number)
 }
 
-fn word<T: PartialEq + Default>(after: &[T], before: &[T], began: bool) -> &'static str {
+/// What became of scratch or marks.
+pub fn word<T: PartialEq + Default>(after: &[T], before: &[T], began: bool) -> &'static str {
     let zero = after.iter().all(|entry| *entry == T::default());
     let same = after == before;
     match (zero, same) {
@@ -97,17 +113,7 @@ pub fn run_case(case: &RunCase, quiet: bool) -> Outcome {
     let mut scratch = scratch_before.clone();
     let mut marks = marks_before.clone();
     let run = if quiet { run_quiet } else { run_full };
-    let lent = Lent {
-        source: &case.source,
-        list: BUILT_IN,
-        words: case.words,
-        names: case.names,
-        shape: &case.shape,
-        values: &case.values,
-        start: case.start,
-        steps: case.steps,
-    };
-    let report = run(&lent, &mut grid, &mut scratch, &mut marks);
+    let report = run(&case.lent(), &mut grid, &mut scratch, &mut marks);
     let began = began(report.number);
     Outcome {
         report,
@@ -131,25 +137,25 @@ pub fn run_lines(case: &RunCase) -> String {
     run_line(&run_case(case, false)) + &run_line(&run_case(case, true))
 }
 
+/// The numbers of a report.
+pub fn report_text(report: &Report) -> String {
+    format!(
+        "{} {} {} {} {} {}",
+        report.number, report.place, report.line, report.cell, report.steps, report.count
+    )
+}
+
+/// Numbers, each behind a space.
+pub fn row_text<T: ToString>(row: &[T]) -> String {
+    row.iter()
+        .map(|value| format!(" {}", value.to_string()))
+        .collect()
+}
+
 fn run_line(outcome: &Outcome) -> String {
-    let report = &outcome.report;
-    let mut line = format!(
-        "{} {} {} {} {} {} {} {} :",
-        report.number,
-        report.place,
-        report.line,
-        report.cell,
-        report.steps,
-        report.count,
-        outcome.scratch,
-        outcome.marks
-    );
-    for value in &outcome.grid {
-        line.push(' ');
-        line.push_str(&value.to_string());
-    }
-    line.push('\n');
-    line
+    let report = report_text(&outcome.report);
+    let grid = row_text(&outcome.grid);
+    format!("{report} {} {} :{grid}\n", outcome.scratch, outcome.marks)
 }
 
 /// The line of a reply: behind the number and place of a refusal stand the
@@ -214,9 +220,15 @@ pub fn put_grid(out: &mut Vec<u8>, grid: &[i32]) {
     }
 }
 
-/// The binary form of a run, which begins with 0 (of a writing, with 1).
+/// The binary form of a run, which begins with 0 (of a writing, with 1; of a
+/// run in a manner, with 2).
 pub fn put_run(out: &mut Vec<u8>, case: &RunCase) {
     put_u32(out, 0);
+    put_asked(out, case);
+}
+
+/// The binary form of what is asked of a run.
+pub fn put_asked(out: &mut Vec<u8>, case: &RunCase) {
     put_read(out, &case.source, case.words, case.names, &case.shape);
     put_grid(out, &case.grid);
     put_u32(out, case.scratch as u32);

@@ -179,6 +179,19 @@ pub fn step(
     old: &[i32],
     new: &mut [i32],
 ) -> Result<(), (usize, Fault)> {
+    step_open(program, shape, time, old, new, |_| true)
+}
+
+/// One step in which only the open cells are evaluated; every other cell keeps
+/// its fields and gives no fault.
+pub fn step_open(
+    program: &Program,
+    shape: &[u32],
+    time: i32,
+    old: &[i32],
+    new: &mut [i32],
+    is_open: impl Fn(usize) -> bool,
+) -> Result<(), (usize, Fault)> {
     let fields = program.fields.len();
     let mut cell = Cell {
         program,
@@ -200,8 +213,10 @@ pub fn step(
         cell.slots.fill(0);
         let own = number * fields..(number + 1) * fields;
         cell.next[..fields].copy_from_slice(&old[own.clone()]);
-        if let Err(fault) = cell.run(&program.statements) {
-            return Err((number, fault));
+        if is_open(number) {
+            if let Err(fault) = cell.run(&program.statements) {
+                return Err((number, fault));
+            }
         }
         new[own].copy_from_slice(&cell.next[..fields]);
         for dimension in (0..shape.len()).rev() {

@@ -3,6 +3,7 @@
 
 pub mod admission;
 pub mod blocks;
+pub mod call_case;
 pub mod case;
 pub mod compare;
 pub mod damage;
@@ -19,6 +20,7 @@ pub mod names;
 pub mod open;
 pub mod pairs;
 pub mod parse;
+pub mod pausing;
 pub mod places;
 pub mod random;
 pub mod runs;
@@ -32,6 +34,7 @@ pub mod write_case;
 pub mod writing;
 pub mod writings;
 pub mod written;
+pub mod written_calls;
 pub mod written_lists;
 
 pub use admission::{Lent, Report};

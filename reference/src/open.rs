@@ -67,7 +67,7 @@ fn closed_cells_keep(open: &[bool], fields: usize, old: &[i32], new: &[i32]) -> 
 }
 
 /// Marks the cells that differ in two grids.
-fn mark_changed(changed: &mut [bool], fields: usize, old: &[i32], new: &[i32]) {
+pub fn mark_changed(changed: &mut [bool], fields: usize, old: &[i32], new: &[i32]) {
     let cells = old.chunks(fields).zip(new.chunks(fields));
     for (mark, (old, new)) in changed.iter_mut().zip(cells) {
         *mark |= old != new;

@@ -1,0 +1,145 @@
+//! Runs in a manner: the cases, their answers, and their binary form.
+//!
+//! The binary form. Every number has its lowest byte first, four bytes where
+//! nothing else is said. A case is a run's, with 2 in place of the 0 that it
+//! begins with, and a tail behind it:
+//!
+//! - 2;
+//! - the length of the source, and the source;
+//! - the length of the word table, in words, and of the name list, in records;
+//! - the number of sizes, and the sizes;
+//! - the length of the grid, and its entries;
+//! - the length of scratch, and of the marks;
+//! - the start time and the number of steps, eight bytes each;
+//! - the length of the value list, and the list;
+//! - the manner: 0 full, 1 quiet, 2 pausing, 3 resuming;
+//! - whether rows are counted, 0 or 1; the field's number; the number of counts
+//!   (three times 0 where nothing is lent for counting);
+//! - the marks, one byte each, as many as their length says;
+//! - the counts, as many as their number says.
+//!
+//! The marks are lent in every manner, and are what stands there on entry. On
+//! entry scratch holds what it does in a run's case. Grid, scratch and marks
+//! have at most 4,100 entries each, as have the counts, the list 4,096 bytes.
+//!
+//! A case is answered by one line:
+//!
+//! ```text
+//! number place line cell steps count SCRATCH : g0 g1 .. : m0m1.. : c0 c1 ..
+//! ```
+//!
+//! SCRATCH is `zero`, `same` or `other`, as in a run's line. Behind it stand the
+//! grid, the marks, and the counts as they are left: of the grid and of the
+//! counts each number behind a space, of the marks two hexadecimal digits each,
+//! the first behind a space. So a line without counts ends with a colon.
+
+use crate::admission::Report;
+use crate::case::{began, put_asked, put_u32, report_text, row_text, scratch_on_entry, word};
+use crate::case::{marks_on_entry, RunCase};
+use crate::pausing::{run, Manner};
+
+/// No rooms of a case are longer.
+pub const MOST_ENTRIES: usize = 4_100;
+
+/// A run, its manner, and the marks that are lent.
+#[derive(Clone, Debug)]
+pub struct Call {
+    pub run: RunCase,
+    pub manner: Manner,
+    pub marks: Vec<u8>,
+}
+
+/// What a call left.
+#[derive(Clone, Debug, PartialEq, Eq)]
+pub struct Left {
+    pub report: Report,
+    pub grid: Vec<i32>,
+    pub scratch: &'static str,
+    pub marks: Vec<u8>,
+}
+
+impl Left {
+    /// Whether the run began.
+    pub fn began(&self) -> bool {
+        began(self.report.number)
+    }
+
+    pub fn faulted(&self) -> bool {
+        self.began() && self.report.number != 0
+    }
+}
+
+impl Call {
+    pub fn new(run: RunCase, manner: Manner, marks: Vec<u8>) -> Call {
+        let run = RunCase {
+            marks: marks.len(),
+            ..run
+        };
+        Call { run, manner, marks }
+    }
+
+    /// A call that begins afresh; what stands in its marks is not read.
+    pub fn pausing(run: RunCase) -> Call {
+        let marks = marks_on_entry(run.marks.min(MOST_ENTRIES));
+        Call::new(run, Manner::Pausing, marks)
+    }
+
+    /// The call that resumes this one: source and shape are the same, grid and
+    /// marks as they are left, and the time has moved on by the steps.
+    pub fn resumed(&self, left: &Left, steps: i64, list: &[u8]) -> Call {
+        let run = RunCase {
+            grid: left.grid.clone(),
+            start: self.run.start + i64::from(left.report.steps),
+            steps,
+            ..self.run.clone()
+        };
+        Call::new(run.with_list(list), Manner::Resuming, left.marks.clone())
+    }
+
+    /// The same run in another manner.
+    pub fn in_manner(&self, manner: Manner) -> Call {
+        Call {
+            manner,
+            ..self.clone()
+        }
+    }
+
+    /// Makes the call.
+    pub fn made(&self) -> Left {
+        let mut grid = self.run.grid.clone();
+        let before = scratch_on_entry(self.run.scratch);
+        let mut scratch = before.clone();
+        let mut marks = self.marks.clone();
+        let lent = self.run.lent();
+        let report = run(&lent, self.manner, &mut grid, &mut scratch, &mut marks);
+        Left {
+            report,
+            grid,
+            scratch: word(&scratch, &before, began(report.number)),
+            marks,
+        }
+    }
+}
+
+/// The line that answers a call.
+pub fn call_line(left: &Left) -> String {
+    let report = report_text(&left.report);
+    let grid = row_text(&left.grid);
+    let marks: String = left
+        .marks
+        .iter()
+        .map(|mark| format!("{mark:02x}"))
+        .collect();
+    format!("{report} {} :{grid} : {marks} :\n", left.scratch)
+}
+
+/// The binary form of a call.
+pub fn put_call(out: &mut Vec<u8>, call: &Call) {
+    put_u32(out, 2);
+    put_asked(out, &call.run);
+    put_u32(out, call.manner as u32);
+    for none in [0, 0, 0] {
+        put_u32(out, none);
+    }
+    out.extend_from_slice(&call.marks);
+}
