@@ -38,7 +38,7 @@ const RULES: [&str; 20] = [
 ];
 
 /// A run of one of these rules on few cells.
-fn of_rule(random: &mut Random) -> RunCase {
+pub fn of_rule(random: &mut Random) -> RunCase {
     let source = random.pick(&RULES).as_bytes().to_vec();
     let program = check(&source).program.expect("a rule");
     let most = [7, 3, 2][program.dimensions - 1];
@@ -50,7 +50,8 @@ fn of_rule(random: &mut Random) -> RunCase {
     RunCase::new(source, &shape, grid, random.between(0, 3), steps)
 }
 
-fn admitted(case: &RunCase, program: &Program) -> bool {
+/// Whether a run is admitted, its list aside.
+pub fn admitted(case: &RunCase, program: &Program) -> bool {
     let asked = Asked {
         shape: &case.shape,
         grid: &case.grid,

@@ -218,6 +218,26 @@ pub fn read_list(text: &[u8], limits: &Limits) -> Result<Vec<Block>, BadLine> {
     Ok(blocks)
 }
 
+/// The times of a list that passes, each with the position of its line's first
+/// byte.
+pub fn times_of(text: &[u8]) -> Vec<(i64, usize)> {
+    let mut times = Vec::new();
+    let mut at = 0;
+    for line in text.split_inclusive(|byte| matches!(byte, b'\n' | b'\r')) {
+        if let Some(Said::Time(time)) = said(&line[..line.len() - 1]) {
+            times.push((time, at));
+        }
+        at += line.len();
+    }
+    times
+}
+
+/// The front of a list that passes, up to the block of a time.
+pub fn before_time(text: &[u8], time: i64) -> &[u8] {
+    let later = times_of(text).into_iter().find(|&(found, _)| found >= time);
+    &text[..later.map_or(text.len(), |(_, at)| at)]
+}
+
 /// The blocks of a run that are still to be set.
 pub struct Waiting {
     blocks: std::iter::Peekable<std::vec::IntoIter<Block>>,

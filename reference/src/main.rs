@@ -1,8 +1,8 @@
 //! The program: `reference SUBCOMMAND ...`; see `USAGE`.
 
 use reference::case::{check_answer, check_line, put_check, put_run, run_case, run_lines, RunCase};
-use reference::places::places;
-use reference::write_case::{put_writing, write_case, writing_line};
+use reference::coverage::coverage;
+use reference::write_case::{put_writing, writing_line};
 use reference::{check, json, vectors, Report};
 use std::io::{self, BufWriter, Read, Write};
 use std::path::Path;
@@ -243,129 +243,12 @@ fn verify(root: &Path) -> io::Result<ExitCode> {
     Ok(ExitCode::SUCCESS)
 }
 
-/// How often something was seen in generated runs.
-#[derive(Default)]
-struct Seen {
-    quieter: usize,
-    shorter: usize,
-    many: usize,
-    /// Runs with a list that leave another grid without it, that evaluate
-    /// other cells without it, and that fault and leave another grid.
-    changed: usize,
-    opened: usize,
-    left: usize,
-}
-
-/// Runs a case full and quiet, and gives the number.
-fn see_run(case: &RunCase, seen: &mut Seen) -> u32 {
-    let outcome = run_case(case, false);
-    let (full, quiet) = (outcome.report, run_case(case, true).report);
-    if quiet.count < full.count {
-        seen.quieter += 1;
-    }
-    if full.number != 0 && !(30..40).contains(&full.number) {
-        return full.number;
-    }
-    if !case.values.is_empty() {
-        let bare = case.clone().with_list(&[]);
-        let without = run_case(&bare, false).grid != outcome.grid;
-        seen.changed += usize::from(without);
-        seen.opened += usize::from(run_case(&bare, true).report.count != quiet.count);
-        seen.left += usize::from(without && full.number != 0);
-    }
-    let Some(program) = check(&case.source).program else {
-        return full.number;
-    };
-    let widths = program.bounds().into_iter();
-    let vectors: i64 = widths
-        .map(|bound| i64::from(bound.1) - i64::from(bound.0) + 1)
-        .product();
-    match places(&program) {
-        Some(list) => seen.shorter += usize::from((list.len() as i64) < vectors),
-        None => seen.many += 1,
-    }
-    full.number
-}
-
 fn count_replies(seed: u64, count: usize) -> io::Result<ExitCode> {
-    let [mut checks, mut runs, mut lists, mut writings] = [[0usize; 64]; 4];
-    for source in vectors::checks(seed, count, false) {
-        checks[check(&source).reply.number as usize] += 1;
-    }
-    let mut seen = Seen::default();
-    for case in vectors::runs(seed, count / 10, false) {
-        runs[see_run(&case, &mut seen) as usize] += 1;
-    }
-    for case in vectors::lists(seed, count / 10, false) {
-        lists[see_run(&case, &mut seen) as usize] += 1;
-    }
-    for case in vectors::writings(seed, count / 10) {
-        writings[write_case(&case).0.number as usize] += 1;
-    }
-    println!("number checks runs lists writings");
-    for number in 0..64 {
-        let each = [&checks, &runs, &lists, &writings].map(|row| row[number]);
-        if each != [0; 4] {
-            println!("{number} {} {} {} {}", each[0], each[1], each[2], each[3]);
-        }
-    }
-    println!(
-        "runs whose quiet count is less than the full one: {}",
-        seen.quieter
-    );
-    println!(
-        "runs that begin, with fewer places than the box: {}",
-        seen.shorter
-    );
-    println!("runs that begin, with more than 256 places: {}", seen.many);
-    println!("runs whose list changes what is left: {}", seen.changed);
-    println!("runs whose list changes the quiet count: {}", seen.opened);
-    println!(
-        "runs that fault, whose list changes what is left: {}",
-        seen.left
-    );
-    let rows: [(&str, &[usize; 64], Vec<usize>); 4] = [
-        (
-            "checks",
-            &checks,
-            [0].into_iter()
-                .chain(2..=9)
-                .chain(12..=15)
-                .chain(40..=45)
-                .collect(),
-        ),
-        (
-            "runs",
-            &runs,
-            [0].into_iter()
-                .chain(20..=24)
-                .chain(30..=33)
-                .chain(50..=56)
-                .collect(),
-        ),
-        (
-            "lists",
-            &lists,
-            [0].into_iter().chain(30..=33).chain(50..=56).collect(),
-        ),
-        (
-            "writings",
-            &writings,
-            [0, 1].into_iter().chain(20..=24).chain([57]).collect(),
-        ),
-    ];
-    let mut missing = false;
-    for (what, found, wanted) in rows {
-        for number in wanted {
-            if found[number] == 0 {
-                println!("never among {what}: {number}");
-                missing = true;
-            }
-        }
-    }
-    Ok(if missing {
-        ExitCode::from(1)
-    } else {
+    let (text, complete) = coverage(seed, count);
+    print!("{text}");
+    Ok(if complete {
         ExitCode::SUCCESS
+    } else {
+        ExitCode::from(1)
     })
 }

@@ -1,11 +1,14 @@
 //! The stored vectors, and rows of generated cases.
 
+use crate::call_case::Call;
 use crate::case::{check_answer, put_check, put_run, run_lines, RunCase};
+use crate::chains::{self, Chain};
 use crate::damage::{damage_bytes, damage_tokens, VOCABULARY};
 use crate::generate::{program, Wish};
 use crate::limits;
 use crate::listed;
 use crate::random::Random;
+use crate::resumed;
 use crate::runs;
 use crate::soup::{soup, HALVES};
 use crate::spelled;
@@ -102,6 +105,18 @@ pub fn lists(seed: u64, count: usize, small: bool) -> impl Iterator<Item = RunCa
 pub fn writings(seed: u64, count: usize) -> impl Iterator<Item = WriteCase> {
     let mut random = Random::new(seed.wrapping_add(1 << 44));
     (0..count).map(move |_| writings::any(&mut random))
+}
+
+/// Generated chains of calls, in order.
+pub fn chains(seed: u64, count: usize, small: bool) -> impl Iterator<Item = Chain> {
+    let mut random = Random::new(seed.wrapping_add(1 << 45));
+    (0..count).map(move |_| chains::any(&mut random, small))
+}
+
+/// Generated runs that are resumed with any marks, in order.
+pub fn resumed(seed: u64, count: usize, small: bool) -> impl Iterator<Item = Call> {
+    let mut random = Random::new(seed.wrapping_add(1 << 46));
+    (0..count).map(move |_| resumed::any(&mut random, small))
 }
 
 /// Sources from the papers' own examples.

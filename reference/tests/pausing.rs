@@ -188,3 +188,38 @@ fn standing_marks_are_the_next_open_cells() {
     }
     assert!(seen > 500, "{seen}");
 }
+
+/// Chains give what the run at once gives.
+#[test]
+fn chains_join() {
+    let (mut claimed, mut quieter, mut faulted) = (0, 0, 0);
+    let chains = vectors::chains(24, 4_000, false).chain(vectors::chains(25, 4_000, true));
+    for chain in chains {
+        assert!((1..=5).contains(&chain.calls.len()));
+        let lists: Vec<&[u8]> = chain
+            .calls
+            .iter()
+            .map(|call| &call.run.values[..])
+            .collect();
+        let text = String::from_utf8_lossy(&chain.whole.run.source);
+        assert!(chain.whole_left.began(), "{text}");
+        assert!(chain.joins(), "{text} {:?}", chain.calls);
+        if !chain.claimed() {
+            continue;
+        }
+        claimed += 1;
+        assert_eq!(lists.concat(), chain.whole.run.values);
+        faulted += usize::from(chain.whole_left.faulted());
+        // A chain that leads back to a fresh run agrees with the full run.
+        if chain.whole.manner == Manner::Pausing {
+            let full = chain.whole.in_manner(Manner::Full).made();
+            let together = chain.together();
+            assert_eq!(together.grid, full.grid);
+            assert!(together.report.count <= full.report.count);
+            quieter += usize::from(together.report.count < full.report.count);
+        }
+    }
+    assert!(claimed > 6_000, "{claimed}");
+    assert!(quieter > 2_000, "{quieter}");
+    assert!(faulted > 300, "{faulted}");
+}
