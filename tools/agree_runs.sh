@@ -1,9 +1,11 @@
 #!/usr/bin/env bash
-# Compares the proved runs, full and quiet, and the proved writer with the second program on generated cases, and says how many agreed.
+# Compares the proved runs, full and quiet, paused and resumed, and the proved writer with the second program on generated cases, and says how many
+# agreed.
 #
-#     tools/agree_runs.sh SEED COUNT [runs|lists|writings]
+#     tools/agree_runs.sh SEED COUNT [runs|lists|writings|chains|resumed]
 #
-# COUNT cases of each kind, or of the kind named: runs, of which half have a list; runs whose list is at a limit or damaged in most cases; writings.
+# COUNT cases of each kind, or of the kind named: runs, of which half have a list; runs whose list is at a limit or damaged in most cases; writings;
+# chains of calls that resume one another, each chain with the run at once that it has to equal; runs that are resumed with any marks.
 # Needs `rt check run_vectors` to have been run, which leaves the program in target/bin.
 set -euo pipefail
 cd "$(dirname "$0")/.."
@@ -13,15 +15,19 @@ cargo build --quiet --release --offline --manifest-path reference/Cargo.toml
 reference=reference/target/release/reference
 work=$(mktemp -d)
 trap 'rm -r "$work"' EXIT
-for kind in ${3:-runs lists writings}; do
+for kind in ${3:-runs lists writings chains resumed}; do
     "$reference" stream "$kind" "$seed" "$count" | target/bin/run_vectors >"$work/proved"
     "$reference" stream "$kind" "$seed" "$count" --replies >"$work/second"
     cmp "$work/proved" "$work/second"
+    lines=$(wc -l <"$work/proved")
+    expected=$count
     case $kind in
-    writings) said='writings agreed' lines=1 ;;
-    lists) said='runs with lists agreed, full and quiet' lines=2 ;;
-    *) said='runs agreed, full and quiet' lines=2 ;;
+    writings) said='writings agreed' ;;
+    chains) said="chains of $((lines - count)) calls agreed, and with each the run at once" expected=$((lines < 2 * count ? 2 * count : lines)) ;;
+    resumed) said='resumed runs agreed' ;;
+    lists) said='runs with lists agreed, full and quiet' expected=$((2 * count)) ;;
+    *) said='runs agreed, full and quiet' expected=$((2 * count)) ;;
     esac
-    [ "$(wc -l <"$work/proved")" = "$((lines * count))" ]
+    [ "$lines" = "$expected" ]
     echo "$count $said (seed $seed)"
 done

@@ -1,5 +1,6 @@
 //! The program: `reference SUBCOMMAND ...`; see `USAGE`.
 
+use reference::call_case::{call_line, put_call};
 use reference::case::{check_answer, check_line, put_check, put_run, run_case, run_lines, RunCase};
 use reference::coverage::coverage;
 use reference::write_case::{put_writing, writing_line};
@@ -14,11 +15,14 @@ usage: reference check                        one source on standard input
        reference answer                       sources on standard input, as in the vectors of checks
        reference run FILE                     one run, as JSON
        reference cases checks|runs|lists SEED COUNT [--small]
-       reference stream checks|runs|lists|writings SEED COUNT [--small] [--replies]
+       reference stream checks|runs|lists|writings|chains|resumed SEED COUNT [--small] [--replies]
        reference vectors DIR
        reference verify ROOT
        reference count SEED COUNT
 ";
+
+/// The kinds of cases that are streamed.
+const STREAMS: [&str; 6] = ["checks", "runs", "lists", "writings", "chains", "resumed"];
 
 fn main() -> ExitCode {
     let mut words: Vec<String> = std::env::args().skip(1).collect();
@@ -41,12 +45,10 @@ fn main() -> ExitCode {
                 None => return usage(),
             }
         }
-        ["stream", what @ ("checks" | "runs" | "lists" | "writings"), seed, count] => {
-            match numbers(seed, count) {
-                Some((seed, count)) => stream(what, seed, count, small, replies),
-                None => return usage(),
-            }
-        }
+        ["stream", what, seed, count] if STREAMS.contains(what) => match numbers(seed, count) {
+            Some((seed, count)) => stream(what, seed, count, small, replies),
+            None => return usage(),
+        },
         ["vectors", folder] => write_vectors(Path::new(folder)),
         ["verify", root] => verify(Path::new(root)),
         ["count", seed, count] => match numbers(seed, count) {
@@ -160,7 +162,8 @@ fn cases(what: &str, seed: u64, count: usize, small: bool) -> io::Result<ExitCod
     Ok(ExitCode::SUCCESS)
 }
 
-/// Generated cases in their binary form, or the lines that answer them.
+/// Generated cases in their binary form, or the lines that answer them. Of a
+/// chain the calls come first, then the run at once.
 fn stream(what: &str, seed: u64, count: usize, small: bool, replies: bool) -> io::Result<ExitCode> {
     let mut out = BufWriter::new(io::stdout().lock());
     let mut put = |binary: &dyn Fn(&mut Vec<u8>), line: &dyn Fn() -> String| {
@@ -183,6 +186,21 @@ fn stream(what: &str, seed: u64, count: usize, small: bool, replies: bool) -> io
         "writings" => {
             for case in vectors::writings(seed, count) {
                 put(&|bytes| put_writing(bytes, &case), &|| writing_line(&case))?;
+            }
+        }
+        "chains" => {
+            for chain in vectors::chains(seed, count, small) {
+                for (call, left) in chain.all() {
+                    put(&|bytes| put_call(bytes, call), &|| call_line(left))?;
+                }
+                if !chain.joins() {
+                    return Err(io::Error::other("a chain that does not join"));
+                }
+            }
+        }
+        "resumed" => {
+            for call in vectors::resumed(seed, count, small) {
+                put(&|bytes| put_call(bytes, &call), &|| call_line(&call.made()))?;
             }
         }
         _ => {
@@ -209,8 +227,8 @@ fn write_vectors(folder: &Path) -> io::Result<ExitCode> {
         println!("{name}: {} bytes", content.len());
     }
     println!(
-        "{} checks, {} runs, {} writings",
-        files.checks, files.runs, files.writings
+        "{} checks, {} runs, {} writings, {} runs in a manner",
+        files.checks, files.runs, files.writings, files.calls
     );
     Ok(ExitCode::SUCCESS)
 }

@@ -1,6 +1,6 @@
 //! The stored vectors, and rows of generated cases.
 
-use crate::call_case::Call;
+use crate::call_case::{call_line, put_call, Call};
 use crate::case::{check_answer, put_check, put_run, run_lines, RunCase};
 use crate::chains::{self, Chain};
 use crate::damage::{damage_bytes, damage_tokens, VOCABULARY};
@@ -16,6 +16,7 @@ use crate::text::{any_style, write, Style};
 use crate::write_case::{put_writing, writing_line, WriteCase};
 use crate::writings;
 use crate::written;
+use crate::written_calls;
 use crate::written_lists;
 
 /// A generated source. In `small` ones there are at most about 120 tokens.
@@ -223,6 +224,25 @@ pub fn stored_writings() -> Vec<WriteCase> {
     row
 }
 
+/// The kinds of cases that are stored. A kind is stored once the proved program
+/// reads it: the files are written again by `reference vectors`.
+struct Stored {
+    /// Runs in a manner.
+    calls: bool,
+}
+
+const STORED: Stored = Stored { calls: false };
+
+/// The stored runs in a manner.
+pub fn stored_calls() -> Vec<Call> {
+    let mut row = written_calls::calls();
+    for chain in chains(31, 22, true) {
+        row.extend(chain.all().map(|(call, _)| call.clone()));
+    }
+    row.extend(resumed(32, 90, true));
+    row
+}
+
 /// The files of vectors.
 pub struct Files {
     pub check_in: Vec<u8>,
@@ -232,12 +252,18 @@ pub struct Files {
     pub checks: usize,
     pub runs: usize,
     pub writings: usize,
+    pub calls: usize,
 }
 
 pub fn files() -> Files {
     let checks = stored_checks();
     let runs = stored_runs();
     let writings = stored_writings();
+    let calls = if STORED.calls {
+        stored_calls()
+    } else {
+        Vec::new()
+    };
     let mut files = Files {
         check_in: Vec::new(),
         check_out: Vec::new(),
@@ -246,6 +272,7 @@ pub fn files() -> Files {
         checks: checks.len(),
         runs: runs.len(),
         writings: writings.len(),
+        calls: calls.len(),
     };
     for source in &checks {
         put_check(&mut files.check_in, source);
@@ -258,6 +285,10 @@ pub fn files() -> Files {
     for case in &writings {
         put_writing(&mut files.run_in, case);
         files.run_out.extend(writing_line(case).bytes());
+    }
+    for call in &calls {
+        put_call(&mut files.run_in, call);
+        files.run_out.extend(call_line(&call.made()).bytes());
     }
     files
 }

@@ -1,7 +1,7 @@
 //! Pausing and resuming: the cases worked out in the papers, and properties
 //! over generated calls.
 
-use reference::call_case::{call_line, Call, Left};
+use reference::call_case::{call_line, put_call, Call, Left, MOST_ENTRIES};
 use reference::case::{marks_on_entry, run_case, RunCase};
 use reference::pausing::Manner;
 use reference::vectors;
@@ -222,4 +222,84 @@ fn chains_join() {
     assert!(claimed > 6_000, "{claimed}");
     assert!(quieter > 2_000, "{quieter}");
     assert!(faulted > 300, "{faulted}");
+}
+
+/// Reads numbers and bytes off the front of a case's binary form.
+struct Front<'a>(&'a [u8]);
+
+impl Front<'_> {
+    fn bytes(&mut self, length: usize) -> Vec<u8> {
+        let (front, rest) = self.0.split_at(length);
+        self.0 = rest;
+        front.to_vec()
+    }
+
+    fn number(&mut self) -> u32 {
+        let bytes = self.bytes(4);
+        u32::from_le_bytes(bytes.try_into().unwrap())
+    }
+
+    fn long(&mut self) -> i64 {
+        let bytes = self.bytes(8);
+        i64::from_le_bytes(bytes.try_into().unwrap())
+    }
+
+    fn counted_bytes(&mut self) -> Vec<u8> {
+        let length = self.number() as usize;
+        self.bytes(length)
+    }
+
+    fn row(&mut self) -> Vec<u32> {
+        let length = self.number();
+        (0..length).map(|_| self.number()).collect()
+    }
+
+    /// A call, as its binary form is described.
+    fn call(&mut self) -> Call {
+        assert_eq!(self.number(), 2);
+        let source = self.counted_bytes();
+        let [words, names] = [self.number(), self.number()].map(|length| length as usize);
+        let shape = self.row();
+        let grid = self.row().into_iter().map(|entry| entry as i32).collect();
+        let [scratch, marks] = [self.number(), self.number()].map(|length| length as usize);
+        let [start, steps] = [self.long(), self.long()];
+        let values = self.counted_bytes();
+        let manner = Manner::ALL[self.number() as usize];
+        assert_eq!([self.number(), self.number(), self.number()], [0, 0, 0]);
+        let run = RunCase {
+            source,
+            words,
+            names,
+            shape,
+            grid,
+            scratch,
+            marks,
+            start,
+            steps,
+            values,
+        };
+        Call::new(run, manner, self.bytes(marks))
+    }
+}
+
+#[test]
+fn calls_are_read_back() {
+    let mut calls = vectors::stored_calls();
+    calls.extend(vectors::resumed(26, 2_000, false));
+    let mut bytes = Vec::new();
+    for call in &calls {
+        put_call(&mut bytes, call);
+    }
+    let mut front = Front(&bytes);
+    for call in &calls {
+        let again = front.call();
+        assert_eq!(format!("{again:?}"), format!("{call:?}"));
+        assert_eq!(again.made(), call.made());
+        let rooms = [call.run.grid.len(), call.run.scratch, call.marks.len()];
+        assert!(rooms.iter().all(|&length| length <= MOST_ENTRIES));
+        assert!(call.run.values.len() <= 4_096 && call.run.shape.len() <= 8);
+        assert!(call.run.words <= 16_400 && call.run.names <= 1_024);
+        assert!(call_line(&call.made()).len() < 32_768);
+    }
+    assert!(front.0.is_empty());
 }
