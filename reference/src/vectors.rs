@@ -231,7 +231,7 @@ struct Stored {
     calls: bool,
 }
 
-const STORED: Stored = Stored { calls: false };
+const STORED: Stored = Stored { calls: true };
 
 /// The stored runs in a manner.
 pub fn stored_calls() -> Vec<Call> {
