@@ -15,13 +15,12 @@ fn answer_kind(
     sizes: &[u32],
     length: u32,
 ) -> bool {
-    if kind == 0 {
-        return answer_grid(source, words, names, sizes, length);
+    match kind {
+        0 => answer_grid(false, source, words, names, sizes, length),
+        1 => answer_earlier(source, words, names, sizes, length),
+        2 => answer_grid(true, source, words, names, sizes, length),
+        _ => false,
     }
-    if kind == 1 {
-        return answer_earlier(source, words, names, sizes, length);
-    }
-    false
 }
 
 // Reads the sizes and the length of the grid.

@@ -1,4 +1,4 @@
-// The line of a run, and of a writing. What no longer fits is left out.
+// The line of a run, of a run in a manner, and of a writing. What no longer fits is left out.
 use crate::rooms::Left;
 use iteration::Report;
 use libc::STDOUT_FILENO;
@@ -95,6 +95,20 @@ pub fn write_run(report: Report, scratch: Left, marks: Left, grid: &[i32]) -> bo
     let e = put_values(line, d, grid);
     let f = put_byte(line, e, b'\n');
     write_front(line, f)
+}
+
+// Writes the line of a run in a manner to standard output, and says whether it could.
+pub fn write_call(report: Report, scratch: Left, grid: &[i32], marks: &[u8]) -> bool {
+    let mut room = io::large_buffer();
+    let line: &mut [u8] = &mut room;
+    let a = put_report(line, report);
+    let b = put_left(line, a, scratch);
+    let c = put_byte(line, b, b':');
+    let d = put_values(line, c, grid);
+    let e = put_text(line, d, b" : ");
+    let f = put_bytes(line, e, marks);
+    let g = put_text(line, f, b" :\n");
+    write_front(line, g)
 }
 
 // Writes the line of a writing to standard output, and says whether it could.

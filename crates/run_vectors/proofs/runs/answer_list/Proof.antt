@@ -20,11 +20,11 @@ returns-2 c = search needs
 array-share-prefix-room : tie.Need-array-share-prefix-room
 array-share-prefix-room c = search needs
 
-slice-aggregate-answer-both : tie.Need-slice-aggregate-answer-both
-slice-aggregate-answer-both c = sym (length-take-le _ _ (omega arith))
+slice-aggregate-answer-asked : tie.Need-slice-aggregate-answer-asked
+slice-aggregate-answer-asked c = sym (length-take-le _ _ (omega arith))
 
-answer-both-requires : tie.Need-answer-both-requires
-answer-both-requires c κs = search needs
+answer-asked-requires : tie.Need-answer-asked-requires
+answer-asked-requires c κs = search needs
 
 returns-3 : tie.Need-returns-3
 returns-3 c = search needs
@@ -38,6 +38,6 @@ answer-list-spec =
     read-part-requires
     returns-2
     array-share-prefix-room
-    slice-aggregate-answer-both
-    answer-both-requires
+    slice-aggregate-answer-asked
+    answer-asked-requires
     returns-3)

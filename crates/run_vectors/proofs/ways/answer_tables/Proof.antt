@@ -2,8 +2,8 @@ use mathlib.Core.Path.{sym}
 use native.Mathlib.Omega.{arith}
 use lib.Seq.{length-take-le}
 use borrow.Author.Needs.{needs}
-use Rattle.run_vectors.proofs.runs.answer_tables.Statement.{statement}
-use Rattle.run_vectors.proofs.runs.answer_tables.Tie as tie
+use Rattle.run_vectors.proofs.ways.answer_tables.Statement.{statement}
+use Rattle.run_vectors.proofs.ways.answer_tables.Tie as tie
 
 returns : tie.Need-returns
 returns c = search needs

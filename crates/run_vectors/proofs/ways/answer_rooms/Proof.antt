@@ -2,8 +2,8 @@ use mathlib.Core.Path.{sym}
 use native.Mathlib.Omega.{arith}
 use lib.Seq.{length-take-le}
 use borrow.Author.Needs.{needs}
-use Rattle.run_vectors.proofs.runs.answer_rooms.Statement.{statement}
-use Rattle.run_vectors.proofs.runs.answer_rooms.Tie as tie
+use Rattle.run_vectors.proofs.ways.answer_rooms.Statement.{statement}
+use Rattle.run_vectors.proofs.ways.answer_rooms.Tie as tie
 
 returns : tie.Need-returns
 returns c = search needs
