@@ -65,7 +65,7 @@ fn base(random: &mut Random, small: bool) -> RunCase {
         if random.chance(85) {
             case.steps = random.between(2, 9);
         }
-        case.start = case.start.min(GREATEST - case.steps);
+        case.start = case.start.min(GREATEST.saturating_sub(case.steps));
         if random.chance(40) {
             calm(random, &mut case, program.fields.len());
         }
