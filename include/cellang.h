@@ -1,5 +1,6 @@
 /*
- * Checking and running correction rules written in Cellang, setting and writing values by timed lists, and comparing grids.
+ * Checking and running correction rules written in Cellang, setting and writing values by timed lists, pausing and resuming runs, and
+ * comparing grids.
  *
  * Link libcellang.a (x86-64 Linux). It needs memset and nothing else, allocates nothing and keeps
  * nothing between calls; calls on different memory may run at the same time. A run takes about
@@ -139,6 +140,7 @@ enum cellang_reply {
  *   0         the program, then zero  after all steps           zero, even after 0 steps
  *
  * In a run with a value list the block of the faulting step's time is set too (30 to 33), or that of the time behind the last step (0).
+ * cellang_run_pausing and cellang_run_resuming leave the same but for the marks at 0, which stand (see there).
  * The writer leaves words and names as a run does; at 57 they hold the program.
  */
 
@@ -262,6 +264,64 @@ uint32_t cellang_run_full_list(
     uint64_t *report, size_t report_length);
 
 uint32_t cellang_run_quiet_list(
+    const uint8_t *source, size_t source_length,
+    const uint8_t *list, size_t list_length,
+    uint32_t *words, size_t words_length,
+    uint32_t *names, size_t names_length,
+    const uint32_t *shape, size_t shape_length,
+    int32_t *grid, size_t grid_length,
+    int32_t *scratch, size_t scratch_length,
+    uint8_t *marks, size_t marks_length,
+    const uint8_t *values, size_t values_length,
+    int64_t start, int64_t steps,
+    uint64_t *report, size_t report_length);
+
+/* ---- pausing and resuming */
+
+/*
+ * A quiet run made in several calls: each leaves its marks standing, and the next one goes on from them. Both functions are as
+ * cellang_run_quiet_list, with the same arguments and replies, but for the marks, which are still one byte a cell:
+ *
+ *                         marks before                 after 0    after 30 to 33  after any other reply
+ *   cellang_run_pausing   do not matter                standing   zero            as they were
+ *   cellang_run_resuming  not 0 for an open cell       standing   zero            as they were
+ *
+ * In the first step of cellang_run_pausing all cells are open. In the first step of cellang_run_resuming those are open whose mark is not 0,
+ * those within whose reach the block of the start time changed a cell, and where `time` stands in the source all. The later steps are those of
+ * every quiet run.
+ *
+ * Standing marks are 1 for a cell that would be open in one more step, else 0, also after 0 steps. They include what the block of the time
+ * behind the last step opens.
+ *
+ * Two calls are joined if
+ *
+ *   - the earlier is either of the two and gave 0, and the later is cellang_run_resuming and is admitted;
+ *   - source and shape are the same, and grid and marks are as the earlier call left them;
+ *   - the later start is the earlier start plus the earlier steps;
+ *   - the times of the earlier value list, and then of the later one, rise strictly: a block of the time between them is in one of the lists.
+ *
+ * Joined calls of n and of m steps give what one call of n + m steps gives that begins as the earlier one, with the bytes of both lists, one
+ * behind the other: the same reply, place, cell, grid and marks, where steps and count are the sums. So do more calls, each joined to the one
+ * before it. If the first is cellang_run_pausing, their reply, place, cell, steps and grid are those of the full run, and the count is at most the
+ * full one.
+ *
+ * cellang_run_resuming takes any marks. Where they do not come from joined calls that begin with cellang_run_pausing, the run is as said above, and
+ * cells that are not open keep their fields, but it need not agree with the full run. A call that faulted is joined to no later one.
+ */
+uint32_t cellang_run_pausing(
+    const uint8_t *source, size_t source_length,
+    const uint8_t *list, size_t list_length,
+    uint32_t *words, size_t words_length,
+    uint32_t *names, size_t names_length,
+    const uint32_t *shape, size_t shape_length,
+    int32_t *grid, size_t grid_length,
+    int32_t *scratch, size_t scratch_length,
+    uint8_t *marks, size_t marks_length,
+    const uint8_t *values, size_t values_length,
+    int64_t start, int64_t steps,
+    uint64_t *report, size_t report_length);
+
+uint32_t cellang_run_resuming(
     const uint8_t *source, size_t source_length,
     const uint8_t *list, size_t list_length,
     uint32_t *words, size_t words_length,

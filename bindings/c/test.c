@@ -1,5 +1,5 @@
-/* Calls the library from C: the marked examples M1 to M13, spellings, value lists and their writer, comparisons of grids, and what the lent
- * memory holds afterwards. */
+/* Calls the library from C: the marked examples M1 to M13, spellings, value lists and their writer, runs that are paused and resumed,
+ * comparisons of grids, and what the lent memory holds afterwards. */
 #ifndef _DEFAULT_SOURCE
 #define _DEFAULT_SOURCE /* for mmap of memory without a file */
 #endif
@@ -67,14 +67,21 @@ typedef uint32_t list_run_call(const uint8_t *, size_t, const uint8_t *, size_t,
                                const uint32_t *, size_t, int32_t *, size_t, int32_t *, size_t, uint8_t *, size_t, const uint8_t *,
                                size_t, int64_t, int64_t, uint64_t *, size_t);
 
+/* The runs that take a value list. The last two leave their marks standing, and the last one begins from lent marks. */
+#define LIST_RUNS 4
+static list_run_call *const list_runs[LIST_RUNS] = {cellang_run_full_list, cellang_run_quiet_list, cellang_run_pausing,
+                                                    cellang_run_resuming};
+
+static int began(uint64_t number) {
+    return number == CELLANG_DONE || (number >= CELLANG_RESULT_OUT_OF_RANGE && number <= CELLANG_VALUE_OUTSIDE_FIELD);
+}
+
 /* Runs a source on a row of cells of one field each. */
 static void expect_run(const char *what, run_call *run, const char *source, const int32_t *before, uint32_t cells,
                        int64_t start, int64_t steps, const struct expected *after) {
     uint64_t report[CELLANG_REPORT_LENGTH];
     uint32_t given;
-    int faulted = after->report[0] >= CELLANG_RESULT_OUT_OF_RANGE && after->report[0] <= CELLANG_VALUE_OUTSIDE_FIELD;
-    int began = after->report[0] == CELLANG_DONE || faulted;
-    uint8_t left = began ? 0 : UNTOUCHED;
+    uint8_t left = began(after->report[0]) ? 0 : UNTOUCHED;
     memcpy(grid, before, cells * sizeof *grid);
     memset(scratch, UNTOUCHED, sizeof scratch);
     memset(marks, UNTOUCHED, sizeof marks);
@@ -188,7 +195,6 @@ static void another_list(void) {
         uint32_t reply[CELLANG_REPLY_LENGTH];
         uint64_t report[CELLANG_REPORT_LENGTH];
         run_call *runs[] = {cellang_run_full, cellang_run_quiet};
-        list_run_call *listed[] = {cellang_run_full_list, cellang_run_quiet_list};
         memset(words, UNTOUCHED, sizeof words);
         memset(names, UNTOUCHED, sizeof names);
         memset(grid, UNTOUCHED, sizeof grid);
@@ -203,9 +209,11 @@ static void another_list(void) {
                            CELLANG_NAME_WORDS, shape, 1, grid, 1, scratch, 1, marks, 1, 0, 1, report, CELLANG_REPORT_LENGTH)
                        == CELLANG_ROOM_LENGTH, "another list in a run");
             expect(memcmp(report, told_of_run, sizeof told_of_run) == 0, "another list in a run is told");
-            expect(listed[k]((const uint8_t *)source, strlen(source), list, strlen(lists[i]), words, CELLANG_WORDS, names,
-                             CELLANG_NAME_WORDS, shape, 1, grid, 1, scratch, 1, marks, 1, (const uint8_t *)"x", 1, 0, 1, report,
-                             CELLANG_REPORT_LENGTH) == CELLANG_ROOM_LENGTH, "another list beside a value list");
+        }
+        for (size_t k = 0; k < LIST_RUNS; k++) {
+            expect(list_runs[k]((const uint8_t *)source, strlen(source), list, strlen(lists[i]), words, CELLANG_WORDS, names,
+                                CELLANG_NAME_WORDS, shape, 1, grid, 1, scratch, 1, marks, 1, (const uint8_t *)"x", 1, 0, 1, report,
+                                CELLANG_REPORT_LENGTH) == CELLANG_ROOM_LENGTH, "another list beside a value list");
             expect(memcmp(report, told_of_run, sizeof told_of_run) == 0, "another list beside a value list is told");
         }
         expect(cellang_write_list((const uint8_t *)source, strlen(source), list, strlen(lists[i]), words, CELLANG_WORDS, names,
@@ -240,6 +248,10 @@ static void lengths(void) {
                == CELLANG_ROOM_LENGTH, "nothing lent to a run");
     expect(cellang_run_full_list(NULL, 0, NULL, 0, NULL, 0, NULL, 0, NULL, 0, NULL, 0, NULL, 0, NULL, 0, NULL, 0, 0, 0, NULL, 0)
                == CELLANG_ROOM_LENGTH, "nothing lent to a run with a value list");
+    expect(cellang_run_pausing(NULL, 0, NULL, 0, NULL, 0, NULL, 0, NULL, 0, NULL, 0, NULL, 0, NULL, 0, NULL, 0, 0, 0, NULL, 0)
+               == CELLANG_ROOM_LENGTH, "nothing lent to a run that is to be paused");
+    expect(cellang_run_resuming(NULL, 0, NULL, 0, NULL, 0, NULL, 0, NULL, 0, NULL, 0, NULL, 0, NULL, 0, NULL, 0, 0, 0, NULL, 0)
+               == CELLANG_ROOM_LENGTH, "nothing lent to a run that is to be resumed");
     expect(cellang_write_list(NULL, 0, NULL, 0, NULL, 0, NULL, 0, NULL, 0, NULL, 0, NULL, 0, 0, NULL, 0, NULL, 0)
                == CELLANG_ROOM_LENGTH, "nothing lent to the writer");
 }
@@ -259,15 +271,16 @@ static void name_list(void) {
 #define PLANE "2 dimensions of a of -9..9 b of 0..1 c of 0..100 end"
 #define PLANE_ENTRIES 24
 
-/* Runs with a value list on a grid of 2 by 4 cells with three fields, which is zero, from time 3 on, 5 steps. */
+/* Runs with a value list on a grid of 2 by 4 cells with three fields, which is zero, from time 3 on, 5 steps. A list that is refused leaves
+ * the marks as they were in every run. */
 static void expect_list(const char *list, uint32_t number, uint64_t line, const int32_t *left) {
     static const int32_t zero[PLANE_ENTRIES] = {0};
     static uint32_t words_of_check[CELLANG_WORDS], names_of_check[CELLANG_NAME_WORDS];
     const uint32_t shape[] = {2, 4};
-    list_run_call *runs[] = {cellang_run_full_list, cellang_run_quiet_list};
+    const size_t runs = number == CELLANG_DONE ? 2 : LIST_RUNS;
     cellang_check((const uint8_t *)PLANE, strlen(PLANE), LIST, words_of_check, CELLANG_WORDS, names_of_check, CELLANG_NAME_WORDS,
                   NULL, 0);
-    for (size_t k = 0; k < 2; k++) {
+    for (size_t k = 0; k < runs; k++) {
         uint64_t report[CELLANG_REPORT_LENGTH] = {0};
         const uint64_t refused[CELLANG_REPORT_LENGTH] = {number, 0, 0, 0, 0, 0, 0, 0, line};
         int32_t plane[PLANE_ENTRIES] = {0}, plane_scratch[PLANE_ENTRIES];
@@ -277,9 +290,9 @@ static void expect_list(const char *list, uint32_t number, uint64_t line, const 
         memset(plane_marks, UNTOUCHED, sizeof plane_marks);
         memset(words, UNTOUCHED, sizeof words);
         memset(names, UNTOUCHED, sizeof names);
-        given = runs[k]((const uint8_t *)PLANE, strlen(PLANE), LIST, words, CELLANG_WORDS, names, CELLANG_NAME_WORDS, shape, 2,
-                        plane, PLANE_ENTRIES, plane_scratch, PLANE_ENTRIES, plane_marks, 8, (const uint8_t *)list, strlen(list), 3,
-                        5, report, CELLANG_REPORT_LENGTH);
+        given = list_runs[k]((const uint8_t *)PLANE, strlen(PLANE), LIST, words, CELLANG_WORDS, names, CELLANG_NAME_WORDS, shape, 2,
+                             plane, PLANE_ENTRIES, plane_scratch, PLANE_ENTRIES, plane_marks, 8, (const uint8_t *)list,
+                             strlen(list), 3, 5, report, CELLANG_REPORT_LENGTH);
         expect(given == number && report[CELLANG_REPORT_NUMBER] == number && report[CELLANG_REPORT_LINE] == line, list);
         if (number == CELLANG_DONE) {
             expect(report[CELLANG_REPORT_STEPS] == 5, list);
@@ -320,19 +333,20 @@ static void value_lists(void) {
     expect_list("3\n[0, 3] = 5\n[0, 3] = 5\n[0, 4] = 5\n\n", CELLANG_LIST_OUTSIDE_GRID, 4, NULL);
 }
 
-/* Runs with a value list on two cells that count up, from time 5 on. */
+/* Runs with a value list on two cells that count up, from time 5 on; the resumed run begins with both open. */
 static void expect_block(const char *what, const char *list, int64_t steps, const uint64_t *told, int32_t first, int32_t second) {
     const char *source = "1 dimensions of 0..9 cell := cell + 1";
     const uint32_t shape[] = {2};
-    list_run_call *runs[] = {cellang_run_full_list, cellang_run_quiet_list};
-    for (size_t k = 0; k < 2; k++) {
+    for (size_t k = 0; k < LIST_RUNS; k++) {
         uint64_t report[CELLANG_REPORT_LENGTH];
         memset(grid, 0, sizeof grid);
-        expect(runs[k]((const uint8_t *)source, strlen(source), LIST, words, CELLANG_WORDS, names, CELLANG_NAME_WORDS, shape, 1, grid,
-                       2, scratch, 2, marks, 2, (const uint8_t *)list, strlen(list), 5, steps, report, CELLANG_REPORT_LENGTH)
-                   == told[0], what);
+        memset(marks, UNTOUCHED, sizeof marks);
+        expect(list_runs[k]((const uint8_t *)source, strlen(source), LIST, words, CELLANG_WORDS, names, CELLANG_NAME_WORDS, shape, 1,
+                            grid, 2, scratch, 2, marks, 2, (const uint8_t *)list, strlen(list), 5, steps, report,
+                            CELLANG_REPORT_LENGTH) == told[0], what);
         expect(memcmp(report, told, sizeof report) == 0, what);
         expect(grid[0] == first && grid[1] == second, what);
+        expect(all_bytes(marks, 2, k >= 2 && told[0] == CELLANG_DONE), what);
     }
 }
 
@@ -367,6 +381,257 @@ static void report_lengths(void) {
             uint64_t of_plain = i == CELLANG_REPORT_STEPS || i == CELLANG_REPORT_COUNT;
             expect(report[i] == (is_told ? told[i] : UNTOUCHED), "an entry of a report");
             expect(plain[i] == (is_told ? of_plain : UNTOUCHED), "an entry of a report without a list");
+        }
+    }
+}
+
+/* ---- pausing and resuming */
+
+#define SHIFT S "cell := [-1]"
+#define COUNT "1 dimensions of 0..3 cell := cell + 1"
+#define TIME "1 dimensions of 0..9 cell := time"
+#define ROW 5
+#define ANY {UNTOUCHED, UNTOUCHED, UNTOUCHED, UNTOUCHED, UNTOUCHED}
+
+/* A call on a row of cells of one field, and what it is to leave. */
+struct slice {
+    const char *what;
+    list_run_call *run;
+    const char *source;
+    uint32_t cells;
+    int32_t grid[ROW];
+    uint8_t marks[ROW];
+    int64_t start, steps;
+    const char *list;
+    uint64_t report[CELLANG_REPORT_LENGTH];
+    int32_t grid_after[ROW];
+    uint8_t marks_after[ROW];
+};
+
+/* Each "then" begins from the grid and the marks that the call before it leaves. */
+static const struct slice slices[] = {
+    {"pausing, 0 steps", cellang_run_pausing, SHIFT, 5, {1, 0, 0, 0, 0}, ANY, 0, 0, "",
+     {0, 0, 0, 0, 0}, {1, 0, 0, 0, 0}, {1, 1, 1, 1, 1}},
+    {"pausing, 1 step", cellang_run_pausing, SHIFT, 5, {1, 0, 0, 0, 0}, ANY, 0, 1, "",
+     {0, 0, 0, 1, 5}, {0, 1, 0, 0, 0}, {1, 1, 1, 0, 0}},
+    {"then resuming", cellang_run_resuming, SHIFT, 5, {0, 1, 0, 0, 0}, {1, 1, 1, 0, 0}, 1, 1, "",
+     {0, 0, 0, 1, 3}, {0, 0, 1, 0, 0}, {0, 1, 1, 1, 0}},
+    {"one mark", cellang_run_resuming, SHIFT, 5, {1, 0, 0, 0, 0}, {0, 7, 0, 0, 0}, 0, 1, "",
+     {0, 0, 0, 1, 1}, {1, 1, 0, 0, 0}, {0, 1, 1, 0, 0}},
+    {"no mark", cellang_run_resuming, SHIFT, 5, {1, 0, 0, 0, 0}, {0, 0, 0, 0, 0}, 0, 2, "",
+     {0, 0, 0, 2, 0}, {1, 0, 0, 0, 0}, {0, 0, 0, 0, 0}},
+    {"a block in the earlier call", cellang_run_pausing, SHIFT, 5, {1, 0, 0, 0, 0}, ANY, 0, 1, "1\n[3] = 1\n",
+     {0, 0, 0, 1, 5}, {0, 1, 0, 1, 0}, {1, 1, 1, 1, 1}},
+    {"then resuming, without a list", cellang_run_resuming, SHIFT, 5, {0, 1, 0, 1, 0}, {1, 1, 1, 1, 1}, 1, 1, "",
+     {0, 0, 0, 1, 5}, {0, 0, 1, 0, 1}, {1, 1, 1, 1, 1}},
+    {"no block in the earlier call", cellang_run_pausing, SHIFT, 5, {1, 0, 0, 0, 0}, ANY, 0, 1, "",
+     {0, 0, 0, 1, 5}, {0, 1, 0, 0, 0}, {1, 1, 1, 0, 0}},
+    {"then resuming, with the block", cellang_run_resuming, SHIFT, 5, {0, 1, 0, 0, 0}, {1, 1, 1, 0, 0}, 1, 1, "1\n[3] = 1\n",
+     {0, 0, 0, 1, 5}, {0, 0, 1, 0, 1}, {1, 1, 1, 1, 1}},
+    {"resuming, 0 steps and a block", cellang_run_resuming, SHIFT, 5, {0, 0, 1, 0, 0}, {0, 0, 3, 0, 0}, 4, 0, "4\n[0] = 1\n",
+     {0, 0, 0, 0, 0}, {1, 0, 1, 0, 0}, {1, 1, 1, 0, 0}},
+    {"changed and changed back", cellang_run_pausing, SHIFT, 5, {1, 0, 0, 0, 0}, ANY, 0, 1, "1\n[0] = 1\n[1] = 0\n",
+     {0, 0, 0, 1, 5}, {1, 0, 0, 0, 0}, {1, 1, 1, 0, 0}},
+    {"a fault", cellang_run_pausing, COUNT, 3, {0, 2, 1}, ANY, 0, 5, "",
+     {CELLANG_VALUE_OUTSIDE_FIELD, 26, 1, 1, 5}, {1, 3, 2}, {0, 0, 0}},
+    {"time opens all cells", cellang_run_resuming, TIME, 2, {0, 0}, {0, 0}, 1, 2, "",
+     {0, 0, 0, 2, 4}, {2, 2}, {1, 1}},
+
+    /* faults: only open cells fault, and the marks are zero */
+    {"a cell that is not open does not fault", cellang_run_resuming, COUNT, 3, {0, 3, 1}, {200, 0, 1}, 0, 2, "",
+     {0, 0, 0, 2, 4}, {2, 3, 3}, {1, 0, 1}},
+    {"a fault from lent marks", cellang_run_resuming, COUNT, 3, {0, 3, 1}, {0, 5, 1}, 7, 2, "",
+     {CELLANG_VALUE_OUTSIDE_FIELD, 26, 1, 0, 1}, {0, 3, 1}, {0, 0, 0}},
+    {"a fault behind a block", cellang_run_resuming, COUNT, 3, {0, 3, 1}, {1, 0, 0}, 0, 3, "1\n[1] = 2\n2\n[2] = 0\n",
+     {CELLANG_VALUE_OUTSIDE_FIELD, 26, 1, 2, 5}, {2, 3, 0}, {0, 0, 0}},
+
+    /* refusals: nothing is touched */
+    {"sizes", cellang_run_pausing, "2 dimensions of 0..1", 5, {1, 0, 0, 0, 0}, {0, 1, 2, 3, 255}, 0, 1, "",
+     {CELLANG_BAD_SHAPE}, {1, 0, 0, 0, 0}, {0, 1, 2, 3, 255}},
+    {"times", cellang_run_resuming, SHIFT, 5, {1, 0, 0, 0, 0}, {0, 1, 2, 3, 255}, CELLANG_GREATEST_TIME, 1, "",
+     {CELLANG_BAD_TIMES}, {1, 0, 0, 0, 0}, {0, 1, 2, 3, 255}},
+    {"an entry out of range", cellang_run_resuming, SHIFT, 5, {1, 0, 2, 0, 0}, {0, 1, 2, 3, 255}, 0, 1, "",
+     {CELLANG_ENTRY_OUT_OF_RANGE, 2}, {1, 0, 2, 0, 0}, {0, 1, 2, 3, 255}},
+    {"a list that is refused", cellang_run_pausing, SHIFT, 5, {1, 0, 0, 0, 0}, {0, 1, 2, 3, 255}, 0, 1, "0\n[5] = 1\n",
+     {CELLANG_LIST_OUTSIDE_GRID, 0, 0, 0, 0, 0, 0, 0, 2}, {1, 0, 0, 0, 0}, {0, 1, 2, 3, 255}},
+    {"a block of a time gone by", cellang_run_resuming, SHIFT, 5, {1, 0, 0, 0, 0}, {0, 1, 2, 3, 255}, 3, 1, "2\n[0] = 0\n",
+     {CELLANG_LIST_TIME_BEFORE_START, 0, 0, 0, 0, 0, 0, 0, 1}, {1, 0, 0, 0, 0}, {0, 1, 2, 3, 255}},
+};
+
+/* Runs on the row and the marks as they stand. */
+static uint32_t run_slice(list_run_call *run, const char *source, uint32_t cells, uint32_t marks_length, const char *list,
+                          int64_t start, int64_t steps, uint64_t *report) {
+    memset(scratch, UNTOUCHED, sizeof scratch);
+    return run((const uint8_t *)source, strlen(source), LIST, words, CELLANG_WORDS, names, CELLANG_NAME_WORDS, &cells, 1, grid,
+               cells, scratch, cells, marks, marks_length, (const uint8_t *)list, strlen(list), start, steps, report,
+               CELLANG_REPORT_LENGTH);
+}
+
+static void expect_slice(const struct slice *slice) {
+    const uint32_t cells = slice->cells;
+    uint64_t report[CELLANG_REPORT_LENGTH];
+    memcpy(grid, slice->grid, cells * sizeof *grid);
+    memcpy(marks, slice->marks, cells);
+    expect(run_slice(slice->run, slice->source, cells, cells, slice->list, slice->start, slice->steps, report) == slice->report[0],
+           slice->what);
+    expect(memcmp(report, slice->report, sizeof report) == 0, slice->what);
+    expect(memcmp(grid, slice->grid_after, cells * sizeof *grid) == 0, slice->what);
+    expect(memcmp(marks, slice->marks_after, cells) == 0, slice->what);
+    expect(all_bytes(scratch, cells * sizeof *scratch, began(slice->report[0]) ? 0 : UNTOUCHED), slice->what);
+}
+
+/* Marks that are not one a cell are refused, and nothing is touched. */
+static void wrong_marks(void) {
+    const uint64_t refused[CELLANG_REPORT_LENGTH] = {CELLANG_LENT_LENGTH};
+    const uint32_t lengths[] = {0, ROW - 1, ROW + 1};
+    for (size_t i = 0; i < 3; i++) {
+        for (size_t k = 2; k < LIST_RUNS; k++) {
+            uint64_t report[CELLANG_REPORT_LENGTH];
+            memset(grid, 0, sizeof grid);
+            memset(marks, UNTOUCHED, sizeof marks);
+            expect(run_slice(list_runs[k], SHIFT, ROW, lengths[i], "0\n[0] = 1\n", 0, 1, report) == CELLANG_LENT_LENGTH, "21");
+            expect(memcmp(report, refused, sizeof report) == 0, "21 is told");
+            expect(all_bytes(grid, sizeof grid, 0) && all_bytes(marks, sizeof marks, UNTOUCHED)
+                       && all_bytes(scratch, sizeof scratch, UNTOUCHED), "21 touches nothing");
+        }
+    }
+}
+
+/* Every choice of open cells: these take their left neighbour, and the others keep what they have. */
+static void any_marks(void) {
+    const int32_t before[ROW] = {1, 0, 1, 1, 0};
+    for (unsigned choice = 0; choice < 1u << ROW; choice++) {
+        uint64_t told[CELLANG_REPORT_LENGTH] = {0, 0, 0, 1, 0}, report[CELLANG_REPORT_LENGTH];
+        int32_t after[ROW];
+        uint8_t standing[ROW];
+        for (unsigned cell = 0; cell < ROW; cell++) {
+            int open = choice >> cell & 1;
+            grid[cell] = before[cell];
+            marks[cell] = (uint8_t)(open ? 1 + 50 * cell : 0);
+            after[cell] = before[open ? (cell + ROW - 1) % ROW : cell];
+            told[CELLANG_REPORT_COUNT] += (uint64_t)open;
+        }
+        for (unsigned cell = 0; cell < ROW; cell++) {
+            unsigned left = (cell + ROW - 1) % ROW;
+            standing[cell] = before[cell] != after[cell] || before[left] != after[left];
+        }
+        expect(run_slice(cellang_run_resuming, SHIFT, ROW, ROW, "", 0, 1, report) == CELLANG_DONE, "any marks");
+        expect(memcmp(report, told, sizeof report) == 0, "any marks: the report");
+        expect(memcmp(grid, after, sizeof after) == 0, "any marks: the grid");
+        expect(memcmp(marks, standing, sizeof standing) == 0, "any marks: those that stand");
+    }
+}
+
+/* ---- joined calls */
+
+#define JOINED_START 3
+#define JOINED_STEPS 6
+#define JOINED_BLOCKS 4
+
+static const char *const joined_blocks[JOINED_BLOCKS] = {"3\n[3] = 1\n", "5\n[0] = 1\n[1] = 0\n", "6\n[5] = 1\n", "9\n[2] = 1\n"};
+static const int64_t joined_times[JOINED_BLOCKS] = {3, 5, 6, 9};
+
+/* What calls leave: the last one's report, with the steps and the counts of all, and grid and marks. */
+struct joined {
+    uint64_t report[CELLANG_REPORT_LENGTH];
+    int32_t grid[MOST_CELLS];
+    uint8_t marks[MOST_CELLS];
+};
+
+/* Lends a row and its marks, for a chain of calls that begins. */
+static void begin_chain(struct joined *chain, const int32_t *row, const uint8_t *lent) {
+    memset(chain, 0, sizeof *chain);
+    memcpy(chain->grid, row, sizeof chain->grid);
+    memcpy(chain->marks, lent, sizeof chain->marks);
+}
+
+/* One more call, with these blocks; after a fault or a refusal there is none. */
+static void add_call(struct joined *chain, list_run_call *run, const char *source, size_t first, size_t end, int64_t start,
+                     int64_t steps) {
+    uint64_t report[CELLANG_REPORT_LENGTH];
+    char list[64] = "";
+    if (chain->report[0] != CELLANG_DONE) {
+        return;
+    }
+    for (size_t i = first; i < end; i++) {
+        strcat(list, joined_blocks[i]);
+    }
+    memcpy(grid, chain->grid, sizeof grid);
+    memcpy(marks, chain->marks, sizeof marks);
+    run_slice(run, source, MOST_CELLS, MOST_CELLS, list, start, steps, report);
+    report[CELLANG_REPORT_STEPS] += chain->report[CELLANG_REPORT_STEPS];
+    report[CELLANG_REPORT_COUNT] += chain->report[CELLANG_REPORT_COUNT];
+    memcpy(chain->report, report, sizeof report);
+    memcpy(chain->grid, grid, sizeof grid);
+    memcpy(chain->marks, marks, sizeof marks);
+}
+
+static void expect_same(const char *what, const struct joined *chain, const struct joined *at_once) {
+    expect(memcmp(chain->report, at_once->report, sizeof chain->report) == 0, what);
+    expect(memcmp(chain->grid, at_once->grid, sizeof chain->grid) == 0, what);
+    expect(memcmp(chain->marks, at_once->marks, sizeof chain->marks) == 0, what);
+}
+
+/* Six steps at once, and the same steps in two calls and in seven. */
+static void expect_joined(const char *source, uint64_t number, list_run_call *run, const int32_t *row, const uint8_t *lent) {
+    const int64_t start = JOINED_START;
+    struct joined at_once, chain;
+    begin_chain(&at_once, row, lent);
+    add_call(&at_once, run, source, 0, JOINED_BLOCKS, start, JOINED_STEPS);
+    expect(at_once.report[0] == number, source);
+    /* parted behind each number of steps, with a block of that time in either list */
+    for (int64_t steps = 0; steps <= JOINED_STEPS; steps++) {
+        for (size_t parted = 0; parted <= JOINED_BLOCKS; parted++) {
+            if ((parted == 0 || joined_times[parted - 1] <= start + steps)
+                && (parted == JOINED_BLOCKS || joined_times[parted] >= start + steps)) {
+                begin_chain(&chain, row, lent);
+                add_call(&chain, run, source, 0, parted, start, steps);
+                add_call(&chain, cellang_run_resuming, source, parted, JOINED_BLOCKS, start + steps, JOINED_STEPS - steps);
+                expect_same(source, &chain, &at_once);
+            }
+        }
+    }
+    /* one step a call, and then none */
+    begin_chain(&chain, row, lent);
+    for (int64_t steps = 0, first = 0; steps <= JOINED_STEPS; steps++) {
+        int64_t end = first + (first < JOINED_BLOCKS && joined_times[first] == start + steps);
+        add_call(&chain, steps == 0 ? run : cellang_run_resuming, source, (size_t)first, (size_t)end, start + steps,
+                 steps < JOINED_STEPS);
+        first = end;
+    }
+    expect_same(source, &chain, &at_once);
+    /* a run that begins with all cells open is the quiet run, and agrees with the full one */
+    if (run == cellang_run_pausing) {
+        begin_chain(&chain, row, lent);
+        add_call(&chain, cellang_run_quiet_list, source, 0, JOINED_BLOCKS, start, JOINED_STEPS);
+        memcpy(chain.marks, at_once.marks, sizeof chain.marks);
+        expect_same(source, &chain, &at_once);
+        begin_chain(&chain, row, lent);
+        add_call(&chain, cellang_run_full_list, source, 0, JOINED_BLOCKS, start, JOINED_STEPS);
+        expect(chain.report[CELLANG_REPORT_COUNT] >= at_once.report[CELLANG_REPORT_COUNT], source);
+        chain.report[CELLANG_REPORT_COUNT] = at_once.report[CELLANG_REPORT_COUNT];
+        memcpy(chain.marks, at_once.marks, sizeof chain.marks);
+        expect_same(source, &chain, &at_once);
+    }
+}
+
+static void pauses(void) {
+    const char *sources[] = {SHIFT, S "cell := [-1] != [2]", "1 dimensions of 0..9 cell := cell + 1 when time > 4",
+                             "1 dimensions of 0..5 cell := cell + 1 when [1] < 5"};
+    const uint64_t numbers[] = {CELLANG_DONE, CELLANG_DONE, CELLANG_DONE, CELLANG_VALUE_OUTSIDE_FIELD};
+    const int32_t rows[][MOST_CELLS] = {{1, 0, 0, 0, 0, 0, 0, 0}, {0, 1, 1, 0, 1, 0, 0, 1}};
+    const uint8_t lent[][MOST_CELLS] = {{0}, {0, 3, 0, 0, 255, 0, 0, 1}, {1, 1, 1, 1, 1, 1, 1, 1}};
+    for (size_t i = 0; i < sizeof slices / sizeof *slices; i++) {
+        expect_slice(&slices[i]);
+    }
+    wrong_marks();
+    any_marks();
+    for (size_t i = 0; i < sizeof sources / sizeof *sources; i++) {
+        for (size_t row = 0; row < sizeof rows / sizeof *rows; row++) {
+            expect_joined(sources[i], numbers[i], cellang_run_pausing, rows[row], lent[0]);
+            for (size_t k = 0; k < sizeof lent / sizeof *lent; k++) {
+                expect_joined(sources[i], numbers[i], cellang_run_resuming, rows[row], lent[k]);
+            }
         }
     }
 }
@@ -529,6 +794,7 @@ int main(void) {
     value_lists();
     blocks();
     report_lengths();
+    pauses();
     writings();
     comparisons();
     printf("%d passed, %d failed\n", passed, failed);
