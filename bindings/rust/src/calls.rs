@@ -18,12 +18,12 @@ pub enum Mode {
     /// Every step evaluates the open cells alone: in the first step all, later
     /// those within whose reach a cell changed in the step before or by a block
     /// since, and where `time` stands in the source always all. The count is at
-    /// most the full one.
+    /// most the full one. [`Paused`](crate::Paused) makes such a run in slices.
     Quiet,
 }
 
 /// The memory that a run is lent beside its grid. What it holds on entry does
-/// not matter.
+/// not matter, but for the marks of [`run_resuming_in`](crate::run_resuming_in).
 #[derive(Debug)]
 pub struct Lent<'a> {
     /// The word table, [`WORDS`](crate::WORDS) long.
@@ -198,14 +198,17 @@ impl<'a, 'l> Run<'a, 'l> {
 
     /// Makes the run where a built-in list is lent beside the source.
     fn lent(&self, list: &'a [u8], grid: &mut [i32], lent: Lent<'_>) -> Outcome<'a> {
-        let report = match self.values {
-            None => self.call(list, grid, lent),
-            Some(values) => self.call_with_list(list, grid, lent, values),
+        if self.values.is_none() {
+            return self.without_list(list, grid, lent);
+        }
+        let call: ListRunCall = match self.mode {
+            Mode::Full => foreign::cellang_run_full_list,
+            Mode::Quiet => foreign::cellang_run_quiet_list,
         };
-        run_answer(self.source, list, report)
+        self.by(call, list, grid, lent)
     }
 
-    fn call(&self, list: &[u8], grid: &mut [i32], lent: Lent<'_>) -> [u64; foreign::REPORT] {
+    fn without_list(&self, list: &'a [u8], grid: &mut [i32], lent: Lent<'_>) -> Outcome<'a> {
         let call: RunCall = match self.mode {
             Mode::Full => foreign::cellang_run_full,
             Mode::Quiet => foreign::cellang_run_quiet,
@@ -237,20 +240,18 @@ impl<'a, 'l> Run<'a, 'l> {
                 report.len(),
             );
         }
-        report
+        run_answer(self.source, list, report)
     }
 
-    fn call_with_list(
+    /// Makes the run by a function that takes a value list, whatever the mode.
+    pub(crate) fn by(
         &self,
-        list: &[u8],
+        call: ListRunCall,
+        list: &'a [u8],
         grid: &mut [i32],
         lent: Lent<'_>,
-        values: &[u8],
-    ) -> [u64; foreign::REPORT] {
-        let call: ListRunCall = match self.mode {
-            Mode::Full => foreign::cellang_run_full_list,
-            Mode::Quiet => foreign::cellang_run_quiet_list,
-        };
+    ) -> Outcome<'a> {
+        let values = self.values.unwrap_or_default();
         let mut report = [0; foreign::REPORT];
         // SAFETY: each pointer and length is those of a slice, and the slices
         // that are written overlap nothing.
@@ -280,7 +281,7 @@ impl<'a, 'l> Run<'a, 'l> {
                 report.len(),
             );
         }
-        report
+        run_answer(self.source, list, report)
     }
 }
 
@@ -346,33 +347,49 @@ mod tests {
         }
     }
 
+    /// Makes a run in memory that is told from any other, and holds it to what
+    /// the list asks.
+    fn run_beside(
+        list: &[u8],
+        run: impl for<'a> Fn(&'a [u8], &mut [i32], Lent<'_>) -> Outcome<'a>,
+    ) {
+        let (mut words, mut names) = ([BEFORE; WORDS], [BEFORE; NAME_WORDS]);
+        let (mut grid, mut scratch, mut marks) = ([0], [7], [7]);
+        let lent = Lent {
+            words: &mut words,
+            names: &mut names,
+            scratch: &mut scratch,
+            marks: &mut marks,
+        };
+        let outcome = run(list, &mut grid, lent);
+        if list == BUILT_IN {
+            assert_eq!(outcome.map(|done| done.steps), Ok(1));
+            return;
+        }
+        let Err(Stop::Refused(refusal)) = outcome else {
+            panic!("{outcome:?}");
+        };
+        assert_eq!(told(&refusal), (1, 0, &[][..]));
+        assert!(words.iter().chain(&names).all(|&word| word == BEFORE));
+        assert_eq!((grid, scratch, marks), ([0], [7], [7]));
+    }
+
     #[test]
     fn another_list_is_refused_by_runs() {
         let source = b"1 dimensions of 0..1 cell := 1";
-        let modes = [Mode::Full, Mode::Quiet];
-        let runs = modes.map(|mode| Run::new(source, &[1], 0, 1, mode));
+        let runs = [Mode::Full, Mode::Quiet].map(|mode| Run::new(source, &[1], 0, 1, mode));
         let listed = runs.map(|run| run.with_list(b"0\n"));
         for list in lists() {
             for run in runs.iter().chain(&listed) {
-                let (mut words, mut names) = ([BEFORE; WORDS], [BEFORE; NAME_WORDS]);
-                let (mut grid, mut scratch, mut marks) = ([0], [7], [7]);
-                let lent = Lent {
-                    words: &mut words,
-                    names: &mut names,
-                    scratch: &mut scratch,
-                    marks: &mut marks,
-                };
-                let outcome = run.lent(&list, &mut grid, lent);
-                if list == BUILT_IN {
-                    assert_eq!(outcome.map(|done| done.steps), Ok(1));
-                    continue;
-                }
-                let Err(Stop::Refused(refusal)) = outcome else {
-                    panic!("{outcome:?}");
-                };
-                assert_eq!(told(&refusal), (1, 0, &[][..]));
-                assert!(words.iter().chain(&names).all(|&word| word == BEFORE));
-                assert_eq!((grid, scratch, marks), ([0], [7], [7]));
+                run_beside(&list, |list, grid, lent| run.lent(list, grid, lent));
+            }
+            for call in [
+                foreign::cellang_run_pausing as ListRunCall,
+                foreign::cellang_run_resuming,
+            ] {
+                run_beside(&list, |list, grid, lent| {
+                    listed[1].by(call, list, grid, lent)
+                });
             }
         }
     }

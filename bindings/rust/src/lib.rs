@@ -1,6 +1,7 @@
 //! Checks sources written in Cellang, a small language for cellular automata,
-//! runs them on grids, also with timed value lists, writes such lists, and
-//! compares grids, by a library that is proved to do what the rules say.
+//! runs them on grids, also with timed value lists and in slices, writes such
+//! lists, and compares grids, by a library that is proved to do what the rules
+//! say.
 //!
 //! ```
 //! use cellang::{check, run, Cell, Fault, FaultKind, Mode, Place, Rooms, Stop};
@@ -49,6 +50,7 @@ mod calls;
 mod comparing;
 mod foreign;
 mod names;
+mod pausing;
 mod replies;
 mod rooms;
 mod writing;
@@ -56,6 +58,7 @@ mod writing;
 pub use calls::{check, check_in, run, run_in, Lent, Mode, Run, BUILT_IN};
 pub use comparing::{compare, compare_flat, Difference, NotCompared};
 pub use names::{Kind, Name, Names};
+pub use pausing::{run_pausing_in, run_resuming_in, NotBegun, NotResumed, Paused};
 pub use replies::{
     Cell, Done, Entry, Fault, FaultKind, Line, ListReason, ListRefusal, NotWritten, Objection,
     Outcome, Place, Reason, Refusal, Stop,

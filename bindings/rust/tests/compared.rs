@@ -1,8 +1,8 @@
 //! The library and the second program on the same checks, runs and writings.
 
 use cellang::{
-    check_in, write_list, write_list_in, Lent, Mode, Names, NotWritten, Objection, Outcome, Rooms,
-    Run, Stop, WriterLent, BUILT_IN, NAME_WORDS, WORDS,
+    check_in, write_list, write_list_in, Lent, Mode, Names, NotWritten, Objection, Rooms, Run,
+    Stop, WriterLent, BUILT_IN, NAME_WORDS, WORDS,
 };
 use reference::case::{marks_on_entry, run_case, scratch_on_entry, RunCase};
 use reference::lex::{lex, Keyword, Kind};
@@ -10,48 +10,18 @@ use reference::names::Record;
 use reference::tree::Program;
 use reference::write_case::{room_on_entry, write_case, WriteCase};
 use reference::writing::{text_of, Written};
-use reference::{vectors, Reply, Report};
+use reference::{vectors, Reply};
+use told::{print_seen, report_of, Seen};
+
+mod told;
 
 const CHECKS: usize = 30_000;
 const RUNS: usize = 16_000;
 const LISTS: usize = 12_000;
 const WRITINGS: usize = 20_000;
 
-/// How many cases gave each number.
-type Seen = [usize; 58];
-
 /// What the rooms hold on entry.
 const BEFORE: u32 = 0x5A5A_5A5A;
-
-/// The six numbers of an outcome.
-fn report_of(outcome: &Outcome) -> Report {
-    let stop = match outcome {
-        Ok(done) => {
-            return Report {
-                steps: done.steps,
-                count: done.count,
-                ..Report::default()
-            }
-        }
-        Err(stop) => stop,
-    };
-    let mut report = Report {
-        number: stop.number(),
-        place: stop.place().map_or(0, |place| place.0),
-        line: stop.line().map_or(0, |line| line.0),
-        ..Report::default()
-    };
-    match stop {
-        Stop::NotAdmitted(Objection::EntryOutOfRange(entry)) => report.place = entry.0,
-        Stop::Faulted(fault) => {
-            report.cell = fault.cell.0;
-            report.steps = fault.steps;
-            report.count = fault.count;
-        }
-        _ => {}
-    }
-    report
-}
 
 /// The spelling that the second program gives a reply.
 fn spelling_of(source: &[u8], reply: Reply) -> &[u8] {
@@ -181,15 +151,6 @@ fn compare_run(case: &RunCase, mode: Mode, listed: bool, seen: &mut Seen) {
         );
     }
     seen[expected.report.number as usize] += 1;
-}
-
-fn print_seen(what: &str, seen: &Seen) {
-    let total: usize = seen.iter().sum();
-    let each: Vec<String> = (0..seen.len())
-        .filter(|&number| seen[number] > 0)
-        .map(|number| format!("{number}: {}", seen[number]))
-        .collect();
-    println!("{total} {what} compared; by reply {}", each.join(", "));
 }
 
 #[test]

@@ -1,0 +1,390 @@
+//! Quiet runs in slices: pausing and resuming.
+
+use crate::calls::{cells_of, Lent, Mode, Run, BUILT_IN};
+use crate::foreign::{self, ListRunCall};
+use crate::replies::{Fault, Line, ListReason, ListRefusal, Outcome, Stop};
+use crate::rooms::Rooms;
+use std::error::Error;
+use std::fmt;
+
+/// The greatest sum of start and steps.
+const GREATEST_TIME: i64 = 2_147_483_647;
+
+/// Runs a source in [`Mode::Quiet`] with a value list, where one of 0 bytes is
+/// as none, in memory of the caller's, and leaves the marks standing. All else
+/// is as [`Run::on_in`] gives and leaves it.
+///
+/// After success a mark is 1 for a cell that would be open in one more step,
+/// else 0, also after 0 steps. After a fault the marks are zero, and if the run
+/// doesn't begin they are as they were. [`run_resuming_in`] goes on from them.
+/// [`Paused`] keeps them together with the grid that they belong to.
+pub fn run_pausing_in<'a>(
+    source: &'a [u8],
+    shape: &[u32],
+    grid: &mut [i32],
+    lent: Lent<'_>,
+    start: i64,
+    steps: i64,
+    values: &[u8],
+) -> Outcome<'a> {
+    let run = Run::new(source, shape, start, steps, Mode::Quiet).with_list(values);
+    run.by(foreign::cellang_run_pausing, BUILT_IN, grid, lent)
+}
+
+/// Runs a source as [`run_pausing_in`] does, from the marks that are lent. In
+/// the first step those cells are open whose mark is not 0, those within whose
+/// reach the block of the start time changed a cell, and where `time` stands in
+/// the source all.
+///
+/// It is joined to an earlier call of these two functions that succeeded if
+/// source and shape are the same, grid and marks are as that call left them,
+/// `start` has moved on by its steps, and the times of its list and then of
+/// this one rise strictly. Joined calls give what one call of all their steps
+/// gives, begun as the first of them, with their lists one behind the other;
+/// steps and count are the sums. [`Paused`] joins its calls so.
+///
+/// The marks may be any. If they don't come from joined calls that begin with
+/// [`run_pausing_in`], the run need not agree with the full one: a cell that is
+/// not open keeps its fields.
+///
+/// ```
+/// use cellang::{run_resuming_in, Lent, Stop, NAME_WORDS, WORDS};
+///
+/// // Every cell takes the value of its left neighbour, but one alone is open.
+/// let source = b"1 dimensions of 0..1 cell := [-1]";
+/// let mut grid = [1, 0, 0, 0, 0];
+/// let mut marks = [0, 7, 0, 0, 0];
+/// let lent = Lent {
+///     words: &mut vec![0; WORDS],
+///     names: &mut vec![0; NAME_WORDS],
+///     scratch: &mut [0; 5],
+///     marks: &mut marks,
+/// };
+/// let done = run_resuming_in(source, &[5], &mut grid, lent, 0, 1, b"")?;
+/// assert_eq!((done.steps, done.count), (1, 1));
+/// assert_eq!(grid, [1, 1, 0, 0, 0]);
+/// // It changed, and stands in the reach of itself and of its right neighbour.
+/// assert_eq!(marks, [0, 1, 1, 0, 0]);
+/// # Ok::<(), Stop>(())
+/// ```
+pub fn run_resuming_in<'a>(
+    source: &'a [u8],
+    shape: &[u32],
+    grid: &mut [i32],
+    lent: Lent<'_>,
+    start: i64,
+    steps: i64,
+    values: &[u8],
+) -> Outcome<'a> {
+    let run = Run::new(source, shape, start, steps, Mode::Quiet).with_list(values);
+    run.by(foreign::cellang_run_resuming, BUILT_IN, grid, lent)
+}
+
+/// A quiet run that stands between two steps, or before its first one, and can
+/// be resumed. It owns the grid and the marks, and knows its source, its shape
+/// and its time, so that they always belong together.
+///
+/// However a run is sliced, it stands where one quiet run of all the steps
+/// would stand, with the lists of the slices one behind the other: with the
+/// same grid, steps and count, and the grid is that of the full run.
+///
+/// ```
+/// use cellang::{Paused, Rooms, Stop};
+///
+/// // Every cell takes the value of its left neighbour.
+/// let source = b"1 dimensions of 0..1 cell := [-1]";
+/// let mut rooms = Rooms::new();
+/// let paused = Paused::begin(source, &[5], vec![1, 0, 0, 0, 0], 0, &mut rooms)?;
+///
+/// // One step now, and one later, before which a cell is set.
+/// let paused = paused.resume(1, b"", &mut rooms)?;
+/// assert_eq!(paused.grid(), [0, 1, 0, 0, 0]);
+/// assert_eq!(paused.marks(), [1, 1, 1, 0, 0]);
+/// let paused = paused.resume(1, b"1\n[3] = 1\n", &mut rooms)?;
+/// assert_eq!((paused.time(), paused.steps(), paused.count()), (2, 2, 10));
+/// assert_eq!(paused.into_grid(), [0, 0, 1, 0, 1]);
+/// # Ok::<(), Stop>(())
+/// ```
+#[derive(Clone, PartialEq, Eq, Hash, Debug)]
+pub struct Paused<'a> {
+    source: &'a [u8],
+    shape: Box<[u32]>,
+    grid: Vec<i32>,
+    marks: Vec<u8>,
+    start: i64,
+    steps: u32,
+    count: u64,
+    /// Whether a list had the time at which the run stands.
+    listed: bool,
+}
+
+impl<'a> Paused<'a> {
+    /// A run of a source on a grid that stands before its first step, at time
+    /// `start`. `shape` and the grid are as for [`run`](crate::run), and the
+    /// same is refused as of a run of 0 steps.
+    pub fn begin(
+        source: &'a [u8],
+        shape: &[u32],
+        grid: Vec<i32>,
+        start: i64,
+        rooms: &mut Rooms,
+    ) -> Result<Paused<'a>, NotBegun<'a>> {
+        let mut paused = Paused {
+            source,
+            shape: shape.into(),
+            grid,
+            marks: vec![0; cells_of(shape)],
+            start,
+            steps: 0,
+            count: 0,
+            listed: false,
+        };
+        match paused.slice(foreign::cellang_run_pausing, 0, b"", rooms) {
+            Ok(_) => Ok(paused),
+            Err(stop) => Err(NotBegun {
+                stop,
+                grid: paused.grid,
+            }),
+        }
+    }
+
+    /// Goes on for `steps` steps from where the run stands, with a value list
+    /// for them, where one of 0 bytes is as none. Its times lie from
+    /// [`time`](Paused::time) to that plus the steps. The block of the time at
+    /// which a slice ends may be in its list or in the list of the next one. If
+    /// it is in both, the next list is refused: its first time does not rise,
+    /// 54.
+    ///
+    /// A refusal gives the run back as it was, and it can be resumed. A fault
+    /// ends it.
+    ///
+    /// ```
+    /// use cellang::{NotResumed, Paused, Rooms, Stop};
+    ///
+    /// let source = b"1 dimensions of 0..9 cell := cell + 1";
+    /// let mut rooms = Rooms::new();
+    /// let paused = Paused::begin(source, &[2], vec![0, 7], 5, &mut rooms)?;
+    /// let paused = paused.resume(1, b"", &mut rooms)?;
+    ///
+    /// // Time 5 is gone by.
+    /// let refused = paused.resume(1, b"5\n[1] = 0\n", &mut rooms).unwrap_err();
+    /// let NotResumed::Refused { stop, paused } = refused else { unreachable!() };
+    /// assert_eq!(stop.to_string(), "list refused 55 at line 1: time before the start");
+    /// assert_eq!((paused.time(), paused.grid()), (6, &[1, 8][..]));
+    ///
+    /// let faulted = paused.resume(4, b"", &mut rooms).unwrap_err();
+    /// let NotResumed::Faulted { fault, grid } = faulted else { unreachable!() };
+    /// assert_eq!((fault.number(), fault.cell.index(), fault.steps), (33, 1, 2));
+    /// assert_eq!(grid, [2, 9]);
+    /// # Ok::<(), Stop>(())
+    /// ```
+    pub fn resume(
+        mut self,
+        steps: i64,
+        list: &[u8],
+        rooms: &mut Rooms,
+    ) -> Result<Paused<'a>, NotResumed<'a>> {
+        let fits = (0..=GREATEST_TIME - self.time()).contains(&steps);
+        let outcome = if fits && self.repeats_time(list, rooms) {
+            Err(Stop::ListRefused(ListRefusal {
+                reason: ListReason::TimeNotRising,
+                line: Line(1),
+            }))
+        } else {
+            self.slice(foreign::cellang_run_resuming, steps, list, rooms)
+        };
+        match outcome {
+            Ok(done) => {
+                self.steps += done.steps;
+                self.count += done.count;
+                let repeated = steps == 0 && self.listed;
+                self.listed = repeated || last_time(list) == Some(self.time());
+                Ok(self)
+            }
+            Err(Stop::Faulted(fault)) => Err(NotResumed::Faulted {
+                fault: Fault {
+                    steps: self.steps + fault.steps,
+                    count: self.count + fault.count,
+                    ..fault
+                },
+                grid: self.grid,
+            }),
+            Err(stop) => Err(NotResumed::Refused {
+                stop,
+                paused: Box::new(self),
+            }),
+        }
+    }
+
+    /// Makes a call on the grid and the marks, from the time on.
+    fn slice(
+        &mut self,
+        call: ListRunCall,
+        steps: i64,
+        list: &[u8],
+        rooms: &mut Rooms,
+    ) -> Outcome<'a> {
+        let time = self.time();
+        let lent = Lent {
+            words: &mut rooms.words,
+            names: &mut rooms.names,
+            scratch: &mut vec![0; self.grid.len()],
+            marks: &mut self.marks,
+        };
+        let run = Run::new(self.source, &self.shape, time, steps, Mode::Quiet).with_list(list);
+        run.by(call, BUILT_IN, &mut self.grid, lent)
+    }
+
+    /// Whether a list begins with a time that a list before it had: the time at
+    /// which the run stands. For 0 steps no other line is a list that passes,
+    /// and this one changes nothing.
+    fn repeats_time(&mut self, list: &[u8], rooms: &mut Rooms) -> bool {
+        let Some(end) = list.iter().position(ends_line) else {
+            return false;
+        };
+        let first = &list[..=end];
+        let call = foreign::cellang_run_resuming;
+        self.listed && self.slice(call, 0, first, rooms).is_ok()
+    }
+
+    /// The source.
+    pub fn source(&self) -> &'a [u8] {
+        self.source
+    }
+
+    /// The size of each dimension.
+    pub fn shape(&self) -> &[u32] {
+        &self.shape
+    }
+
+    /// The grid as it stands.
+    pub fn grid(&self) -> &[i32] {
+        &self.grid
+    }
+
+    /// The marks, one a cell: 1 if it would be open in one more step, else 0.
+    pub fn marks(&self) -> &[u8] {
+        &self.marks
+    }
+
+    /// The time at which the run began.
+    pub fn start(&self) -> i64 {
+        self.start
+    }
+
+    /// The time at which the run stands, and at which its next step would be.
+    pub fn time(&self) -> i64 {
+        self.start + i64::from(self.steps)
+    }
+
+    /// The steps done, of all slices.
+    pub fn steps(&self) -> u32 {
+        self.steps
+    }
+
+    /// How many times a cell was evaluated, in all slices.
+    pub fn count(&self) -> u64 {
+        self.count
+    }
+
+    /// Ends the run, and gives the grid.
+    pub fn into_grid(self) -> Vec<i32> {
+        self.grid
+    }
+}
+
+fn ends_line(byte: &u8) -> bool {
+    matches!(byte, b'\n' | b'\r')
+}
+
+/// The last time of a list that passes.
+fn last_time(list: &[u8]) -> Option<i64> {
+    // Nothing stands behind the end of the last line.
+    let mut lines = list.rsplit(ends_line).skip(1);
+    let line = lines.find(|line| !line.contains(&b'['))?;
+    let digits = line.iter().filter(|byte| byte.is_ascii_digit());
+    Some(digits.fold(0, |time, digit| 10 * time + i64::from(digit - b'0')))
+}
+
+/// A run that could be paused does not begin.
+#[derive(Clone, PartialEq, Eq, Hash, Debug)]
+pub struct NotBegun<'a> {
+    /// Why: the source is refused, or the run is not admitted.
+    pub stop: Stop<'a>,
+    /// The grid as it was given.
+    pub grid: Vec<i32>,
+}
+
+impl fmt::Display for NotBegun<'_> {
+    fn fmt(&self, f: &mut fmt::Formatter<'_>) -> fmt::Result {
+        self.stop.fmt(f)
+    }
+}
+
+impl Error for NotBegun<'_> {}
+
+impl<'a> From<NotBegun<'a>> for Stop<'a> {
+    fn from(not_begun: NotBegun<'a>) -> Stop<'a> {
+        not_begun.stop
+    }
+}
+
+/// A paused run did not do the steps that it was resumed for.
+#[derive(Clone, PartialEq, Eq, Hash, Debug)]
+pub enum NotResumed<'a> {
+    /// The steps or the list are refused, and the run stands where it stood.
+    Refused {
+        /// Why: the run is not admitted, since steps is negative or leads past
+        /// time 2147483647, or the list is refused.
+        stop: Stop<'a>,
+        /// The run, which can be resumed.
+        paused: Box<Paused<'a>>,
+    },
+    /// A cell faulted, and the run is at its end.
+    Faulted {
+        /// The fault, as the run at once gives it: with the steps done and the
+        /// cells evaluated in all slices.
+        fault: Fault,
+        /// The grid after the steps done, with the block of the faulting step's
+        /// time set.
+        grid: Vec<i32>,
+    },
+}
+
+impl NotResumed<'_> {
+    /// The number of the reply.
+    pub fn number(&self) -> u32 {
+        match self {
+            NotResumed::Refused { stop, .. } => stop.number(),
+            NotResumed::Faulted { fault, .. } => fault.number(),
+        }
+    }
+
+    /// The grid as it stands.
+    pub fn grid(&self) -> &[i32] {
+        match self {
+            NotResumed::Refused { paused, .. } => paused.grid(),
+            NotResumed::Faulted { grid, .. } => grid,
+        }
+    }
+}
+
+impl fmt::Display for NotResumed<'_> {
+    fn fmt(&self, f: &mut fmt::Formatter<'_>) -> fmt::Result {
+        match self {
+            NotResumed::Refused { stop, .. } => stop.fmt(f),
+            NotResumed::Faulted { fault, .. } => fault.fmt(f),
+        }
+    }
+}
+
+impl Error for NotResumed<'_> {}
+
+impl<'a> From<NotResumed<'a>> for Stop<'a> {
+    fn from(not_resumed: NotResumed<'a>) -> Stop<'a> {
+        match not_resumed {
+            NotResumed::Refused { stop, .. } => stop,
+            NotResumed::Faulted { fault, .. } => Stop::Faulted(fault),
+        }
+    }
+}
