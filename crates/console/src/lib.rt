@@ -1,6 +1,5 @@
 // What the programs run_rule and compare_grids read and say: arguments, files of rules and grids, places, and replies in words.
 
-pub mod arguments;
 pub mod grids;
 pub mod lines;
 pub mod numbers;

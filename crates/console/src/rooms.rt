@@ -19,6 +19,13 @@ pub fn bytes_room() -> [u8; ROOM]
     [0; ROOM]
 }
 
+// A room for scratch, by way of which a time and a mark for each cell are read.
+pub fn scratch_room() -> [i32; 786433]
+    ensures { λ r. ⌜ 786433 ≡ length r ⌝ }
+{
+    [0; 786433]
+}
+
 // A room for a value list: as much as the stack has beside the other rooms.
 pub fn list_room() -> [u8; 524288]
     ensures { λ r. ⌜ 524288 ≡ length r ⌝ }

@@ -1,4 +1,6 @@
 // The value list that leads from the grid that is given to the grid that is left.
+use crate::arguments::is_given;
+use crate::reports::is_fault;
 use console::places::wide;
 use console::rooms;
 use console::rooms::ROOM;
@@ -13,7 +15,7 @@ use std::num::wrapping_add_usize;
 
 // Whether the list of changes is asked for, by a ninth argument.
 fn is_asked() -> bool {
-    os::arg_count() == 10
+    is_given(9)
 }
 
 // Whether a grid of so many entries can be kept, if it has to be: it takes half of the room. If not, that is said.
@@ -50,13 +52,19 @@ pub fn keep(room: &mut [i32], entries: usize) {
     }
 }
 
-// The time that a run has reached, which begins at a start, after so many steps; a negative number if it is none.
-fn time_reached(start: i64, steps: u32) -> i64 {
+// The time that a run has reached after so many steps. No run begins at a negative start.
+pub fn time_after(start: i64, steps: u32) -> u64 {
     if 0 <= start {
-        let time = wrapping_add_u64(start as u64, wide(steps));
-        if time <= 2147483647 {
-            return time as i64;
-        }
+        return wrapping_add_u64(start as u64, wide(steps));
+    }
+    0
+}
+
+// The time that a run has reached, as `write_list` takes it; a negative number if it is none.
+fn time_reached(start: i64, steps: u32) -> i64 {
+    let time = time_after(start, steps);
+    if time <= 2147483647 {
+        return time as i64;
     }
     -1
 }
@@ -111,7 +119,7 @@ fn write_between(source: &[u8], sizes: &[u32], earlier: &[i32], later: &[i32], t
 
 // Whether a run began: all its steps are done, or it faulted.
 fn has_begun(number: u32) -> bool {
-    number == 0 || (number >= 30 && number <= 33)
+    number == 0 || is_fault(number)
 }
 
 // Writes the list of changes, if it is asked for and the run began. The grid stands at the start of the room, and the grid as it was before the

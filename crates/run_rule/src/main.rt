@@ -1,21 +1,23 @@
 // Runs a rule on a grid, called as
-//     run_rule RULE SHAPE START STEPS full|quiet GRID OUT [LIST [CHANGES]]
+//     run_rule RULE SHAPE START STEPS full|quiet|pause|resume GRID OUT [LIST [CHANGES [PAUSE]]]
 // It writes the report of the run in words to standard output, the grid that is left to OUT, and the value list that leads there from the grid
-// that was given to CHANGES. LIST is the value list of the run. Where an argument or a file cannot be taken it says so on standard error, and
-// writes nothing else.
+// that was given to CHANGES. LIST is the value list of the run. A run that pauses writes the marks that stand to PAUSE, and one that resumes begins
+// from those that it reads there. Where an argument or a file cannot be taken it says so on standard error, and writes nothing else.
 ghost use mathlib.Core.Path.{_≡_};
 ghost use lib.ListN.{length};
+ghost use Rattle.runner.specs.Sourcewise.{manner-of};
 ghost use Rattle.run_rule.specs.Runs.{Runs};
 
+mod arguments;
 mod changes;
 mod fields;
+mod pauses;
 mod reports;
 mod rows;
 mod values;
 
-use console::arguments;
-use console::arguments::Order;
-use console::arguments::Orders;
+use arguments::Order;
+use arguments::Orders;
 use console::grids;
 use console::grids::Grid;
 use console::rooms;
@@ -27,7 +29,13 @@ use iteration::Report;
 use naming::Ran;
 use rows::write_grid;
 
-// A run of a source on a grid with a value list, as it was asked for. The report and the grid that is left are those of the definition.
+// What became of a run: it gave a report, or it could not be begun, which was said.
+enum Outcome {
+    Told(Report),
+    Refused,
+}
+
+// A run of a source on a grid with a value list, as it was asked for. The report, the grid and the marks that are left are those of the definition.
 fn run(
     source: &[u8],
     words: &mut [u32],
@@ -39,10 +47,11 @@ fn run(
     order: Order,
 ) -> Ran
     requires { ⌜ 16384 ≡ length (now words) ⌝ }
-    ensures { λ r. ⌜ Runs (order .quiet) (now (source .entry)) (now (sizes .entry)) (now (grid .entry)) (length (now (scratch .entry))) (length (now (marks .entry))) (now (values .entry)) (order .start) (order .steps) (r .report) (now (grid .exit)) ⌝ }
+    ensures { λ r. ⌜ Runs (manner-of (order .manner) (now (marks .entry))) (now (source .entry)) (now (sizes .entry)) (now (grid .entry)) (length (now (scratch .entry))) (now (marks .entry)) (now (values .entry)) (order .start) (order .steps) (r .report) (now (grid .exit)) (now (marks .exit)) ⌝ }
 {
     let list = spelling::BUILT_IN;
     let names = naming::no_names();
+    let manner = order.manner;
     naming::run(
         source,
         &list,
@@ -55,15 +64,14 @@ fn run(
         values,
         order.start,
         order.steps,
-        order.quiet,
+        manner,
     )
 }
 
-// Runs a source on a grid, with as much of the rooms as it asks for, reports, and writes the grid that is left. Gives the report.
+// Runs a source on a grid, reports, and writes what is left. Gives the report.
 fn run_and_tell(
     source: &[u8],
     sizes: &[u32],
-    cells: usize,
     grid: &mut [i32],
     scratch: &mut [i32],
     marks: &mut [u8],
@@ -71,16 +79,15 @@ fn run_and_tell(
     order: Order,
 ) -> Report {
     let entries = grid.len();
-    let kept = rooms::of_numbers(entries, scratch);
-    let marked = rooms::of_bytes(cells, marks);
+    let cells = marks.len();
     let mut words = rooms::table_room();
     let ran = run(
         source,
         &mut words,
         sizes,
         grid,
-        &mut scratch[..kept],
-        &mut marks[..marked],
+        scratch,
+        marks,
         values,
         order,
     );
@@ -89,11 +96,13 @@ fn run_and_tell(
     let rows = ran.rows;
     let name = naming::field_record(rows, field);
     reports::tell(report, name, source, values, sizes, entries, cells);
-    write_grid(grid, shapes::row(sizes, entries, cells));
+    pauses::tell(report, marks, order);
+    let written = write_grid(grid, shapes::row(sizes, entries, cells));
+    pauses::write(report, sizes, scratch, marks, order, written);
     report
 }
 
-// Runs a source on a grid in rooms that are given back when it ends.
+// Runs a source on a grid, from the marks of PAUSE if it is resumed, with as much of two rooms as it asks for. They are given back when it ends.
 fn run_in_rooms(
     source: &[u8],
     sizes: &[u32],
@@ -101,19 +110,23 @@ fn run_in_rooms(
     grid: &mut [i32],
     values: &[u8],
     order: Order,
-) -> Report {
-    let mut scratch = rooms::numbers_room();
+) -> Outcome {
+    let mut scratch = rooms::scratch_room();
     let mut marks = rooms::bytes_room();
-    run_and_tell(
+    if !pauses::read(&mut scratch, &mut marks, cells, order) {
+        return Outcome::Refused;
+    }
+    let kept = rooms::of_numbers(grid.len(), &scratch);
+    let marked = rooms::of_bytes(cells, &marks);
+    Outcome::Told(run_and_tell(
         source,
         sizes,
-        cells,
         grid,
-        &mut scratch,
-        &mut marks,
+        &mut scratch[..kept],
+        &mut marks[..marked],
         values,
         order,
-    )
+    ))
 }
 
 // Runs a source on the grid at the start of a room, and writes what changed, if that is asked for: the grid as it is given stands behind it then.
@@ -128,7 +141,16 @@ fn run_and_compare(
 ) {
     changes::keep(room, count);
     let entries = rooms::of_numbers(count, room);
-    let report = run_in_rooms(source, sizes, cells, &mut room[..entries], values, order);
+    let Outcome::Told(report) = run_in_rooms(
+        source,
+        sizes,
+        cells,
+        &mut room[..entries],
+        values,
+        order,
+    ) else {
+        return;
+    };
     changes::write(source, sizes, room, entries, report, order.start);
 }
 
@@ -163,6 +185,10 @@ fn run_in_shape(sizes: &[u32]) {
     let Orders::Taken(order) = arguments::order_arguments() else {
         return;
     };
+    let manner = order.manner;
+    if !pauses::is_right(manner) {
+        return;
+    }
     let mut source = io::large_buffer();
     let Text::Read(n) = texts::read_file(1, b"RULE", &mut source) else {
         return;

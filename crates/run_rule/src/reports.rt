@@ -13,7 +13,7 @@ use iteration::Report;
 use records::Name;
 
 // Whether a reply is a fault.
-fn is_fault(number: u32) -> bool {
+pub fn is_fault(number: u32) -> bool {
     number >= 30 && number <= 33
 }
 

@@ -58,7 +58,7 @@ fn write_entry(file: i32, buffer: &mut [u8], sink: Sink, n: i32, behind: u8) -> 
 }
 
 // Writes the entries of a grid; whether they could be written.
-fn write_rows(file: i32, grid: &[i32], row: usize) -> bool {
+pub fn write_rows(file: i32, grid: &[i32], row: usize) -> bool {
     let mut buffer = io::buffer();
     let view: &mut [u8] = &mut buffer;
     let mut sink = Sink { at: 0, good: true };
@@ -71,15 +71,16 @@ fn write_rows(file: i32, grid: &[i32], row: usize) -> bool {
     last.good
 }
 
-// Writes a grid to the file that the seventh argument names. If that cannot be done, it is said.
-pub fn write_grid(grid: &[i32], row: usize) {
+// Writes a grid to the file that the seventh argument names; whether that could be done. If not, it is said.
+pub fn write_grid(grid: &[i32], row: usize) -> bool {
     let file = open_output(7);
     if file < 0 {
-        return;
+        return false;
     }
     let written = write_rows(file, grid, row);
     if !written {
         os::fail(b"OUT");
     }
     close_output(file);
+    written
 }

@@ -1,8 +1,8 @@
 // The value list of a run: its file, and its lines.
+use crate::arguments::is_given;
 use console::lines::say_line_from;
 use console::texts::Text;
 use console::texts::complain;
-use console::texts::is_argument;
 use console::texts::read_file;
 use console::texts::say;
 use console::texts::say_number;
@@ -10,10 +10,7 @@ use console::texts::say_number;
 // Puts the list that the eighth argument names at the start of a room; it is empty where there is no argument, or `-`. If it cannot be taken,
 // that is said.
 pub fn list_argument(room: &mut [u8]) -> Text {
-    if os::arg_count() < 9 {
-        return Text::Read(0);
-    }
-    if is_argument(8, b"-") {
+    if !is_given(8) {
         return Text::Read(0);
     }
     let Text::Read(n) = read_file(8, b"LIST", room) else {

@@ -1,4 +1,4 @@
--- `console::arguments::wide` is safe: a number of 32 bits fits 64.
+-- `run_rule::arguments::wide` is safe: a number of 32 bits fits 64.
 use borrow.Author.Needs.{needs}
 use mathlib.Core.Path.{sym, subst}
 use Prim.Native.Nat.{_<_, _^_}
@@ -6,8 +6,8 @@ use lib.Signed.{mag}
 use mir.Syntax.{w32, w64}
 use mir.Val.{SFits}
 use mir.Facts.{toZ-ofZ, sfits-widen}
-use Rattle.console.proofs.arguments.wide.Statement.{statement}
-use Rattle.console.proofs.arguments.wide.Tie as tie
+use Rattle.run_rule.proofs.arguments.wide.Statement.{statement}
+use Rattle.run_rule.proofs.arguments.wide.Tie as tie
 
 cast-result : tie.Need-cast-result
 cast-result c =

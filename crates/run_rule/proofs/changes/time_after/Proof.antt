@@ -1,12 +1,12 @@
--- `run_rule::changes::time_reached` is safe: a start that is not negative fits.
+-- `run_rule::changes::time_after` is safe: a start that is not negative fits.
 use borrow.Author.Needs.{needs}
 use mathlib.Core.Path.{sym, subst}
 use mir.Syntax.{w64}
 use mir.Val.{SFits, toZ, ofZ}
 use mir.Facts.{toZ-ofZ}
 use Rattle.admission.proofs.RequestLaws.{not-negative}
-use Rattle.run_rule.proofs.changes.time_reached.Statement.{statement}
-use Rattle.run_rule.proofs.changes.time_reached.Tie as tie
+use Rattle.run_rule.proofs.changes.time_after.Statement.{statement}
+use Rattle.run_rule.proofs.changes.time_after.Tie as tie
 
 cast-wrapping-add-u64 : tie.Need-cast-wrapping-add-u64
 cast-wrapping-add-u64 c =
@@ -20,26 +20,11 @@ wide-requires c κs = search needs
 wrapping-add-u64-requires : tie.Need-wrapping-add-u64-requires
 wrapping-add-u64-requires c κs = search needs
 
-cast-result : tie.Need-cast-result
-cast-result c = search needs
-
 returns : tie.Need-returns
 returns c = search needs
 
 returns-2 : tie.Need-returns-2
 returns-2 c = search needs
 
-returns-3 : tie.Need-returns-3
-returns-3 c = search needs
-
-pub time-reached-spec : {M : Type 1} → statement M
-time-reached-spec =
-    tie.close
-    (tie.spec
-    cast-wrapping-add-u64
-    wide-requires
-    wrapping-add-u64-requires
-    cast-result
-    returns
-    returns-2
-    returns-3)
+pub time-after-spec : {M : Type 1} → statement M
+time-after-spec = tie.close (tie.spec cast-wrapping-add-u64 wide-requires wrapping-add-u64-requires returns returns-2)

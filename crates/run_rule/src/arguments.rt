@@ -1,15 +1,16 @@
 // The arguments that are words and numbers.
-use crate::numbers::Entry;
-use crate::numbers::value_in;
-use crate::texts::argument;
-use crate::texts::complain;
-use crate::texts::is_argument;
+use console::numbers::Entry;
+use console::numbers::value_in;
+use console::texts::argument;
+use console::texts::complain;
+use console::texts::is_argument;
+use iteration::Manner;
 
-// What is asked of a run: the time it starts at, the steps, and whether it is quiet.
+// What is asked of a run: the time it starts at, the steps, and its manner.
 pub struct Order {
     pub start: i64,
     pub steps: i64,
-    pub quiet: bool,
+    pub manner: Manner,
 }
 
 // What is asked, or an argument could not be taken.
@@ -18,10 +19,9 @@ pub enum Orders {
     Refused,
 }
 
-// Which way to run.
+// The manner that a word names, or it names none.
 enum Way {
-    Full,
-    Quiet,
+    Named(Manner),
     Unknown,
 }
 
@@ -29,25 +29,38 @@ enum Way {
 pub fn all_there() -> bool {
     let count = os::arg_count();
     if count >= 8 {
-        if count <= 10 {
+        if count <= 11 {
             return true;
         }
     }
-    complain(b"usage: run_rule RULE SHAPE START STEPS full|quiet GRID OUT [LIST [CHANGES]]\n");
+    complain(
+        b"usage: run_rule RULE SHAPE START STEPS full|quiet|pause|resume GRID OUT [LIST [CHANGES [PAUSE]]]\n",
+    );
     complain(b"  RULE     the file of the rule\n");
     complain(b"  SHAPE    the sizes of the grid, joined by x, as 8x8 or 5 or 2x3x4\n");
     complain(b"  START    the time of the first step\n");
     complain(b"  STEPS    how many steps to run\n");
     complain(b"  full     evaluates every cell in every step, quiet the open cells alone\n");
+    complain(
+        b"  pause    is a quiet run that can be resumed, resume one that goes on from PAUSE\n",
+    );
     complain(b"  GRID     the file of the grid's entries, - for standard input\n");
     complain(b"  OUT      the file to write the grid to, - for standard output\n");
     complain(b"  LIST     the file of a value list, - for none\n");
-    complain(b"  CHANGES  the file to write the list of changes to, - for standard output\n");
+    complain(b"  CHANGES  the file to write the list of changes to, - for none\n");
+    complain(
+        b"  PAUSE    the file of the open cells, which resume reads, and pause and resume write\n",
+    );
     false
 }
 
+// Whether an argument names a file that may be left out: it is there, and is not `-`.
+pub fn is_given(i: usize) -> bool {
+    os::arg_count() > i && !is_argument(i, b"-")
+}
+
 // A value in 64 bits.
-fn wide(n: i32) -> i64 {
+pub fn wide(n: i32) -> i64 {
     n as i64
 }
 
@@ -58,36 +71,34 @@ fn number_argument(i: usize) -> Entry {
     value_in(&text[..n])
 }
 
-// The way that the fifth argument names.
+// The manner that the fifth argument names.
 fn way_argument() -> Way {
     if is_argument(5, b"full") {
-        return Way::Full;
+        return Way::Named(Manner::Full);
     }
     if is_argument(5, b"quiet") {
-        return Way::Quiet;
+        return Way::Named(Manner::Quiet);
+    }
+    if is_argument(5, b"pause") {
+        return Way::Named(Manner::Pausing);
+    }
+    if is_argument(5, b"resume") {
+        return Way::Named(Manner::Resuming);
     }
     Way::Unknown
 }
 
 // What a run from a start is asked.
 fn order_from(start: i32, steps: i32) -> Orders {
-    let way = way_argument();
-    match way {
-        Way::Full => Orders::Taken(Order {
-            start: wide(start),
-            steps: wide(steps),
-            quiet: false,
-        }),
-        Way::Quiet => Orders::Taken(Order {
-            start: wide(start),
-            steps: wide(steps),
-            quiet: true,
-        }),
-        Way::Unknown => {
-            complain(b"run_rule: the fifth argument is neither full nor quiet\n");
-            Orders::Refused
-        }
-    }
+    let Way::Named(manner) = way_argument() else {
+        complain(b"run_rule: the fifth argument is none of full, quiet, pause and resume\n");
+        return Orders::Refused;
+    };
+    Orders::Taken(Order {
+        start: wide(start),
+        steps: wide(steps),
+        manner,
+    })
 }
 
 // What the arguments ask of a run. If one of them cannot be taken, that is said.

@@ -1,0 +1,47 @@
+-- `run_rule::pauses::open_cells` is safe and ends. The measure is the marks that are left.
+use borrow.Author.Needs.{needs}
+use Prim.Native.Nat.{_-_}
+use lib.ListN.{length}
+use Rattle.run_rule.proofs.pauses.open_cells.Statement.{statement}
+use Rattle.run_rule.proofs.pauses.open_cells.Tie as tie
+
+abbrev Inv-loop : tie.InvT-loop
+Inv-loop marks open₀ i₀ «open» i = Unit {0}
+
+abbrev μ-loop : tie.MeasureT-loop
+μ-loop marks open₀ i₀ «open» i = length marks - i
+
+loop-holds : tie.Need-loop-holds Inv-loop μ-loop
+loop-holds c = search needs
+
+shared-slice-read-counted : tie.Need-shared-slice-read-counted Inv-loop μ-loop
+shared-slice-read-counted c = search needs
+
+counted-requires : tie.Need-counted-requires Inv-loop μ-loop
+counted-requires c κs = search needs
+
+add-i : tie.Need-add-i Inv-loop μ-loop
+add-i c = search needs
+
+loop-less : tie.Need-loop-less Inv-loop μ-loop
+loop-less c = search needs
+
+loop-again : tie.Need-loop-again Inv-loop μ-loop
+loop-again c = search needs
+
+returns : tie.Need-returns Inv-loop μ-loop
+returns c = search needs
+
+pub open-cells-spec : {M : Type 1} → statement M
+open-cells-spec =
+    tie.close
+    (tie.spec
+    Inv-loop
+    μ-loop
+    loop-holds
+    shared-slice-read-counted
+    counted-requires
+    add-i
+    loop-less
+    loop-again
+    returns)
