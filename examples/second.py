@@ -1,9 +1,10 @@
 #!/usr/bin/env python3
-"""Runs the rule of an example by the second program: second.py ROOT FOLDER
+"""Runs the rules of an example by the second program: second.py ROOT FOLDER
 
-FOLDER is an example's folder in which its command has been run. The line of its command that calls run_rule says what is run; the report and
-the grid that it wrote are compared with those of the second program. A list of changes that it wrote must lead there too: the second program
-sets it into the grid that was given, and must get the grid that was left.
+FOLDER is an example's folder in which its command has been run. The lines of its command that call run_rule say what is run; the reports and
+the grids that they wrote are compared with those of the second program. A resumed run is compared as the rest of the run before it: the second
+program runs the steps of both at once. A list of changes that was written must lead to the grid too: the second program sets it into the grid
+that was given, and must get the grid that was left.
 """
 
 import json
@@ -35,22 +36,13 @@ def second_run(root, case):
     return reports, [int(word) for word in lines["grid"]]
 
 
-def main(root, folder):
-    with open(os.path.join(folder, "command")) as file:
-        words = next(line.split()[1:] for line in file if line.startswith("run_rule "))
-    rule, shape, start, steps, way, grid, out = words[:7]
-    values, changes = (words[7:] + ["-", "-"])[:2]
+def call_of(folder, words):
+    """What a call of run_rule asks for, as a case for the second program."""
+    rule, shape, start, steps, _, grid = words[:6]
+    values = (words[7:] + ["-"])[0]
     with open(os.path.join(folder, grid)) as file:
         before = entries(file.read())
-    with open(os.path.join(folder, "wrote")) as file:
-        wrote = file.read()
-    report = dict(re.findall(r"^(reply|list: line|steps done|cells evaluated):? (\d+)", wrote, re.M))
-    if out == "-":
-        left = entries(wrote.split("cells evaluated:")[1].split("\n", 1)[1])
-    else:
-        with open(os.path.join(folder, out)) as file:
-            left = entries(file.read())
-    case = {
+    return {
         "source": bytes_of(os.path.join(folder, rule)),
         "shape": [int(size) for size in shape.split("x")],
         "grid": before,
@@ -58,25 +50,58 @@ def main(root, folder):
         "steps": int(steps),
         "values": [] if values == "-" else bytes_of(os.path.join(folder, values)),
     }
-    reports, second_left = second_run(root, case)
-    second = reports[way]
-    same = (
-        second_left == left
-        and second["number"] == report["reply"]
-        and second["line"] == report.get("list: line", "0")
-        and second["steps"] == report["steps done"]
-        and second["count"] == report["cells evaluated"]
-    )
-    if not same:
-        print("the second program differs: %s, grid %s" % (second, second_left))
+
+
+def report_of(text):
+    """The numbers of a report by their names."""
+    said = dict(re.findall(r"^(reply|list: line|steps done|cells evaluated):? (\d+)", text, re.M))
+    return {"number": int(said["reply"]), "line": int(said.get("list: line", 0)), "steps": int(said["steps done"]), "count": int(said["cells evaluated"])}
+
+
+def grid_left(folder, out, text):
+    """The grid that a call wrote, to a file or behind its report."""
+    if out == "-":
+        return entries(text.split("cells evaluated:")[1].split("\n", 1)[1])
+    with open(os.path.join(folder, out)) as file:
+        return entries(file.read())
+
+
+def joined(earlier, later):
+    """A run and the one that resumes it, each a case with its report, as one run."""
+    case = dict(earlier[0], steps=earlier[0]["steps"] + later[0]["steps"], values=earlier[0]["values"] + later[0]["values"])
+    sums = {name: earlier[1][name] + later[1][name] for name in ("steps", "count")}
+    return case, dict(later[1], **sums)
+
+
+def main(root, folder):
+    with open(os.path.join(folder, "command")) as file:
+        # a call whose arguments are not taken says so on standard error, and has no report
+        calls = [line.split()[1:] for line in file if line.startswith("run_rule ") and "2>&1" not in line]
+    with open(os.path.join(folder, "wrote")) as file:
+        texts = re.split(r"^(?=reply )", file.read(), flags=re.M)[1:]
+    if len(texts) != len(calls):
+        print("%d reports of %d calls" % (len(texts), len(calls)))
         return 1
-    path = os.path.join(folder, changes)
-    if changes != "-" and os.path.exists(path):
-        reached = int(start) + int(second["steps"])
-        reports, second_left = second_run(root, dict(case, start=reached, steps=0, values=bytes_of(path)))
-        if reports[way]["number"] != "0" or second_left != left:
-            print("the list of changes does not lead to the grid: %s, grid %s" % (reports[way], second_left))
+    whole = None
+    for words, text in zip(calls, texts):
+        manner, out = words[4], words[6]
+        changes = (words[7:] + ["-", "-"])[1]
+        run = call_of(folder, words), report_of(text)
+        whole = joined(whole, run) if manner == "resume" else run
+        way = "full" if manner == "full" else "quiet"
+        left = grid_left(folder, out, text)
+        reports, second_left = second_run(root, whole[0])
+        second = {name: int(reports[way][name]) for name in whole[1]}
+        if second_left != left or second != whole[1]:
+            print("the second program differs: %s, grid %s" % (second, second_left))
             return 1
+        path = os.path.join(folder, changes)
+        if changes != "-" and os.path.exists(path):
+            reached = run[0]["start"] + run[1]["steps"]
+            reports, second_left = second_run(root, dict(run[0], start=reached, steps=0, values=bytes_of(path)))
+            if reports[way]["number"] != "0" or second_left != left:
+                print("the list of changes does not lead to the grid: %s, grid %s" % (reports[way], second_left))
+                return 1
     return 0
 
 
