@@ -1,0 +1,4 @@
+-- Row counts: what is asked of them, worked examples, and what the functions promise.
+pub mod RowQueries
+mod RowCases
+pub mod Contracts
