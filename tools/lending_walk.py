@@ -376,7 +376,7 @@ use Rattle.naming.specs.Promises.{ChecksSource}''',
     },
     {
         'fn': 'run', 'callee': 'run', 'answer': 'Report', 'wraps': True,
-        'params': [('shr', 'u8'), ('shr', 'u8'), ('mut', 'u32'), ('rows', 'Row'), ('shr', 'u32'), ('mut', 'i32'), ('mut', 'i32'), ('mut', 'u8'), ('shr', 'u8'), ('sint', 'w64'), ('sint', 'w64'), ('enum', 'Manner')],
+        'params': [('shr', 'u8'), ('shr', 'u8'), ('mut', 'u32'), ('rows', 'Row'), ('shr', 'u32'), ('mut', 'i32'), ('mut', 'i32'), ('mut', 'u8'), ('shr', 'u8'), ('sint', 'w64'), ('sint', 'w64'), ('enum', 'Manner'), ('mut', 'u32'), ('bool', ''), ('uint', 'w32')],
         'uses': '''
 use Rattle.stepper.specs.Report.{full}
 use Rattle.services.specs.Calls.{memory, lent, asked, read-lent, run-report}

@@ -11,7 +11,7 @@ ROOT = os.path.dirname(os.path.dirname(os.path.abspath(__file__)))
 CASES = os.path.join(ROOT, "crates/services/specs/Cases.antt")
 # the modules of definitions, in reading order
 DEFINITIONS = [
-    ("automaton", ["Listed", "Step", "Shape", "Grid"]),
+    ("automaton", ["Listed", "Step", "Shape", "Grid", "Rows"]),
     ("token", ["Bytes", "Kind", "Lexeme", "Scanning"]),
     ("names", ["Names"]),
     ("grammar", ["Complaint", "Reader", "Constants", "Expressions", "Statements", "Source", "Checking"]),

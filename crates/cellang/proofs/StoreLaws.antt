@@ -18,7 +18,7 @@ use Rattle.grammar.specs.Complaint.{complaint}
 use Rattle.grammar.specs.Source.{Accepted, parse}
 use Rattle.grammar.specs.Checking.{most-bytes, Outcome, turned-away, outcome-of, rooms-fit, lent-fit, read-source, room-left, names-after, check, words-after}
 use Rattle.stepper.specs.Report.{Manner}
-use Rattle.services.specs.Services.{run-source, room-after, marks-after}
+use Rattle.services.specs.Services.{run-source, room-after, marks-after, counts-after}
 use Rattle.services.specs.Calls.{flat-names, memory, Lent, lent, asked, names-left, run-left}
 use Rattle.checker.specs.Promises.{Checks}
 use Rattle.checker.proofs.Checks.{list-right}
@@ -208,25 +208,25 @@ row-check list source ws ws′ flat names reply rows count n m c r =
 
 -- ---- a run
 
-module _ (manner : Manner) (source list ws : List ℕ) (names : ℕ) (sizes : List ℕ) (grid scratch : List ℤ) (marks values : List ℕ) (start steps : ℤ) where
+module _ (manner : Manner) (source list ws : List ℕ) (names : ℕ) (sizes : List ℕ) (grid scratch : List ℤ) (marks values : List ℕ) (start steps : ℤ) (counts : List ℕ) (counted : Bool) (field : ℕ) where
   abbrev lends : List Name → Lent Name
-  lends ns = lent source list sizes (memory ws ns grid scratch marks) values start steps
+  lends ns = lent source list sizes (memory ws ns grid scratch marks counts) values start steps counted field
 
-  pub no-row-run : (r : RunAnswer) → not (row-fits list names) ≡ true → TurnedAway r → RunsOver manner names lends r (λ ns. memory ws ns grid scratch marks)
+  pub no-row-run : (r : RunAnswer) → not (row-fits list names) ≡ true → TurnedAway r → RunsOver manner names lends r (λ ns. memory ws ns grid scratch marks counts)
   no-row-run r n t =
       record {
         few = (subst (λ (k : ℕ). k ≤ 256) (sym (t .count)) zero-le, subst (λ (k : ℕ). k ≤ names) (sym (t .count)) zero-le);
         stores = λ ns l.
-            subst₂ (λ (said : Report) (k : ℕ). RunLeaves row-names manner (lends ns) said (memory ws (take k (r .rows) ++ drop k ns) grid scratch marks)) (sym (t .report)) (sym (t .count))
+            subst₂ (λ (said : Report) (k : ℕ). RunLeaves row-names manner (lends ns) said (memory ws (take k (r .rows) ++ drop k ns) grid scratch marks counts)) (sym (t .report)) (sym (t .count))
             (unlisted-run row-names manner (lends ns) (ap (lent-rows-fit list (length ws)) l ∙ no-row list (length ws) names n));
       }
 
-  pub row-run : (ws′ flat : List ℕ) (grid′ scratch′ : List ℤ) (marks′ : List ℕ) (report : Report) (rows : List Name) (count : ℕ) → not (row-fits list names) ≡ false
+  pub row-run : (ws′ flat : List ℕ) (grid′ scratch′ : List ℤ) (marks′ counts′ : List ℕ) (report : Report) (rows : List Name) (count : ℕ) → not (row-fits list names) ≡ false
       → count ≡ stored-of (length source) (length ws)
-      → RunLeaves flat-names manner (lent source list sizes (memory ws zeros grid scratch marks) values start steps) report (memory ws′ flat grid′ scratch′ marks′) → rows ≡ rows-of flat
-      → RunsOver manner names lends (record { report = report; rows = rows; count = count }) (λ ns. memory ws′ ns grid′ scratch′ marks′)
+      → RunLeaves flat-names manner (lent source list sizes (memory ws zeros grid scratch marks counts) values start steps counted field) report (memory ws′ flat grid′ scratch′ marks′ counts′) → rows ≡ rows-of flat
+      → RunsOver manner names lends (record { report = report; rows = rows; count = count }) (λ ns. memory ws′ ns grid′ scratch′ marks′ counts′)
   unfolding run-left lent-fit
-  row-run ws′ flat grid′ scratch′ marks′ report rows count n m c r =
+  row-run ws′ flat grid′ scratch′ marks′ counts′ report rows count n m c r =
       record {
         few = (few, subst (λ (k : ℕ). count ≤ k) (sym (there .1)) few);
         stores = λ ns l.
@@ -238,7 +238,8 @@ module _ (manner : Manner) (source list ws : List ℕ) (names : ℕ) (sizes : Li
             ((λ i. take (m i) (r i) ++ drop (m i) ns) ∙ stores-lent list source ws flat names there ns l (flat-left list source ws (ap (λ x. x .memory .names) (c .is)))
             ∙ ap (λ (k : ℕ). names-left row-names (lent-rows-fit list (length ws) k) source ns) (sym l))
             (ap (λ x. x .memory .scratch) (c .is) ∙ ap (λ (t : Bool). room-after (pos 0) t source q scratch) fit)
-            (ap (λ x. x .memory .marks) (c .is) ∙ ap (λ (t : Bool). marks-after manner t source q marks) fit);
+            (ap (λ x. x .memory .marks) (c .is) ∙ ap (λ (t : Bool). marks-after manner t source q marks) fit)
+            (ap (λ x. x .memory .counts) (c .is) ∙ ap (λ (t : Bool). counts-after manner t source q counts) fit);
       }
     where
       there : (is-built-in list ≡ true) × (names ≡ 256)

@@ -1,6 +1,6 @@
 -- What the calls tell.
-use mathlib.Core.Path.{_≡_, ap, _∙_, subst}
-use mathlib.Core.Bool.{Bool}
+use mathlib.Core.Path.{_≡_, refl, sym, ap, _∙_, subst, subst₂}
+use mathlib.Core.Bool.{Bool, false}
 use mathlib.Core.List.{List, [], _∷_, _++_}
 use Prim.Native.Nat.{ℕ}
 use lib.IntN.{ℤ}
@@ -12,18 +12,24 @@ use Rattle.spelling.specs.Spelling.{part-at, part-entries, told-entries}
 use Rattle.grammar.specs.Complaint.{Complaint}
 use Rattle.checker.specs.Promises.{Checks}
 use Rattle.stepper.specs.Report as report
-use Rattle.stepper.specs.Report.{Manner}
-use Rattle.services.specs.Calls.{flat-names, Memory, lent}
+use Rattle.stepper.specs.Report.{Manner, full}
+use Rattle.services.specs.Calls.{flat-names, Memory, memory, Lent, lent, fits, asked, read-lent, run-report, run-left}
+use Rattle.services.specs.RangesKept.{RangesKept, grid-in-ranges}
 use Rattle.iteration.specs.declared.Report.{Report}
-use Rattle.runner.specs.Sourcewise.{RunLeaves}
-use Rattle.runner.proofs.RunLaws.{left-report, read-times}
+use Rattle.iteration.specs.declared.Manner.{Manner as Way}
+use Rattle.runner.specs.Sourcewise.{manner-of, RunLeaves}
+use Rattle.runner.specs.Property3.{AgreesFresh}
+use Rattle.runner.proofs.RunLaws.{left-report, read-times, fresh-agrees, counts-unasked}
+use Rattle.row_counts.specs.declared.queries.Rows.{Rows}
+use Rattle.row_counts.specs.RowQueries.{RowReply}
+use Rattle.row_counts.specs.Contracts.Queries.{reply-of}
 use Rattle.list_writer.specs.declared.Written.{Written}
 use Rattle.list_writer.specs.WriterCalls.{wanted, writer-lent}
 use Rattle.list_writer.specs.Contracts.Writing.{WriterLeaves}
 use Rattle.entries.specs.Over.{over}
 use Rattle.comparison.specs.declared.Comparison.{Comparison}
 use Rattle.comparison.specs.Contracts.Comparing.{Compares}
-use Rattle.cellang.specs.Told.{reply-entries, TellsCheck, report-entries, TellsRun, written-entries, TellsWritten, comparison-entries, TellsComparison}
+use Rattle.cellang.specs.Told.{reply-entries, TellsCheck, report-entries, TellsRun, written-entries, TellsWritten, comparison-entries, TellsComparison, row-entries, TellsRows}
 
 -- ---- a check
 
@@ -39,10 +45,10 @@ tells-check {fit} {source} {ws} {ns} {reply} {number} {place} {ws′} {ns′} h 
 -- ---- a run
 
 -- the times as the machine reads them
-pub tells-run : {manner : Manner} {source list sizes values : List ℕ} {m m′ : Memory ℕ} {start steps : ℤ} {entries entries′ : List ℕ} {said : Report} {t : Told} → SFits w64 start → SFits w64 steps
-    → RunLeaves flat-names manner (lent source list sizes m values (toZ w64 (ofZ w64 start)) (toZ w64 (ofZ w64 steps))) said m′ → told-entries t ≡ part-entries (part-at source (said .number) (said .place))
-    → entries′ ≡ over (said .number ∷ said .place ∷ said .cell ∷ said .steps ∷ said .count ∷ told-entries t ++ said .line ∷ []) entries → TellsRun manner (lent source list sizes m values start steps) entries (said .number) m′ entries′
-tells-run {manner} {source} {list} {sizes} {values} {m} {m′} {start} {steps} {entries} {entries′} {said} a b h p e =
+pub tells-run : {manner : Manner} {source list sizes values : List ℕ} {m m′ : Memory ℕ} {start steps : ℤ} {counted : Bool} {field : ℕ} {entries entries′ : List ℕ} {said : Report} {t : Told} → SFits w64 start → SFits w64 steps
+    → RunLeaves flat-names manner (lent source list sizes m values (toZ w64 (ofZ w64 start)) (toZ w64 (ofZ w64 steps)) counted field) said m′ → told-entries t ≡ part-entries (part-at source (said .number) (said .place))
+    → entries′ ≡ over (said .number ∷ said .place ∷ said .cell ∷ said .steps ∷ said .count ∷ told-entries t ++ said .line ∷ []) entries → TellsRun manner (lent source list sizes m values start steps counted field) entries (said .number) m′ entries′
+tells-run {manner} {source} {list} {sizes} {values} {m} {m′} {start} {steps} {counted} {field} {entries} {entries′} {said} a b h p e =
     let k = read-times a b h in
     record {
       number = ap (λ (x : report.Report). x .number) (left-report k);
@@ -50,6 +56,35 @@ tells-run {manner} {source} {list} {sizes} {values} {m} {m′} {start} {steps} {
           ∙ ap (λ (x : report.Report). over (report-entries source x) entries) (left-report k);
       memory = ap (λ x. x .memory) (k .is);
     }
+
+-- what a call tells that hands the times on, as the machine reads them
+pub told-on : {manner : Manner} {source list sizes values : List ℕ} {m : Memory ℕ} {start steps : ℤ} {counted : Bool} {field : ℕ} {entries entries′ : List ℕ} {r : ℕ} {m′ : Memory ℕ} → SFits w64 start → SFits w64 steps
+    → TellsRun manner (lent source list sizes m values (toZ w64 (ofZ w64 start)) (toZ w64 (ofZ w64 steps)) counted field) entries r m′ entries′
+    → TellsRun manner (lent source list sizes m values start steps counted field) entries r m′ entries′
+told-on {manner} {source} {list} {sizes} {values} {m} {start} {steps} {counted} {field} {entries} {entries′} {r} {m′} a b =
+    subst₂ (λ (s n : ℤ). TellsRun manner (lent source list sizes m values s n counted field) entries r m′ entries′) (toZ-ofZ a) (toZ-ofZ b)
+
+-- the grid that it leaves has each field in its range
+pub tells-ranges : {manner : Manner} {l : Lent ℕ} {entries entries′ : List ℕ} {r : ℕ} {m : Memory ℕ} → TellsRun manner l entries r m entries′ → RangesKept (read-lent flat-names l) (asked l) (m .grid)
+unfolding run-left
+tells-ranges {manner} {l} h = subst (RangesKept (read-lent flat-names l) (asked l)) (sym (ap (λ x. x .grid) (h .memory))) (grid-in-ranges manner (fits flat-names l) (l .source) (asked l))
+
+-- and what it tells agrees with the full run, unless it began from lent marks
+pub tells-agrees : {manner : Manner} {l : Lent ℕ} {entries entries′ : List ℕ} {r : ℕ} {m : Memory ℕ} (way : Way) → TellsRun manner l entries r m entries′
+    → AgreesFresh way (run-report flat-names (manner-of way (l .memory .marks)) l) (run-report flat-names full l)
+tells-agrees {l = l} way h = fresh-agrees flat-names way l
+
+-- a run that keeps no counts is lent none, and leaves none
+pub told-plain : {manner : Manner} {source list sizes ws ns : List ℕ} {g s : List ℤ} {k values : List ℕ} {start steps : ℤ} {field : ℕ} {entries entries′ : List ℕ} {r : ℕ} {ws′ ns′ : List ℕ} {g′ s′ : List ℤ} {k′ o′ : List ℕ}
+    → TellsRun manner (lent source list sizes (memory ws ns g s k []) values start steps false field) entries r (memory ws′ ns′ g′ s′ k′ o′) entries′
+    → TellsRun manner (lent source list sizes (memory ws ns g s k []) values start steps false field) entries r (memory ws′ ns′ g′ s′ k′ []) entries′
+unfolding run-left
+told-plain {manner} {source} {list} {sizes} {ws} {ns} {g} {s} {k} {values} {start} {steps} {field} {entries} {entries′} {r} {ws′} {ns′} {g′} {s′} {k′} {o′} h =
+    subst (λ (o : List ℕ). TellsRun manner (lent source list sizes (memory ws ns g s k []) values start steps false field) entries r (memory ws′ ns′ g′ s′ k′ o) entries′)
+    (ap (λ x. x .counts) (h .memory) ∙ counts-unasked manner _ source _ [] refl) h
+
+pub tells-rows : {said : RowReply} {reply : List ℕ} {rows : Rows} {reply′ : List ℕ} → reply-of rows ≡ said → reply′ ≡ over (rows .number ∷ rows .value ∷ []) reply → TellsRows said reply (rows .number) reply′
+tells-rows {reply = reply} h e = record { number = ap (λ (x : RowReply). x .number) h; entries = e ∙ ap (λ (x : RowReply). over (row-entries x) reply) h }
 
 -- ---- the writer
 

@@ -13,6 +13,7 @@ use Rattle.checker.specs.Promises.{Checks}
 use Rattle.lists.specs.Writing.{Wrote}
 use Rattle.list_writer.specs.WriterCalls.{WriterLent, writer-left}
 use Rattle.entries.specs.Over.{over}
+use Rattle.row_counts.specs.RowQueries.{RowReply}
 use Rattle.comparison.specs.declared.Comparison.{Comparison}
 use Rattle.comparison.specs.Differences.{compared, compared-room}
 
@@ -64,3 +65,13 @@ pub record TellsComparison (left right : List ℤ) (k : ℕ) (room : List ℤ) (
   pub number : r ≡ compared left right k room .number
   pub entries : reply′ ≡ over (comparison-entries (compared left right k room)) reply
   pub room-is : room′ ≡ compared-room left right k room
+
+-- ---- row counts
+
+-- the entries that tell what row counts answer
+abbrev pub row-entries : RowReply → List ℕ
+row-entries said = said .number ∷ said .value ∷ []
+
+pub record TellsRows (said : RowReply) (reply : List ℕ) (r : ℕ) (reply′ : List ℕ) : Type 0 where
+  pub number : r ≡ said .number
+  pub entries : reply′ ≡ over (row-entries said) reply

@@ -59,8 +59,11 @@ fn ran(
     start: i64,
     steps: i64,
     manner: Manner,
+    counts: &mut [u32],
+    counted: bool,
+    field: u32,
 ) -> RunAnswer
-    ensures { λ r. ⌜ RunsOver (manner-of manner (now (marks .entry))) names (λ (ns : List Name). (lent (now (source .entry)) (now (list .entry)) (now (sizes .entry)) (memory (now (words .entry)) ns (now (grid .entry)) (now (scratch .entry)) (now (marks .entry))) (now (values .entry)) start steps)) r (λ (ns : List Name). (memory (now (words .exit)) ns (now (grid .exit)) (now (scratch .exit)) (now (marks .exit)))) ⌝ }
+    ensures { λ r. ⌜ RunsOver (manner-of manner (now (marks .entry))) names (λ (ns : List Name). (lent (now (source .entry)) (now (list .entry)) (now (sizes .entry)) (memory (now (words .entry)) ns (now (grid .entry)) (now (scratch .entry)) (now (marks .entry)) (now (counts .entry))) (now (values .entry)) start steps counted field)) r (λ (ns : List Name). (memory (now (words .exit)) ns (now (grid .exit)) (now (scratch .exit)) (now (marks .exit)) (now (counts .exit)))) ⌝ }
 {
     if !row_fits(list, names) {
         return turned_away();
@@ -80,6 +83,9 @@ fn ran(
         start,
         steps,
         manner,
+        counts,
+        counted,
+        field,
     );
     let rows = rows_of(&flat);
     RunAnswer {
@@ -92,7 +98,7 @@ fn ran(
 // Runs a source on a grid: so many steps from a start time, with the blocks of a value list, which is empty where there is none. A full run evaluates
 // every cell in each step, the others only the cells that are open in it: the answer and the grid are the same, and the count is of the open cells. A
 // pausing run leaves the marks of the cells that one more step would open; a resuming one begins, besides, from the marks that it is lent, whatever
-// they are.
+// they are. Where `counted` is set the run keeps row counts: how many cells of each row of the first dimension have 0 in the field.
 pub fn run(
     source: &[u8],
     list: &[u8],
@@ -106,8 +112,11 @@ pub fn run(
     start: i64,
     steps: i64,
     manner: Manner,
+    counts: &mut [u32],
+    counted: bool,
+    field: u32,
 ) -> Report
-    ensures { λ r. ⌜ (RunLeaves row-names (manner-of manner (now (marks .entry))) (lent (now (source .entry)) (now (list .entry)) (now (sizes .entry)) (memory (now (words .entry)) (now (names .entry)) (now (grid .entry)) (now (scratch .entry)) (now (marks .entry))) (now (values .entry)) start steps) r (memory (now (words .exit)) (now (names .exit)) (now (grid .exit)) (now (scratch .exit)) (now (marks .exit)))) × (AgreesFresh manner (told r (now (grid .exit))) (run-report row-names full (lent (now (source .entry)) (now (list .entry)) (now (sizes .entry)) (memory (now (words .entry)) (now (names .entry)) (now (grid .entry)) (now (scratch .entry)) (now (marks .entry))) (now (values .entry)) start steps))) × (RangesKept (read-lent row-names (lent (now (source .entry)) (now (list .entry)) (now (sizes .entry)) (memory (now (words .entry)) (now (names .entry)) (now (grid .entry)) (now (scratch .entry)) (now (marks .entry))) (now (values .entry)) start steps)) (asked (lent (now (source .entry)) (now (list .entry)) (now (sizes .entry)) (memory (now (words .entry)) (now (names .entry)) (now (grid .entry)) (now (scratch .entry)) (now (marks .entry))) (now (values .entry)) start steps)) (now (grid .exit))) ⌝ }
+    ensures { λ r. ⌜ (RunLeaves row-names (manner-of manner (now (marks .entry))) (lent (now (source .entry)) (now (list .entry)) (now (sizes .entry)) (memory (now (words .entry)) (now (names .entry)) (now (grid .entry)) (now (scratch .entry)) (now (marks .entry)) (now (counts .entry))) (now (values .entry)) start steps counted field) r (memory (now (words .exit)) (now (names .exit)) (now (grid .exit)) (now (scratch .exit)) (now (marks .exit)) (now (counts .exit)))) × (AgreesFresh manner (told r (now (grid .exit))) (run-report row-names full (lent (now (source .entry)) (now (list .entry)) (now (sizes .entry)) (memory (now (words .entry)) (now (names .entry)) (now (grid .entry)) (now (scratch .entry)) (now (marks .entry)) (now (counts .entry))) (now (values .entry)) start steps counted field))) × (RangesKept (read-lent row-names (lent (now (source .entry)) (now (list .entry)) (now (sizes .entry)) (memory (now (words .entry)) (now (names .entry)) (now (grid .entry)) (now (scratch .entry)) (now (marks .entry)) (now (counts .entry))) (now (values .entry)) start steps counted field)) (asked (lent (now (source .entry)) (now (list .entry)) (now (sizes .entry)) (memory (now (words .entry)) (now (names .entry)) (now (grid .entry)) (now (scratch .entry)) (now (marks .entry)) (now (counts .entry))) (now (values .entry)) start steps counted field)) (now (grid .exit))) ⌝ }
 {
     let c = ran(
         source,
@@ -122,6 +131,9 @@ pub fn run(
         start,
         steps,
         manner,
+        counts,
+        counted,
+        field,
     );
     store_first(names, c.rows, c.count);
     c.report

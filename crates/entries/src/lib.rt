@@ -86,3 +86,11 @@ pub fn put_comparison(entries: &mut [u32], number: u32, total: u32)
     put_word(entries, 0, number);
     put_word(entries, 1, total);
 }
+
+// Tells in the first entries what row counts answer.
+pub fn put_rows(entries: &mut [u64], number: u32, value: u64)
+    ensures { λ _. ⌜ now (entries .exit) ≡ over (number ∷ value ∷ []) (now (entries .entry)) ⌝ }
+{
+    put_number(entries, 0, number as u64);
+    put_number(entries, 1, value);
+}

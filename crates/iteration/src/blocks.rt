@@ -38,7 +38,7 @@ pub fn next_block(values: &[u8], kinds: &[u8; 256], at: usize) -> Next
 }
 
 // Whether a block is due at a time.
-fn due_at(next: Next, time: u32) -> bool
+pub fn due_at(next: Next, time: u32) -> bool
     ensures { λ r. ⌜ r ≡ is-due next time ⌝ }
 {
     if !next.due {

@@ -1,6 +1,7 @@
 // The steps of a run, one after the other, each with its block.
 
 mod blocks;
+mod counting;
 mod steps;
 
 pub use steps::run_steps;

@@ -3,10 +3,15 @@ ghost use mathlib.Core.Path.{_≡_};
 ghost use Rattle.marking.specs.Opened as marking;
 ghost use Rattle.semantics.specs.Leaves.{Leaves};
 ghost use Rattle.marking.specs.Opened.{WayOf};
+ghost use lib.ListN.{length};
+ghost use Rattle.iteration.specs.Countwise.{CountsFit, Filled, Tallied};
 ghost use Rattle.iteration.specs.Stepwise.{without-fault, Copying, from-lent, pending-in, Started, Begins, Standing, Renewed, RanMarked, Ran};
 use crate::Report;
 use crate::blocks::next_block;
 use crate::blocks::set_due;
+use crate::counting::fill_asked;
+use crate::counting::move_asked;
+use crate::counting::recounts;
 use leaf_table::fill_leaves;
 use marked_cells::rooms::clear_marks;
 use marked_cells::rooms::copy_numbers;
@@ -97,9 +102,13 @@ fn run_marked(
     values: &[u8],
     start: u32,
     steps: u32,
+    counts: &mut [u32],
+    counted: bool,
+    field: u32,
 ) -> Report
-    requires { ⌜ (Begins (now words) rule (now sizes) reach (now grid) (now scratch) (now marks) (now values) start steps) × (Standing rule (now sizes) all_open (now grid) (now scratch) (now marks)) × (Leaves (now leaves) (now words) (now sizes) (rule .tokens) (rule .fields) (rule .slots)) × (WayOf (now sizes) reach (now backs) listed) ⌝ }
+    requires { ⌜ (Begins (now words) rule (now sizes) reach (now grid) (now scratch) (now marks) (now values) start steps) × (Standing rule (now sizes) all_open (now grid) (now scratch) (now marks)) × (Leaves (now leaves) (now words) (now sizes) (rule .tokens) (rule .fields) (rule .slots)) × (WayOf (now sizes) reach (now backs) listed) × (CountsFit counted (rule .fields) (now sizes) field (length (now counts))) × (Filled counted (now sizes) (rule .fields) field (now grid) (now counts) (now counts)) ⌝ }
     ensures { λ r. ⌜ RanMarked (now (words .entry)) rule (now (sizes .entry)) reach all_open (now (values .entry)) start steps (now (grid .entry)) (now (marks .entry)) r (now (grid .exit)) (now (marks .exit)) ⌝ }
+    ensures counts { λ _. ⌜ Tallied (now (words .entry)) rule (now (sizes .entry)) reach all_open counted field (now (grid .exit)) (now (counts .entry)) (now (counts .exit)) ⌝ }
 {
     let kinds = kind_table();
     let mut next = next_block(values, &kinds, 0);
@@ -107,6 +116,7 @@ fn run_marked(
     let mut count: u64 = 0;
     while done <= steps {
         let bounds = reach.bounds;
+        let anew = recounts(next, start + done, counted);
         next = set_due(
             values,
             &kinds,
@@ -122,6 +132,7 @@ fn run_marked(
             start + done,
             next,
         );
+        fill_asked(anew, sizes, rule.fields, field, grid, counts);
         if done == steps {
             return ended(steps, count);
         }
@@ -151,6 +162,16 @@ fn run_marked(
                 };
             }
         }
+        move_asked(
+            counted,
+            marks,
+            sizes,
+            rule.fields,
+            field,
+            scratch,
+            grid,
+            counts,
+        );
         renew_marks(
             sizes,
             bounds,
@@ -184,9 +205,13 @@ pub fn run_steps(
     start: u32,
     steps: u32,
     resumed: bool,
+    counts: &mut [u32],
+    counted: bool,
+    field: u32,
 ) -> Report
-    requires { ⌜ Begins (now words) rule (now sizes) reach (now grid) (now scratch) (now marks) (now values) start steps ⌝ }
+    requires { ⌜ Begins (now words) rule (now sizes) reach (now grid) (now scratch) (now marks) (now values) start steps × CountsFit counted (rule .fields) (now sizes) field (length (now counts)) ⌝ }
     ensures { λ r. ⌜ Ran (now (words .entry)) rule (now (sizes .entry)) reach all_open (now (values .entry)) start steps (pending-in resumed (now (marks .entry))) (now (grid .entry)) r (now (grid .exit)) (now (marks .exit)) ⌝ }
+    ensures counts { λ _. ⌜ Tallied (now (words .entry)) rule (now (sizes .entry)) reach all_open counted field (now (grid .exit)) (now (counts .entry)) (now (counts .exit)) ⌝ }
 {
     let mut leaves = [0u32; 32776];
     fill_leaves(
@@ -200,6 +225,7 @@ pub fn run_steps(
     let mut backs = [0u32; 768];
     let listed = set_ways(sizes, reach, &mut backs);
     begin_marks(resumed, all_open, grid, scratch, marks);
+    fill_asked(counted, sizes, rule.fields, field, grid, counts);
     run_marked(
         &leaves,
         words,
@@ -215,5 +241,8 @@ pub fn run_steps(
         values,
         start,
         steps,
+        counts,
+        counted,
+        field,
     )
 }

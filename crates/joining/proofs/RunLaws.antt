@@ -20,7 +20,7 @@ use Rattle.automaton.specs.Pause.{joined, pause}
 use Rattle.program.specs.Syntax.{Program}
 use Rattle.stepper.specs.Reach.{running}
 use Rattle.stepper.specs.Admission.{Request, Refusal, refusal, good-sizes, good-rooms, good-times, too-far, out-of-field, admission}
-use Rattle.stepper.specs.Report.{Manner, full, quiet, pausing, resuming, pending-of, Report, ended}
+use Rattle.stepper.specs.Report.{Manner, full, quiet, pausing, resuming, pending-of, ended}
 use Rattle.stepper.specs.Locality.{Flagged}
 use Rattle.stepper.specs.Covering.{running-lawful}
 use Rattle.stepper.specs.Ranges.{admitted-dims}
@@ -30,7 +30,8 @@ use Rattle.lists.specs.ListChecking.{Limits, limits-of, time-behind, verdict, c
 use Rattle.lists.specs.Setting.{set-lines, set-block}
 use Rattle.lists.specs.Passing.{Passes, passes-first, last-time, passes-joined, said-joined}
 use Rattle.services.specs.Running.{Asked, admitted, blocks, report-of, standing}
-use Rattle.services.specs.RunningLaws.{request-admitted, list-passes, both-admit}
+use Rattle.services.specs.RunningLaws.{request-admitted, counts-admitted, list-passes, all-admit}
+use Rattle.iteration.specs.Stepwise.{report-in}
 use Rattle.joining.specs.Joins.{joined-rise, Pauses, at-once, together}
 use Rattle.joining.proofs.ListLaws.{first-rises, behind-rises, passes-wider, passes-after, lines-join}
 
@@ -69,9 +70,6 @@ module _ {Grid State : Type 0} (M : Automaton Grid State) (block : Blocks Grid) 
 abbrev pub quiet-of : Manner → Program → Asked → Quiet (List ℤ)
 quiet-of manner p q =
     quiet-run (running p (q .request .sizes)) (blocks p q) (pending-of manner) (natAbs (q .request .steps)) (natAbs (q .request .start)) (q .request .grid)
-
-abbrev pub report-in : Quiet (List ℤ) → Report
-report-in q = ended (q .run .fault) (q .run .steps) (q .count) (q .run .grid)
 
 module _ (p : Program) (q : Asked) (laws : Lawful (running p (q .request .sizes))) where
   -- the report of a manner that leaves its marks standing, and these marks
@@ -206,7 +204,7 @@ module _ (p : Program) where
     rise = behind-rises none (said (q .values)) (said (r .values)) times
 
     pub at-once-admitted : admitted p (at-once q r) .number ≡ 0
-    at-once-admitted = both-admit p (at-once q r) (longer (q .request) (pos (n + m)) (request-admitted p q a) (right-times (q .request .start) (n + m) (Tq .start-is) few)) (rw said-both pass)
+    at-once-admitted = all-admit p (at-once q r) (longer (q .request) (pos (n + m)) (request-admitted p q a) (right-times (q .request .start) (n + m) (Tq .start-is) few)) (counts-admitted p q a) (rw said-both pass)
       where
         Tq : Times (q .request .start) (q .request .steps)
         Tq = times-of (q .request .start) (q .request .steps) (times-pass (q .request) (request-admitted p q a))

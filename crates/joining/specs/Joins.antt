@@ -52,7 +52,7 @@ pub record GoesOn (manner : Manner) (fit : Bool) (source : List ℕ) (q r : Aske
 abbrev pub behind : Manner → Bool → List ℕ → Asked → List ℕ → Manner
 behind manner fit source q marks = resuming (marks-after manner fit source q marks)
 
--- both calls at once: the steps of both, with the joined list
+-- both calls at once: the steps of both, with the joined list, and the row counts that the earlier one keeps
 abbrev pub at-once : Asked → Asked → Asked
 at-once q r =
     ask
@@ -65,6 +65,7 @@ at-once q r =
       marks = q .request .marks;
     })
     (q .values ++ r .values)
+    (q .counts)
 
 -- what two calls give together: the later one's answer and grid, and the sums of the steps and of the counts
 abbrev pub together : Report → Report → Report

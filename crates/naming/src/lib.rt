@@ -39,8 +39,11 @@ pub fn run(
     start: i64,
     steps: i64,
     manner: Manner,
+    counts: &mut [u32],
+    counted: bool,
+    field: u32,
 ) -> Ran
-    ensures { λ r. ⌜ RunLeaves row-names (manner-of manner (now (marks .entry))) (lent (now (source .entry)) (now (list .entry)) (now (sizes .entry)) (memory (now (words .entry)) rows (now (grid .entry)) (now (scratch .entry)) (now (marks .entry))) (now (values .entry)) start steps) (r .report) (memory (now (words .exit)) (r .rows) (now (grid .exit)) (now (scratch .exit)) (now (marks .exit))) ⌝ }
+    ensures { λ r. ⌜ RunLeaves row-names (manner-of manner (now (marks .entry))) (lent (now (source .entry)) (now (list .entry)) (now (sizes .entry)) (memory (now (words .entry)) rows (now (grid .entry)) (now (scratch .entry)) (now (marks .entry)) (now (counts .entry))) (now (values .entry)) start steps counted field) (r .report) (memory (now (words .exit)) (r .rows) (now (grid .exit)) (now (scratch .exit)) (now (marks .exit)) (now (counts .exit))) ⌝ }
 {
     let mut names = rows;
     let report = cellang::run(
@@ -56,6 +59,9 @@ pub fn run(
         start,
         steps,
         manner,
+        counts,
+        counted,
+        field,
     );
     Ran {
         report: report,

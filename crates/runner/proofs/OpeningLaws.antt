@@ -2,16 +2,17 @@
 use Prim.Native.Nat.{ℕ, _+_, _<_, _≤_}
 use native.Mathlib.Omega.{arith}
 use mathlib.Core.Path.{_≡_, refl, sym, ap, ap₂, _∙_, subst, subst₂}
-use mathlib.Core.Bool.{Bool, true, false, not}
+use mathlib.Core.Bool.{Bool, true, false, not, _&&_}
 use mathlib.Core.List.{List}
-use lib.ListN.{length}
-use lib.Dec.{T}
+use mathlib.Core.Option.{Option}
+use lib.ListN.{length, getD}
+use lib.Dec.{T, eqb, ltb}
 use lib.IntN.{ℤ, pos, natAbs}
 use lib.Signed.{nonNeg}
 use mir.Syntax.{w32, w64}
 use mir.Val.{Fits, SFits, toZ, ofZ}
 use mir.Facts.{toZ-ofZ}
-use borrow.Author.Tests.{not-true, not-false, ne-eqb}
+use borrow.Author.Tests.{not-true, not-false, ne-eqb, le-ltb, lt-ltb}
 use Rattle.value.specs.Laws.{never}
 use Rattle.token.specs.Scanning.{scan, scan-of}
 use Rattle.program.specs.Syntax.{Program}
@@ -27,22 +28,22 @@ use Rattle.linking.specs.Accepted.{Parsed, holds, written, flagged}
 use Rattle.stepper.specs.Admission.{Request, Refusal, refusal, admission}
 use Rattle.stepper.specs.Report.{Manner, refused}
 use Rattle.stepper.specs.Locality.{Flagged}
-use Rattle.stepper.specs.Fitting.{Sized, Shaped}
+use Rattle.stepper.specs.Fitting.{Sized, Shaped, held-fields}
 use Rattle.lists.specs.ListChecking.{Turned, Verdict, verdict, limits-of, check-list}
 use Rattle.list_reader.specs.declared.checking.Verdict as judged
 use Rattle.list_reader.specs.Places.{Dimensions}
 use Rattle.list_reader.specs.Values.{fields-in}
 use Rattle.list_reader.specs.Checks.{limits, Checks as ChecksList}
 use Rattle.list_reader.proofs.CursorLaws.{limits-are, dimensions-are}
-use Rattle.services.specs.Running.{Asked, ask, admitted}
-use Rattle.services.specs.RunningLaws.{turned, list-decides, refused-first, list-passes, run-refused}
+use Rattle.services.specs.Running.{CountsAsked, counts-of, Asked, ask, good-counts, admitted}
+use Rattle.services.specs.RunningLaws.{turned, list-decides, counts-refused, refused-first, list-passes, run-refused}
 use Rattle.services.specs.Services.{run-begins, run-read, run-source}
 use Rattle.checker.specs.declared.checking.Outline.{Outline}
 use Rattle.checker.specs.Promises.{Trace, Outlines, accepted-by, Loads, Checks, is-accepted}
 use Rattle.admission.specs.declared.admitting.Admitted.{Admitted}
 use Rattle.admission.specs.Admitting.{request-of, Lists, Admits}
 use Rattle.runner.specs.declared.opening.Opening.{Opening}
-use Rattle.runner.specs.Sourcewise.{Opens}
+use Rattle.runner.specs.Sourcewise.{counts-right, Opens}
 use Rattle.runner.specs.Timing.{timing}
 
 -- ---- an accepted source
@@ -146,6 +147,18 @@ module _ {words : List ℕ} {rule : Rule} {sizes : List ℕ} {grid : List ℤ} {
   pub add-last : Fits w32 (natAbs start + natAbs steps)
   add-last = record { fits = omega (arith, admits .times z) }
 
+-- ---- the row counts
+
+module _ (counted : Bool) (field rows fields : ℕ) (sizes : List ℕ) where
+  pub counts-off : not counted ≡ true → true ≡ counts-right counted field rows fields sizes
+  counts-off e = ap (λ (b : Bool). counts-right b field rows fields sizes) (sym (not-true counted e))
+
+  pub counts-far : not counted ≡ false → fields ≤ field → false ≡ counts-right counted field rows fields sizes
+  counts-far e l = sym (ap (λ (b : Bool). b && eqb rows (getD sizes 0 0)) (le-ltb field fields l)) ∙ ap (λ (b : Bool). counts-right b field rows fields sizes) (sym (not-false counted e))
+
+  pub counts-near : not counted ≡ false → field < fields → eqb rows (getD sizes 0 0) ≡ counts-right counted field rows fields sizes
+  counts-near e l = sym (ap (λ (b : Bool). b && eqb rows (getD sizes 0 0)) (lt-ltb field fields l)) ∙ ap (λ (b : Bool). counts-right b field rows fields sizes) (sym (not-false counted e))
+
 -- ---- the ways through
 
 -- the opening of a run that does not begin
@@ -154,10 +167,10 @@ Closed r number place line = (r .begun ≡ false) × (r .number ≡ number) × (
 
 module _ {source ws ns sizes : List ℕ} {grid : List ℤ} {scratch marks : ℕ} {start steps : ℤ} {known : Bool} {o : Outline} {n place : ℕ} {ws′ ns′ : List ℕ}
     (checked : Checks (rooms-fit (length ws) (length ns)) source ws ns n place ws′ ns′) (loaded : Loads source ws ns known o) where
-  pub unread : not known ≡ true → {values : List ℕ} {r : Opening} → Closed r n place 0
-      → Opens (rooms-fit (length ws) (length ns)) source ws ns (ask (request-of sizes grid scratch marks start steps) values) r ws′ ns′
-  unread unknown {values} {r} e =
-      let both = not-read (rooms-fit (length ws) (length ns)) source (ask (request-of sizes grid scratch marks start steps) values) (checked .reply) (sym (loaded .is) ∙ not-true known unknown) in
+  pub unread : not known ≡ true → {values : List ℕ} {counts : Option CountsAsked} {r : Opening} → Closed r n place 0
+      → Opens (rooms-fit (length ws) (length ns)) source ws ns (ask (request-of sizes grid scratch marks start steps) values counts) r ws′ ns′
+  unread unknown {values} {counts} {r} e =
+      let both = not-read (rooms-fit (length ws) (length ns)) source (ask (request-of sizes grid scratch marks start steps) values counts) (checked .reply) (sym (loaded .is) ∙ not-true known unknown) in
       record {
         words = checked .words;
         names = checked .names;
@@ -173,27 +186,27 @@ module _ {source ws ns sizes : List ℕ} {grid : List ℤ} {scratch marks : ℕ}
     says : refusal (a .number) (a .place) ≡ admission (is .read .program) (request-of sizes grid scratch marks start steps)
     says = admits .says (is .read .program) (is .holds) (is .lists)
 
-    turned-down : {values : List ℕ} {number where-at line : ℕ} → admitted (is .read .program) (ask (request-of sizes grid scratch marks start steps) values) ≡ turned number where-at line → (number ≡ 0 → ⊥) → {r : Opening} → Closed r number where-at line
-        → Opens (rooms-fit (length ws) (length ns)) source ws ns (ask (request-of sizes grid scratch marks start steps) values) r ws′ ns′
+    turned-down : {values : List ℕ} {counts : Option CountsAsked} {number where-at line : ℕ} → admitted (is .read .program) (ask (request-of sizes grid scratch marks start steps) values counts) ≡ turned number where-at line → (number ≡ 0 → ⊥) → {r : Opening} → Closed r number where-at line
+        → Opens (rooms-fit (length ws) (length ns)) source ws ns (ask (request-of sizes grid scratch marks start steps) values counts) r ws′ ns′
     unfolding run-source
-    turned-down {values} {number} {where-at} {line} t z {r} e =
+    turned-down {values} {counts} {number} {where-at} {line} t z {r} e =
         record {
           words = checked .words;
           names = checked .names;
-          closed = λ _. ap (run-begins (ask (request-of sizes grid scratch marks start steps) values)) (is .is) ∙ ne-eqb _ 0 refused-by;
+          closed = λ _. ap (run-begins (ask (request-of sizes grid scratch marks start steps) values counts)) (is .is) ∙ ne-eqb _ 0 refused-by;
           refuses = λ _ manner.
-              ap (run-read manner (ask (request-of sizes grid scratch marks start steps) values)) (is .is) ∙ run-refused (is .read .program) (ask (request-of sizes grid scratch marks start steps) values) manner refused-by ∙ ap (λ (x : Turned). refused (x .number) (x .place) (x .line) grid) t
+              ap (run-read manner (ask (request-of sizes grid scratch marks start steps) values counts)) (is .is) ∙ run-refused (is .read .program) (ask (request-of sizes grid scratch marks start steps) values counts) manner refused-by ∙ ap (λ (x : Turned). refused (x .number) (x .place) (x .line) grid) t
               ∙ (λ i. refused (sym (e .1) i) (sym (e .2) i) (sym (e .3) i) grid);
           opened = λ y. never (sym (e .0) ∙ y);
         }
       where
-        refused-by : admitted (is .read .program) (ask (request-of sizes grid scratch marks start steps) values) .number ≡ 0 → ⊥
+        refused-by : admitted (is .read .program) (ask (request-of sizes grid scratch marks start steps) values counts) .number ≡ 0 → ⊥
         refused-by k = z (ap (λ (x : Turned). x .number) (sym t) ∙ k)
 
-    pub not-admitted : (a .number ≡ 0 → ⊥) → {values : List ℕ} {r : Opening} → Closed r (a .number) (a .place) 0 → Opens (rooms-fit (length ws) (length ns)) source ws ns (ask (request-of sizes grid scratch marks start steps) values) r ws′ ns′
-    not-admitted z {values} {r} e =
+    pub not-admitted : (a .number ≡ 0 → ⊥) → {values : List ℕ} {counts : Option CountsAsked} {r : Opening} → Closed r (a .number) (a .place) 0 → Opens (rooms-fit (length ws) (length ns)) source ws ns (ask (request-of sizes grid scratch marks start steps) values counts) r ws′ ns′
+    not-admitted z {values} {counts} {r} e =
         turned-down
-        (refused-first (is .read .program) (ask (request-of sizes grid scratch marks start steps) values) (λ k. z (ap (λ (x : Refusal). x .number) says ∙ k)) ∙ ap (λ (x : Refusal). turned (x .number) (x .place) 0) (sym says)) z e
+        (refused-first (is .read .program) (ask (request-of sizes grid scratch marks start steps) values counts) (λ k. z (ap (λ (x : Refusal). x .number) says ∙ k)) ∙ ap (λ (x : Refusal). turned (x .number) (x .place) 0) (sym says)) z e
 
     module _ (z : a .number ≡ 0) where
       admission-is : admission (is .read .program) (request-of sizes grid scratch marks start steps) .number ≡ 0
@@ -203,24 +216,39 @@ module _ {source ws ns sizes : List ℕ} {grid : List ℤ} {scratch marks : ℕ}
       pub dimensions-of : Dimensions sizes
       dimensions-of = dimensions-are (is .read .program) (request-of sizes grid scratch marks start steps) (omega (arith, is .holds .dims, is .sized .dims)) admission-is
 
+      -- there is a first dimension
+      pub some-sizes : 0 < length sizes
+      some-sizes = subst (λ (d : ℕ). 0 < d) (sym (admits .shaped z .dims)) (is .some-dims)
+
       pub list-ready : (Sized (length ws′) (rule-in o)) × Dimensions sizes
       list-ready = (is .sized, dimensions-of)
 
-      module _ {values : List ℕ} {v : judged.Verdict} {first last : ℕ} (first-is : natAbs start ≡ first) (last-is : natAbs start + natAbs steps ≡ last)
+      -- they are told by the numbers of the rule
+      fits-are : (counted : Bool) (field rows : ℕ) → good-counts (is .read .program) sizes (counts-of counted field rows) ≡ counts-right counted field rows (o .fields) sizes
+      fits-are true field rows = ap (λ (n : ℕ). ltb field n && eqb rows (getD sizes 0 0)) (held-fields (is .read .program) (is .holds))
+      fits-are false field rows = refl
+
+      -- the counts are not right
+      pub not-counted : (counted : Bool) (field rows : ℕ) → counts-right counted field rows (o .fields) sizes ≡ false → {values : List ℕ} {r : Opening} → Closed r 61 0 0
+          → Opens (rooms-fit (length ws) (length ns)) source ws ns (ask (request-of sizes grid scratch marks start steps) values (counts-of counted field rows)) r ws′ ns′
+      not-counted counted field rows c {values} e =
+          turned-down (counts-refused (is .read .program) (ask (request-of sizes grid scratch marks start steps) values (counts-of counted field rows)) admission-is (fits-are counted field rows ∙ c)) (λ k. omega (arith, k)) e
+
+      module _ (counted : Bool) (field rows : ℕ) (right : counts-right counted field rows (o .fields) sizes ≡ true) {values : List ℕ} {v : judged.Verdict} {first last : ℕ} (first-is : natAbs start ≡ first) (last-is : natAbs start + natAbs steps ≡ last)
           (judges : ChecksList (limits sizes (fields-in ws′ (rule-in o)) first last) values v) where
-        list-says : admitted (is .read .program) (ask (request-of sizes grid scratch marks start steps) values) ≡ turned (v .number) 0 (v .line)
+        list-says : admitted (is .read .program) (ask (request-of sizes grid scratch marks start steps) values (counts-of counted field rows)) ≡ turned (v .number) 0 (v .line)
         list-says =
-            list-decides (is .read .program) (ask (request-of sizes grid scratch marks start steps) values) admission-is
+            list-decides (is .read .program) (ask (request-of sizes grid scratch marks start steps) values (counts-of counted field rows)) admission-is (fits-are counted field rows ∙ right)
             ∙ ap (λ (x : Verdict). turned (x .number) 0 (x .line))
             (ap (λ (q : _). check-list q values) (sym (limits-are ws′ (rule-in o) (is .read .program) (request-of sizes grid scratch marks start steps) (is .holds) first-is last-is)) ∙ sym (judges .is))
 
-        pub not-listed : (v .number ≡ 0 → ⊥) → {r : Opening} → Closed r (v .number) 0 (v .line) → Opens (rooms-fit (length ws) (length ns)) source ws ns (ask (request-of sizes grid scratch marks start steps) values) r ws′ ns′
+        pub not-listed : (v .number ≡ 0 → ⊥) → {r : Opening} → Closed r (v .number) 0 (v .line) → Opens (rooms-fit (length ws) (length ns)) source ws ns (ask (request-of sizes grid scratch marks start steps) values (counts-of counted field rows)) r ws′ ns′
         not-listed d e = turned-down list-says d e
 
         pub begun : v .number ≡ 0 → {t : Bool} → t ≡ o .timed
-            → Opens (rooms-fit (length ws) (length ns)) source ws ns (ask (request-of sizes grid scratch marks start steps) values) (record { begun = true; number = 0; place = 0; line = 0; rule = rule-in o; reach = a .reach; timed = t }) ws′ ns′
+            → Opens (rooms-fit (length ws) (length ns)) source ws ns (ask (request-of sizes grid scratch marks start steps) values (counts-of counted field rows)) (record { begun = true; number = 0; place = 0; line = 0; rule = rule-in o; reach = a .reach; timed = t }) ws′ ns′
         begun l {t} e =
-            let passed : admitted (is .read .program) (ask (request-of sizes grid scratch marks start steps) values) .number ≡ 0 = ap (λ (x : Turned). x .number) list-says ∙ l in
+            let passed : admitted (is .read .program) (ask (request-of sizes grid scratch marks start steps) values (counts-of counted field rows)) .number ≡ 0 = ap (λ (x : Turned). x .number) list-says ∙ l in
             record {
               words = checked .words;
               names = checked .names;
@@ -246,14 +274,14 @@ module _ {source ws ns sizes : List ℕ} {grid : List ℤ} {scratch marks : ℕ}
                       limits = limits-of (is .read .program) (request-of sizes grid scratch marks start steps);
                       sizes-are = refl;
                       first-is = refl;
-                      passes = list-passes (is .read .program) (ask (request-of sizes grid scratch marks start steps) values) passed;
+                      passes = list-passes (is .read .program) (ask (request-of sizes grid scratch marks start steps) values (counts-of counted field rows)) passed;
                     };
                   };
             }
 
 -- the times as the machine reads them
-pub read-opens : {source ws ns sizes : List ℕ} {grid : List ℤ} {scratch marks : ℕ} {start steps : ℤ} {values : List ℕ} {r : Opening} {ws′ ns′ : List ℕ} → SFits w64 start → SFits w64 steps
-    → Opens (rooms-fit (length ws) (length ns)) source ws ns (ask (request-of sizes grid scratch marks (toZ w64 (ofZ w64 start)) (toZ w64 (ofZ w64 steps))) values) r ws′ ns′
-    → Opens (rooms-fit (length ws) (length ns)) source ws ns (ask (request-of sizes grid scratch marks start steps) values) r ws′ ns′
-read-opens {source} {ws} {ns} {sizes} {grid} {scratch} {marks} {start} {steps} {values} {r} {ws′} {ns′} h k =
-    subst₂ (λ (a b : ℤ). Opens (rooms-fit (length ws) (length ns)) source ws ns (ask (request-of sizes grid scratch marks a b) values) r ws′ ns′) (toZ-ofZ h) (toZ-ofZ k)
+pub read-opens : {source ws ns sizes : List ℕ} {grid : List ℤ} {scratch marks : ℕ} {start steps : ℤ} {values : List ℕ} {counts : Option CountsAsked} {r : Opening} {ws′ ns′ : List ℕ} → SFits w64 start → SFits w64 steps
+    → Opens (rooms-fit (length ws) (length ns)) source ws ns (ask (request-of sizes grid scratch marks (toZ w64 (ofZ w64 start)) (toZ w64 (ofZ w64 steps))) values counts) r ws′ ns′
+    → Opens (rooms-fit (length ws) (length ns)) source ws ns (ask (request-of sizes grid scratch marks start steps) values counts) r ws′ ns′
+read-opens {source} {ws} {ns} {sizes} {grid} {scratch} {marks} {start} {steps} {values} {counts} {r} {ws′} {ns′} h k =
+    subst₂ (λ (a b : ℤ). Opens (rooms-fit (length ws) (length ns)) source ws ns (ask (request-of sizes grid scratch marks a b) values counts) r ws′ ns′) (toZ-ofZ h) (toZ-ofZ k)

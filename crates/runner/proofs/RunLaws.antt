@@ -4,16 +4,18 @@ use native.Mathlib.Omega.{arith}
 use mathlib.Core.Path.{_≡_, refl, sym, ap, ap₂, _∙_, subst, subst₂}
 use mathlib.Core.Bool.{Bool, true, false, not, _&&_}
 use mathlib.Core.List.{List}
-use lib.ListN.{length, replicate, length-replicate}
-use lib.Dec.{T}
+use mathlib.Core.Option.{none}
+use lib.ListN.{length, getD, replicate, length-replicate}
+use lib.Dec.{T, eqb, ltb}
 use lib.IntN.{ℤ, pos, natAbs}
 use lib.Signed.{nonNeg}
 use mir.Syntax.{w32, w64}
 use mir.Val.{Fits, SFits, toZ, ofZ}
 use mir.Facts.{toZ-ofZ}
-use borrow.Author.Tests.{eq-eqb, not-true, not-false}
+use borrow.Author.Tests.{eq-eqb, eqb-true, ltb-true, not-true, not-false}
 use Rattle.value.specs.Choice.{if_then_else_}
-use Rattle.value.specs.Laws.{never}
+use Rattle.value.specs.Laws.{never, and-both}
+use Rattle.automaton.specs.Rows.{row-counts}
 use Rattle.automaton.specs.Step.{Quiet as Gives, Run, Blocks, every-cell, run-of, open-count, full-count, quiet-run}
 use Rattle.automaton.specs.Quiet.{Lawful, quiet-agrees}
 use Rattle.automaton.specs.Grid.{automaton}
@@ -34,9 +36,9 @@ use Rattle.stepper.specs.Report as report
 use Rattle.stepper.specs.Report.{Manner, full, quiet, ended}
 use Rattle.stepper.specs.Fitting.{held-fields}
 use Rattle.lists.specs.Setting.{set-block}
-use Rattle.services.specs.Running.{Asked, admitted, blocks, report-of, standing}
-use Rattle.services.specs.RunningLaws.{run-admitted}
-use Rattle.services.specs.Services.{run-begins, run-read, run-source, room-after, marks-admitted, marks-read, marks-after}
+use Rattle.services.specs.Running.{counts-of, Asked, good-counts, admitted, blocks, report-of, standing}
+use Rattle.services.specs.RunningLaws.{run-admitted, counts-admitted as counts-admits}
+use Rattle.services.specs.Services.{run-begins, run-read, run-source, room-after, marks-admitted, marks-read, marks-after, counts-admitted, counts-read, counts-after}
 use Rattle.services.specs.Calls.{NameForm, flat-names, Memory, memory, Lent, lent, fits, asked, read-lent, run-report, names-left, run-left}
 use Rattle.services.specs.RangesKept.{RangesKept, grid-in-ranges}
 use Rattle.iteration.specs.declared.Report.{Report}
@@ -44,6 +46,7 @@ use Rattle.iteration.specs.declared.Manner.{Manner as Way}
 use Rattle.iteration.specs.declared.Manner.the-variants.{Full, Quiet, Pausing, Resuming}
 use Rattle.runner.specs.declared.opening.Opening.{Opening}
 use Rattle.iteration.specs.Stepwise.{pending-in, Begins, blocks-in, Runs, told, steps-give, report-in, Ran}
+use Rattle.iteration.specs.Countwise.{CountsFit, Filled, Tallied}
 use Rattle.iteration.proofs.StepwiseLaws.{runs-sound}
 use Rattle.runner.specs.Sourcewise.{manner-of, every-step, is-resumed, marks-left, Begun, Opens, RunLeaves, RunsListed}
 use Rattle.runner.specs.Property3.{Agree, AgreesFresh, same, property-3, paused-agrees}
@@ -155,6 +158,43 @@ module _ {fit : Bool} {source : List ℕ} {q : Asked} {words : List ℕ} {rule :
     unfolding run-source
     source-report way ran = report-is way ran ∙ sym (run-admitted (b .read .program) q (manner-of way marks) (b .admits)) ∙ ap (run-read (manner-of way marks) q) (sym (b .is))
 
+  -- the row counts
+
+  -- those that are asked for are right
+  counts-fit : (counted : Bool) (field rows : ℕ) → q .counts ≡ counts-of counted field rows → CountsFit counted (rule .fields) (q .request .sizes) field rows
+  counts-fit counted field rows e = record { a-field = λ c. ltb-true field (rule .fields) (each c .0); rows-are = λ c. eqb-true rows (getD (q .request .sizes) 0 0) (each c .1) }
+    where
+      each : counted ≡ true → (ltb field (rule .fields) ≡ true) × (eqb rows (getD (q .request .sizes) 0 0) ≡ true)
+      each c =
+          and-both (ltb field (rule .fields)) (eqb rows (getD (q .request .sizes) 0 0))
+          (sym (ap (λ (n : ℕ). ltb field n && eqb rows (getD (q .request .sizes) 0 0)) (held-fields (b .read .program) (b .runs .holds)))
+          ∙ sym (ap (λ (t : Bool). good-counts (b .read .program) (q .request .sizes) (counts-of t field rows)) c) ∙ sym (ap (good-counts (b .read .program) (q .request .sizes)) e)
+          ∙ counts-admits (b .read .program) q (b .admits))
+
+  module _ {grid′ : List ℤ} {counts counts′ : List ℕ} {counted : Bool} {field : ℕ} where
+    filled-by : (way : Way) → Tallied words rule (q .request .sizes) r (every-step way timed) counted field grid′ counts counts′ → Filled counted (q .request .sizes) (rule .fields) field grid′ counts counts′
+    filled-by Full tally = tally .tells (always (b .read .program)) (runs-always (b .runs))
+    filled-by Quiet tally = tally .tells (b .read .program) (b .runs)
+    filled-by Pausing tally = tally .tells (b .read .program) (b .runs)
+    filled-by Resuming tally = tally .tells (b .read .program) (b .runs)
+
+  module _ (marks : List ℕ) {said : Report} {grid′ : List ℤ} {marks′ counts counts′ : List ℕ} (counted : Bool) (field rows : ℕ) (asked-is : q .counts ≡ counts-of counted field rows) where
+    counts-are : (way : Way) → RanBy (every-step way timed) (pending-in (is-resumed way) marks) said grid′ marks′ → Tallied words rule (q .request .sizes) r (every-step way timed) counted field grid′ counts counts′
+        → counts′ ≡ counts-admitted (manner-of way marks) (b .read .program) q counts (q .counts)
+    counts-are way ran tally = by counted refl ∙ ap (counts-admitted (manner-of way marks) (b .read .program) q counts) (sym asked-is)
+      where
+        by : (t : Bool) → counted ≡ t → counts′ ≡ counts-admitted (manner-of way marks) (b .read .program) q counts (counts-of counted field rows)
+        by true c =
+            filled-by way tally .fills c
+            ∙ ap₂ (λ (n : ℕ) (g : List ℤ). row-counts (q .request .sizes) n field g) (sym (held-fields (b .read .program) (b .runs .holds))) (ap (λ (x : report.Report). x .grid) (report-is marks way ran))
+            ∙ ap (λ (t : Bool). counts-admitted (manner-of way marks) (b .read .program) q counts (counts-of t field rows)) (sym c)
+        by false c = filled-by way tally .stays c ∙ ap (λ (t : Bool). counts-admitted (manner-of way marks) (b .read .program) q counts (counts-of t field rows)) (sym c)
+
+  counts-began : (manner : Manner) (old : List ℕ) → counts-admitted manner (b .read .program) q old (q .counts) ≡ counts-after manner fit source q old
+  unfolding counts-after
+  counts-began manner old =
+      sym (ap (counts-read manner q old) (b .is) ∙ ap (λ (t : Bool). if t then counts-admitted manner (b .read .program) q old (q .counts) else old) (eq-eqb _ 0 (b .admits)))
+
   began : run-begins q (read-source fit source) ≡ true
   began = ap (run-begins q) (b .is) ∙ eq-eqb _ 0 (b .admits)
 
@@ -173,18 +213,41 @@ marks-kept manner fit source q old e = by (read-source fit source) e
     by (checking.refused n p) f = refl
     by (accepted a) f = sym (ap (λ (t : Bool). if t then marks-admitted manner (a .program) q old else old) f)
 
--- scratch after a run that began, and after one that did not
-room-cleared : {A : Type 0} (none : A) (fit : Bool) (source : List ℕ) (q : Asked) (old : List A) → run-begins q (read-source fit source) ≡ true → replicate (length old) none ≡ room-after none fit source q old
-unfolding room-after
-room-cleared none fit source q old e = rw e
+counts-kept : (manner : Manner) (fit : Bool) (source : List ℕ) (q : Asked) (old : List ℕ) → run-begins q (read-source fit source) ≡ false → old ≡ counts-after manner fit source q old
+unfolding counts-after
+counts-kept manner fit source q old e = by (read-source fit source) e
+  where
+    by : (o : Outcome) → run-begins q o ≡ false → old ≡ counts-read manner q old o
+    by (turned-away n p) f = refl
+    by (checking.refused n p) f = refl
+    by (accepted a) f = sym (ap (λ (t : Bool). if t then counts-admitted manner (a .program) q old (q .counts) else old) f)
 
-room-kept : {A : Type 0} (none : A) (fit : Bool) (source : List ℕ) (q : Asked) (old : List A) → run-begins q (read-source fit source) ≡ false → old ≡ room-after none fit source q old
+-- counts that are not asked for stay
+pub counts-unasked : (manner : Manner) (fit : Bool) (source : List ℕ) (q : Asked) (old : List ℕ) → q .counts ≡ none → counts-after manner fit source q old ≡ old
+unfolding counts-after
+counts-unasked manner fit source q old e = by (read-source fit source)
+  where
+    either : (t : Bool) (p : Program) → (if t then counts-admitted manner p q old (q .counts) else old) ≡ old
+    either true p = ap (counts-admitted manner p q old) e
+    either false p = refl
+
+    by : (o : Outcome) → counts-read manner q old o ≡ old
+    by (turned-away n p) = refl
+    by (checking.refused n p) = refl
+    by (accepted a) = either (eqb (admitted (a .program) q .number) 0) (a .program)
+
+-- scratch after a run that began, and after one that did not
+room-cleared : {A : Type 0} (zero : A) (fit : Bool) (source : List ℕ) (q : Asked) (old : List A) → run-begins q (read-source fit source) ≡ true → replicate (length old) zero ≡ room-after zero fit source q old
 unfolding room-after
-room-kept none fit source q old e = rw e
+room-cleared zero fit source q old e = rw e
+
+room-kept : {A : Type 0} (zero : A) (fit : Bool) (source : List ℕ) (q : Asked) (old : List A) → run-begins q (read-source fit source) ≡ false → old ≡ room-after zero fit source q old
+unfolding room-after
+room-kept zero fit source q old e = rw e
 
 -- a room that is cleared throughout
-cleared : {A : Type 0} (none : A) (n : ℕ) {new : List A} (old : List A) → new ≡ replicate n none → length new ≡ length old → new ≡ replicate (length old) none
-cleared none n old e l = e ∙ ap (λ (k : ℕ). replicate k none) (sym (length-replicate n none) ∙ ap length (sym e) ∙ l)
+cleared : {A : Type 0} (zero : A) (n : ℕ) {new : List A} (old : List A) → new ≡ replicate n zero → length new ≡ length old → new ≡ replicate (length old) zero
+cleared zero n old e l = e ∙ ap (λ (k : ℕ). replicate k zero) (sym (length-replicate n zero) ∙ ap length (sym e) ∙ l)
 
 -- ---- the ways through
 
@@ -199,9 +262,9 @@ left-quiet {way} marks e m = m ∙ ap (λ (w : Way). marks-left w marks) (sym e)
 pub left-by : {N : Type 0} {form : NameForm N} {manner : Manner} {l : Lent N} {said : Report} {m : Memory N} → told said (m .grid) ≡ run-report form manner l
     → m .words ≡ words-after (fits form l) (l .source) (l .memory .words) → m .names ≡ names-left form (fits form l) (l .source) (l .memory .names)
     → m .scratch ≡ room-after (pos 0) (fits form l) (l .source) (asked l) (l .memory .scratch) → m .marks ≡ marks-after manner (fits form l) (l .source) (asked l) (l .memory .marks)
-    → RunLeaves form manner l said m
+    → m .counts ≡ counts-after manner (fits form l) (l .source) (asked l) (l .memory .counts) → RunLeaves form manner l said m
 unfolding run-left
-left-by e w n s k = record { is = λ i. record { report = e i; memory = record { words = w i; names = n i; grid = e i .grid; scratch = s i; marks = k i } } }
+left-by e w n s k o = record { is = λ i. record { report = e i; memory = record { words = w i; names = n i; grid = e i .grid; scratch = s i; marks = k i; counts = o i } } }
 
 -- and its report
 pub left-report : {N : Type 0} {form : NameForm N} {manner : Manner} {l : Lent N} {said : Report} {m : Memory N} → RunLeaves form manner l said m
@@ -223,28 +286,33 @@ module _ (l : Lent ℕ) (list : is-built-in (l .list) ≡ true) {r : Opening} {w
   names-are = opens .names
 
   pub closed-run : not (r .begun) ≡ true
-      → RunLeaves flat-names (manner-of way (l .memory .marks)) l (record { number = r .number; place = r .place; line = r .line; cell = 0; steps = 0; count = 0 }) (memory ws′ ns′ (l .memory .grid) (l .memory .scratch) (l .memory .marks))
+      → RunLeaves flat-names (manner-of way (l .memory .marks)) l (record { number = r .number; place = r .place; line = r .line; cell = 0; steps = 0; count = 0 }) (memory ws′ ns′ (l .memory .grid) (l .memory .scratch) (l .memory .marks) (l .memory .counts))
   closed-run e =
       let shut = not-true (r .begun) e in
       left-by (sym (opens .refuses shut (manner-of way (l .memory .marks)))) (opens .words) names-are (room-kept (pos 0) _ (l .source) _ (l .memory .scratch) (opens .closed shut))
       (marks-kept (manner-of way (l .memory .marks)) _ (l .source) _ (l .memory .marks) (opens .closed shut))
+      (counts-kept (manner-of way (l .memory .marks)) _ (l .source) _ (l .memory .counts) (opens .closed shut))
 
   module _ (e : not (r .begun) ≡ false) where
     is : Begun (fits flat-names l) (l .source) (asked l) ws′ (r .rule) (r .reach) (r .timed)
     is = opens .opened (not-false (r .begun) e)
 
     pub run-ready : Begins ws′ (r .rule) (l .sizes) (r .reach) (l .memory .grid) (l .memory .scratch) (l .memory .marks) (l .values) (natAbs (l .start)) (natAbs (l .steps))
-    run-ready = begins-run is refl refl
+        × CountsFit (l .counted) (r .rule .fields) (l .sizes) (l .field) (length (l .memory .counts))
+    run-ready = (begins-run is refl refl, counts-fit is (l .counted) (l .field) (length (l .memory .counts)) refl)
 
-    pub run-done : {all re : Bool} {said : Report} {grid′ scratch′ : List ℤ} {marks′ marks″ : List ℕ} (n : ℕ) → all ≡ every-step way (r .timed) → re ≡ is-resumed way
+    pub run-done : {all re : Bool} {said : Report} {grid′ scratch′ : List ℤ} {marks′ marks″ counts′ : List ℕ} (n : ℕ) → all ≡ every-step way (r .timed) → re ≡ is-resumed way
         → Ran ws′ (r .rule) (l .sizes) (r .reach) all (l .values) (natAbs (l .start)) (natAbs (l .steps)) (pending-in re (l .memory .marks)) (l .memory .grid) said grid′ marks′
         → scratch′ ≡ replicate n (pos 0) → length scratch′ ≡ length (l .memory .scratch) → length marks′ ≡ length (l .memory .marks) → marks″ ≡ marks-left way marks′
-        → RunLeaves flat-names (manner-of way (l .memory .marks)) l said (memory ws′ ns′ grid′ scratch′ marks″)
-    run-done {all} {re} {said} {grid′} {scratch′} {marks′} n a e ran s j k m =
+        → Tallied ws′ (r .rule) (l .sizes) (r .reach) all (l .counted) (l .field) grid′ (l .memory .counts) counts′
+        → RunLeaves flat-names (manner-of way (l .memory .marks)) l said (memory ws′ ns′ grid′ scratch′ marks″ counts′)
+    run-done {all} {re} {said} {grid′} {scratch′} {marks′} {marks″} {counts′} n a e ran s j k m o =
         left-by (source-report is (l .memory .marks) way ran-is)
         (opens .words) names-are
         (cleared (pos 0) n (l .memory .scratch) s j ∙ room-cleared (pos 0) _ (l .source) _ (l .memory .scratch) (began is))
         (m ∙ marks-are is (l .memory .marks) way ran-is k ∙ marks-began is (manner-of way (l .memory .marks)) (l .memory .marks))
+        (counts-are is (l .memory .marks) (l .counted) (l .field) (length (l .memory .counts)) refl way ran-is (subst (λ (x : Bool). Tallied ws′ (r .rule) (l .sizes) (r .reach) x (l .counted) (l .field) grid′ (l .memory .counts) counts′) a o)
+        ∙ counts-began is (manner-of way (l .memory .marks)) (l .memory .counts))
       where
         ran-is : RanBy is (every-step way (r .timed)) (pending-in (is-resumed way) (l .memory .marks)) said grid′ marks′
         ran-is = subst₂ (λ (x y : Bool). Ran ws′ (r .rule) (l .sizes) (r .reach) x (l .values) (natAbs (l .start)) (natAbs (l .steps)) (pending-in y (l .memory .marks)) (l .memory .grid) said grid′ marks′) a e ran
@@ -258,9 +326,9 @@ module _ (l : Lent ℕ) (list : is-built-in (l .list) ≡ true) {r : Opening} {w
 -- another list than the built-in one: nothing is read, and nothing changes
 pub unlisted-run : {N : Type 0} (form : NameForm N) (manner : Manner) (l : Lent N) → fits form l ≡ false
     → RunLeaves form manner l (record { number = 1; place = 0; line = 0; cell = 0; steps = 0; count = 0 }) (l .memory)
-unfolding run-source words-after room-after marks-after read-source
+unfolding run-source words-after room-after marks-after counts-after read-source
 unlisted-run form manner l e =
-    left-by (rw e) (rw e) (rw e) (rw e) (rw e)
+    left-by (rw e) (rw e) (rw e) (rw e) (rw e) (rw e)
 
 module _ (list : List ℕ) {t : Bool} (is : t ≡ is-built-in list) where
   pub unlisted : (manner : Manner) (l : Lent ℕ) → l .list ≡ list → not t ≡ true → RunLeaves flat-names manner l (record { number = 1; place = 0; line = 0; cell = 0; steps = 0; count = 0 }) (l .memory)
@@ -270,10 +338,10 @@ module _ (list : List ℕ) {t : Bool} (is : t ≡ is-built-in list) where
   listed n h = h .each list (sym is ∙ not-false t n)
 
 -- the times as the machine reads them
-pub read-times : {N : Type 0} {form : NameForm N} {manner : Manner} {source list sizes values : List ℕ} {m m′ : Memory N} {start steps : ℤ} {said : Report} → SFits w64 start → SFits w64 steps
-    → RunLeaves form manner (lent source list sizes m values (toZ w64 (ofZ w64 start)) (toZ w64 (ofZ w64 steps))) said m′ → RunLeaves form manner (lent source list sizes m values start steps) said m′
-read-times {N} {form} {manner} {source} {list} {sizes} {values} {m} {m′} {start} {steps} {said} h k =
-    subst₂ (λ (a b : ℤ). RunLeaves form manner (lent source list sizes m values a b) said m′) (toZ-ofZ h) (toZ-ofZ k)
+pub read-times : {N : Type 0} {form : NameForm N} {manner : Manner} {source list sizes values : List ℕ} {m m′ : Memory N} {start steps : ℤ} {counted : Bool} {field : ℕ} {said : Report} → SFits w64 start → SFits w64 steps
+    → RunLeaves form manner (lent source list sizes m values (toZ w64 (ofZ w64 start)) (toZ w64 (ofZ w64 steps)) counted field) said m′ → RunLeaves form manner (lent source list sizes m values start steps counted field) said m′
+read-times {N} {form} {manner} {source} {list} {sizes} {values} {m} {m′} {start} {steps} {counted} {field} {said} h k =
+    subst₂ (λ (a b : ℤ). RunLeaves form manner (lent source list sizes m values a b counted field) said m′) (toZ-ofZ h) (toZ-ofZ k)
 
 -- the grid that a run leaves has each field in its range
 pub run-ranges : {N : Type 0} (form : NameForm N) (manner : Manner) (l : Lent N) {said : Report} {m : Memory N} → RunLeaves form manner l said m
@@ -282,12 +350,15 @@ run-ranges form manner l h =
     subst (RangesKept (read-lent form l) (asked l)) (sym (ap (λ (r : report.Report). r .grid) (left-report h))) (grid-in-ranges manner (fits form l) (l .source) (asked l))
 
 -- what a run gives that does not begin from lent marks agrees with the full run of the definition
-pub run-agrees : {N : Type 0} (form : NameForm N) (way : Way) (l : Lent N) {said : Report} {m : Memory N} → RunLeaves form (manner-of way (l .memory .marks)) l said m
-    → AgreesFresh way (told said (m .grid)) (run-report form full l)
-run-agrees form way l h = record { agree = λ fresh. subst (λ (r : report.Report). Agree r (run-report form full l)) (sym (left-report h)) (by way fresh) }
+pub fresh-agrees : {N : Type 0} (form : NameForm N) (way : Way) (l : Lent N) → AgreesFresh way (run-report form (manner-of way (l .memory .marks)) l) (run-report form full l)
+fresh-agrees form way l = record { agree = by way }
   where
     by : (way : Way) → is-resumed way ≡ false → Agree (run-report form (manner-of way (l .memory .marks)) l) (run-report form full l)
     by Full e = same (run-report form full l)
     by Quiet e = property-3 (fits form l) (l .source) (asked l) .agree
     by Pausing e = paused-agrees (fits form l) (l .source) (asked l)
     by Resuming e = never (sym e)
+
+pub run-agrees : {N : Type 0} (form : NameForm N) (way : Way) (l : Lent N) {said : Report} {m : Memory N} → RunLeaves form (manner-of way (l .memory .marks)) l said m
+    → AgreesFresh way (told said (m .grid)) (run-report form full l)
+run-agrees form way l h = subst (λ (r : report.Report). AgreesFresh way r (run-report form full l)) (sym (left-report h)) (fresh-agrees form way l)

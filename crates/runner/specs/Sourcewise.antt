@@ -1,9 +1,10 @@
 -- What the functions of a run of a source promise. The run itself leaves `run-left` of what it is lent (`Calls` in `services`).
 use mathlib.Core.Path.{_≡_}
-use mathlib.Core.Bool.{Bool, true, false}
+use mathlib.Core.Bool.{Bool, true, false, _&&_}
 use mathlib.Core.List.{List}
 use Prim.Native.Nat.{ℕ, _+_, _<_, _≤_}
-use lib.ListN.{length, replicate}
+use lib.ListN.{length, getD, replicate}
+use lib.Dec.{eqb, ltb}
 use lib.IntN.{pos, natAbs}
 use Rattle.automaton.specs.Shape.{product}
 use Rattle.token.specs.Lexeme.{is-built-in}
@@ -52,6 +53,11 @@ marks-left Pausing marks = marks
 marks-left Resuming marks = marks
 
 -- ---- the beginning
+
+-- the row counts are right that a run is to keep, if any
+abbrev pub counts-right : Bool → ℕ → ℕ → ℕ → List ℕ → Bool
+counts-right true field rows fields sizes = ltb field fields && eqb rows (getD sizes 0 0)
+counts-right false field rows fields sizes = true
 
 -- a run begins: the source is accepted, and its program stands in the table with this reach; the run is admitted
 pub record Begun (fit : Bool) (source : List ℕ) (q : Asked) (words : List ℕ) (rule : Rule) (r : Reach) (timed : Bool) : Type 0 where

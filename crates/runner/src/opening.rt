@@ -3,9 +3,10 @@ ghost use mathlib.Core.Path.{_≡_};
 ghost use mathlib.Core.Bool.{false};
 ghost use lib.ListN.{length};
 ghost use Rattle.grammar.specs.Checking.{rooms-fit};
-ghost use Rattle.services.specs.Running.{ask};
+ghost use Prim.Native.Nat.{_<_};
+ghost use Rattle.services.specs.Running.{counts-of, ask};
 ghost use Rattle.admission.specs.Admitting.{request-of};
-ghost use Rattle.runner.specs.Sourcewise.{Opens};
+ghost use Rattle.runner.specs.Sourcewise.{counts-right, Opens};
 use admission::admit;
 use checker::load;
 use list_reader::checking::check_list;
@@ -47,7 +48,21 @@ fn closed(number: u32, place: u32, line: u64) -> Opening
     }
 }
 
-// Reads a source and admits a run of it with its value list. `scratch` and `marks` are the lengths of these.
+// Whether the row counts are right that a run is to keep, if any: of a field that there is, and one a row.
+fn counts_fit(counted: bool, field: u32, rows: usize, fields: u32, sizes: &[u32]) -> bool
+    requires { ⌜ 0 < length (now sizes) ⌝ }
+    ensures { λ r. ⌜ r ≡ counts-right counted field rows fields (now (sizes .entry)) ⌝ }
+{
+    if !counted {
+        return true;
+    }
+    if field >= fields {
+        return false;
+    }
+    rows == sizes[0] as usize
+}
+
+// Reads a source and admits a run of it with its value list and its row counts. `scratch`, `marks` and `rows` are the lengths of scratch, marks and counts.
 pub fn open_run(
     source: &[u8],
     words: &mut [u32],
@@ -59,8 +74,11 @@ pub fn open_run(
     values: &[u8],
     start: i64,
     steps: i64,
+    rows: usize,
+    counted: bool,
+    field: u32,
 ) -> Opening
-    ensures { λ r. ⌜ Opens (rooms-fit (length (now (words .entry))) (length (now (names .entry)))) (now (source .entry)) (now (words .entry)) (now (names .entry)) (ask (request-of (now (sizes .entry)) (now (grid .entry)) scratch marks start steps) (now (values .entry))) r (now (words .exit)) (now (names .exit)) ⌝ }
+    ensures { λ r. ⌜ Opens (rooms-fit (length (now (words .entry))) (length (now (names .entry)))) (now (source .entry)) (now (words .entry)) (now (names .entry)) (ask (request-of (now (sizes .entry)) (now (grid .entry)) scratch marks start steps) (now (values .entry)) (counts-of counted field rows)) r (now (words .exit)) (now (names .exit)) ⌝ }
 {
     let loaded = load(source, words, names);
     if !loaded.accepted {
@@ -78,6 +96,9 @@ pub fn open_run(
     let admitted = admit(words, rule, sizes, grid, scratch, marks, start, steps);
     if admitted.number != 0 {
         return closed(admitted.number, admitted.place, 0);
+    }
+    if !counts_fit(counted, field, rows, rule.fields, sizes) {
+        return closed(61, 0, 0);
     }
     let first = start as u32;
     let last = first + steps as u32;

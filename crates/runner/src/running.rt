@@ -69,8 +69,11 @@ fn run_listed(
     start: i64,
     steps: i64,
     manner: Manner,
+    counts: &mut [u32],
+    counted: bool,
+    field: u32,
 ) -> Report
-    ensures { λ r. ⌜ RunsListed (manner-of manner (now (marks .entry))) (λ (list : List ℕ). (lent (now (source .entry)) list (now (sizes .entry)) (memory (now (words .entry)) (now (names .entry)) (now (grid .entry)) (now (scratch .entry)) (now (marks .entry))) (now (values .entry)) start steps)) r (memory (now (words .exit)) (now (names .exit)) (now (grid .exit)) (now (scratch .exit)) (now (marks .exit))) ⌝ }
+    ensures { λ r. ⌜ RunsListed (manner-of manner (now (marks .entry))) (λ (list : List ℕ). (lent (now (source .entry)) list (now (sizes .entry)) (memory (now (words .entry)) (now (names .entry)) (now (grid .entry)) (now (scratch .entry)) (now (marks .entry)) (now (counts .entry))) (now (values .entry)) start steps counted field)) r (memory (now (words .exit)) (now (names .exit)) (now (grid .exit)) (now (scratch .exit)) (now (marks .exit)) (now (counts .exit))) ⌝ }
 {
     let opening = open_run(
         source,
@@ -83,6 +86,9 @@ fn run_listed(
         values,
         start,
         steps,
+        counts.len(),
+        counted,
+        field,
     );
     if !opening.begun {
         return Report {
@@ -110,6 +116,9 @@ fn run_listed(
         start as u32,
         steps as u32,
         resumes(manner),
+        counts,
+        counted,
+        field,
     );
     clear_numbers(scratch);
     leave_marks(manner, marks);
@@ -119,7 +128,7 @@ fn run_listed(
 // Runs a source on a grid: so many steps from a start time, with the blocks of a value list, which is empty where there is none. A full run evaluates
 // every cell in each step, the others only the cells that are open in it: the answer and the grid are the same, and the count is of the open cells. A
 // pausing run leaves the marks of the cells that one more step would open; a resuming one begins, besides, from the marks that it is lent, whatever
-// they are.
+// they are. Where `counted` is set the run keeps row counts: how many cells of each row of the first dimension have 0 in the field.
 pub fn run(
     source: &[u8],
     list: &[u8],
@@ -133,10 +142,13 @@ pub fn run(
     start: i64,
     steps: i64,
     manner: Manner,
+    counts: &mut [u32],
+    counted: bool,
+    field: u32,
 ) -> Report
-    ensures { λ r. ⌜ RunLeaves flat-names (manner-of manner (now (marks .entry))) (lent (now (source .entry)) (now (list .entry)) (now (sizes .entry)) (memory (now (words .entry)) (now (names .entry)) (now (grid .entry)) (now (scratch .entry)) (now (marks .entry))) (now (values .entry)) start steps) r (memory (now (words .exit)) (now (names .exit)) (now (grid .exit)) (now (scratch .exit)) (now (marks .exit))) ⌝ }
-    ensures agrees { λ r. ⌜ AgreesFresh manner (told r (now (grid .exit))) (run-report flat-names full (lent (now (source .entry)) (now (list .entry)) (now (sizes .entry)) (memory (now (words .entry)) (now (names .entry)) (now (grid .entry)) (now (scratch .entry)) (now (marks .entry))) (now (values .entry)) start steps)) ⌝ }
-    ensures ranges { λ _. ⌜ RangesKept (read-lent flat-names (lent (now (source .entry)) (now (list .entry)) (now (sizes .entry)) (memory (now (words .entry)) (now (names .entry)) (now (grid .entry)) (now (scratch .entry)) (now (marks .entry))) (now (values .entry)) start steps)) (asked (lent (now (source .entry)) (now (list .entry)) (now (sizes .entry)) (memory (now (words .entry)) (now (names .entry)) (now (grid .entry)) (now (scratch .entry)) (now (marks .entry))) (now (values .entry)) start steps)) (now (grid .exit)) ⌝ }
+    ensures { λ r. ⌜ RunLeaves flat-names (manner-of manner (now (marks .entry))) (lent (now (source .entry)) (now (list .entry)) (now (sizes .entry)) (memory (now (words .entry)) (now (names .entry)) (now (grid .entry)) (now (scratch .entry)) (now (marks .entry)) (now (counts .entry))) (now (values .entry)) start steps counted field) r (memory (now (words .exit)) (now (names .exit)) (now (grid .exit)) (now (scratch .exit)) (now (marks .exit)) (now (counts .exit))) ⌝ }
+    ensures agrees { λ r. ⌜ AgreesFresh manner (told r (now (grid .exit))) (run-report flat-names full (lent (now (source .entry)) (now (list .entry)) (now (sizes .entry)) (memory (now (words .entry)) (now (names .entry)) (now (grid .entry)) (now (scratch .entry)) (now (marks .entry)) (now (counts .entry))) (now (values .entry)) start steps counted field)) ⌝ }
+    ensures ranges { λ _. ⌜ RangesKept (read-lent flat-names (lent (now (source .entry)) (now (list .entry)) (now (sizes .entry)) (memory (now (words .entry)) (now (names .entry)) (now (grid .entry)) (now (scratch .entry)) (now (marks .entry)) (now (counts .entry))) (now (values .entry)) start steps counted field)) (asked (lent (now (source .entry)) (now (list .entry)) (now (sizes .entry)) (memory (now (words .entry)) (now (names .entry)) (now (grid .entry)) (now (scratch .entry)) (now (marks .entry)) (now (counts .entry))) (now (values .entry)) start steps counted field)) (now (grid .exit)) ⌝ }
 {
     if !is_built_in(list) {
         return Report {
@@ -160,5 +172,8 @@ pub fn run(
         start,
         steps,
         manner,
+        counts,
+        counted,
+        field,
     )
 }

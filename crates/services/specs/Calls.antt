@@ -7,8 +7,8 @@ use lib.IntN.{ℤ, pos}
 use Rattle.token.specs.Lexeme.{is-built-in}
 use Rattle.grammar.specs.Checking.{Outcome, rooms-fit, read-source, room-left, words-after}
 use Rattle.stepper.specs.Report.{Manner, Report}
-use Rattle.services.specs.Running.{Asked, ask}
-use Rattle.services.specs.Services.{run-source, room-after, marks-after}
+use Rattle.services.specs.Running.{counts-of, Asked, ask}
+use Rattle.services.specs.Services.{run-source, room-after, marks-after, counts-after}
 
 -- how the name list is lent: whether a word table and a name list of these lengths fit, the entry where no name is declared, and the entries for the
 -- flat words of a name list
@@ -28,11 +28,13 @@ pub record Memory (N : Type 0) : Type 0 where
   pub grid : List ℤ
   pub scratch : List ℤ
   pub marks : List ℕ
+  pub counts : List ℕ
 
-abbrev pub memory : {N : Type 0} → List ℕ → List N → List ℤ → List ℤ → List ℕ → Memory N
-memory words names grid scratch marks = record { words = words; names = names; grid = grid; scratch = scratch; marks = marks }
+abbrev pub memory : {N : Type 0} → List ℕ → List N → List ℤ → List ℤ → List ℕ → List ℕ → Memory N
+memory words names grid scratch marks counts = record { words = words; names = names; grid = grid; scratch = scratch; marks = marks; counts = counts }
 
--- what a run is lent: the source, the built-in list, the sizes, the memory, the value list, the start time and the number of steps
+-- what a run is lent: the source, the built-in list, the sizes, the memory, the value list, the start time, the number of steps, whether it keeps
+-- row counts, and the field that they are of
 pub record Lent (N : Type 0) : Type 0 where
   pub source : List ℕ
   pub list : List ℕ
@@ -41,10 +43,12 @@ pub record Lent (N : Type 0) : Type 0 where
   pub values : List ℕ
   pub start : ℤ
   pub steps : ℤ
+  pub counted : Bool
+  pub field : ℕ
 
-abbrev pub lent : {N : Type 0} → List ℕ → List ℕ → List ℕ → Memory N → List ℕ → ℤ → ℤ → Lent N
-lent source list sizes m values start steps =
-    record { source = source; list = list; sizes = sizes; memory = m; values = values; start = start; steps = steps }
+abbrev pub lent : {N : Type 0} → List ℕ → List ℕ → List ℕ → Memory N → List ℕ → ℤ → ℤ → Bool → ℕ → Lent N
+lent source list sizes m values start steps counted field =
+    record { source = source; list = list; sizes = sizes; memory = m; values = values; start = start; steps = steps; counted = counted; field = field }
 
 -- what a run leaves: its report, and the memory
 pub record Left (N : Type 0) : Type 0 where
@@ -68,6 +72,7 @@ asked l =
       marks = length (l .memory .marks);
     })
     (l .values)
+    (counts-of (l .counted) (l .field) (length (l .memory .counts)))
 
 -- how reading the source ends
 abbrev pub read-lent : {N : Type 0} → NameForm N → Lent N → Outcome
@@ -92,5 +97,6 @@ run-left form manner l =
         grid = run-report form manner l .grid;
         scratch = room-after (pos 0) (fits form l) (l .source) (asked l) (l .memory .scratch);
         marks = marks-after manner (fits form l) (l .source) (asked l) (l .memory .marks);
+        counts = counts-after manner (fits form l) (l .source) (asked l) (l .memory .counts);
       };
     }

@@ -6,7 +6,7 @@ use Prim.Native.String.{String}
 use lib.IntN.{ℤ, pos, negsuc}
 use Rattle.token.specs.Bytes.{as-bytes}
 use Rattle.stepper.specs.Report.{Manner, quiet, pausing, resuming, refused}
-use Rattle.services.specs.Cases.{Lent, Case, checks, runs, leaves, text, ask, ask-with, report, failing, holds}
+use Rattle.services.specs.Cases.{Lent, Case, checks, runs, leaves, counts, text, ask, ask-with, report, failing, holds}
 
 -- a source of one dimension with an unnamed field of a range
 abbrev pub line : String → String → Lent
@@ -169,3 +169,38 @@ pause-examples =
 pub pauses-hold : failing 1 pause-examples ≡ []
 unfolding pause-examples failing holds
 pauses-hold = refl
+
+-- ---- runs that keep row counts (request 11/13)
+
+-- M5's rule on its five rows of one cell: the zeros of a field
+abbrev pub zeros : ℕ → String → ℕ → List ℕ → ℕ → ℕ → List ℕ → List ℕ → Case
+zeros field values n lent done count after left =
+    counts (line "0..1" "cell := [-1]") quiet (ask-with (as-bytes values) (5 ∷ []) (bits (1 ∷ 0 ∷ 0 ∷ 0 ∷ 0 ∷ [])) (pos 0) (pos n)) field lent (report 0 0 0 done count (bits after)) left
+
+-- the same refused
+abbrev pub not-counted : ℕ → String → List ℕ → List ℕ → ℕ → ℕ → ℕ → Case
+not-counted field values grid lent number place line-number =
+    counts (line "0..1" "cell := [-1]") quiet (ask-with (as-bytes values) (5 ∷ []) (bits grid) (pos 0) (pos 2)) field lent (refused number place line-number (bits grid)) lent
+
+unfoldable pub count-examples : List Case
+count-examples =
+    let first : List ℕ = 1 ∷ 0 ∷ 0 ∷ 0 ∷ 0 ∷ [] in
+    let lent : List ℕ = 9 ∷ 8 ∷ 7 ∷ 6 ∷ 5 ∷ [] in
+    -- filled when the run is admitted, and moved by its steps
+    zeros 0 "" 0 lent 0 0 first (0 ∷ 1 ∷ 1 ∷ 1 ∷ 1 ∷ [])
+    ∷ zeros 0 "" 2 lent 2 8 (0 ∷ 0 ∷ 1 ∷ 0 ∷ 0 ∷ []) (1 ∷ 1 ∷ 0 ∷ 1 ∷ 1 ∷ [])
+    -- no such field; not one a row, before the list is looked at; 24 before it; the list behind it
+    ∷ not-counted 1 "" first lent 61 0 0
+    ∷ not-counted 0 "\n" first (9 ∷ 8 ∷ 7 ∷ 6 ∷ []) 61 0 0
+    ∷ not-counted 0 "" (1 ∷ 0 ∷ 2 ∷ 0 ∷ 0 ∷ []) (9 ∷ []) 24 2 0
+    ∷ not-counted 0 "9\n" first lent 56 0 1
+    -- a faulting step leaves the counts of the grid with its block set
+    ∷ counts (line "0..3" "cell := cell + 1") quiet (ask (3 ∷ []) (pos 0 ∷ pos 2 ∷ pos 1 ∷ []) (pos 0) (pos 5)) 0 (7 ∷ 7 ∷ 7 ∷ []) (report 33 26 1 1 5 (pos 1 ∷ pos 3 ∷ pos 2 ∷ [])) (0 ∷ 0 ∷ 0 ∷ [])
+    ∷ counts (line "0..3" "cell := cell + 1") quiet (ask-with (as-bytes "1\n[0] = 0\n") (3 ∷ []) (pos 0 ∷ pos 2 ∷ pos 1 ∷ []) (pos 0) (pos 5)) 0 (7 ∷ 7 ∷ 7 ∷ []) (report 33 26 1 1 5 (pos 0 ∷ pos 3 ∷ pos 2 ∷ [])) (1 ∷ 0 ∷ 0 ∷ [])
+    -- a resumed run fills them anew from its grid
+    ∷ counts (line "0..1" "cell := [-1]") (resuming (0 ∷ 0 ∷ 0 ∷ 0 ∷ 0 ∷ [])) (ask (5 ∷ []) (bits first) (pos 0) (pos 2)) 0 lent (report 0 0 0 2 0 (bits first)) (0 ∷ 1 ∷ 1 ∷ 1 ∷ 1 ∷ [])
+    ∷ []
+
+pub counts-hold : failing 1 count-examples ≡ []
+unfolding count-examples failing holds
+counts-hold = refl

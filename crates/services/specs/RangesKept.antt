@@ -21,7 +21,7 @@ use Rattle.stepper.specs.Ranges.{FieldsInRange, entry-in-range, run-keeps, quie
 use Rattle.lists.specs.ListChecking.{limits-of}
 use Rattle.lists.specs.Kept.{set-block-keeps}
 use Rattle.services.specs.Running.{Asked, ask, admitted, blocks, report-of, run}
-use Rattle.services.specs.RunningLaws.{request-admitted, list-passes, both-admit, run-admitted, run-refused}
+use Rattle.services.specs.RunningLaws.{request-admitted, counts-admitted, list-passes, all-admit, run-admitted, run-refused}
 use Rattle.services.specs.Services.{run-read, run-source, run-begins}
 
 -- The grid that a run leaves, by what is read and what is asked of the run.
@@ -32,7 +32,7 @@ pub record RangesKept (read : Outcome) (q : Asked) (left : List ℤ) : Type 0 wh
   pub within : (a : Accepted) → read ≡ accepted a → run-begins q read ≡ true → (e : ℕ) → e < length left
       → in-field (getD (a .program .fields) (e % length (a .program .fields)) no-range) (entry left e) ≡ true
   -- a run on the grid left would begin if this one did, and not otherwise
-  pub again : run-begins (ask (on-grid (q .request) left) (q .values)) read ≡ run-begins q read
+  pub again : run-begins (ask (on-grid (q .request) left) (q .values) (q .counts)) read ≡ run-begins q read
 
 -- a run that did not begin leaves the grid as it was
 unbegun : (read : Outcome) (q : Asked) → run-begins q read ≡ false → RangesKept read q (q .request .grid)
@@ -76,7 +76,7 @@ run-kept manner a q = by (eqb (admitted (a .program) q .number) 0) refl
         record {
           entries = left .entries ∙ sym (admitted-in-range (a .program) (q .request) passed .entries);
           within = λ a′ r b k l. subst (λ (p : Program). in-field (getD (p .fields) (k % length (p .fields)) no-range) (entry (run manner (a .program) q .grid) k) ≡ true) (same r) (entry-in-range left k l);
-          again = eq-eqb _ 0 (both-admit (a .program) (ask (on-grid (q .request) _) (q .values)) (admitted-on (a .program) (q .request) passed _ left) (list-passes (a .program) q began)) ∙ sym e;
+          again = eq-eqb _ 0 (all-admit (a .program) (ask (on-grid (q .request) _) (q .values) (q .counts)) (admitted-on (a .program) (q .request) passed _ left) (counts-admitted (a .program) q began) (list-passes (a .program) q began)) ∙ sym e;
         }
       where
         same : {a′ : Accepted} → accepted a ≡ accepted a′ → a .program ≡ a′ .program

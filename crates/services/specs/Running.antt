@@ -1,29 +1,50 @@
 -- A run of a program: what is asked of it, whether it is admitted, and its report.
-use mathlib.Core.Bool.{true, false}
+use mathlib.Core.Bool.{Bool, true, false, not, _&&_}
 use mathlib.Core.List.{List}
+use mathlib.Core.Option.{Option, some, none}
 use Prim.Native.Nat.{ℕ}
-use lib.ListN.{length}
-use lib.Dec.{eqb}
+use lib.ListN.{length, getD}
+use lib.Dec.{eqb, ltb}
 use lib.IntN.{ℤ, natAbs}
 use Rattle.automaton.specs.Step.{Blocks, quiet-run}
 use Rattle.program.specs.Syntax.{Program}
 use Rattle.stepper.specs.Reach.{running}
-use Rattle.stepper.specs.Admission.{Request}
+use Rattle.stepper.specs.Admission.{Request, admission}
 use Rattle.stepper.specs.Report.{Manner, Report, refused, ended, pending-of, run-by, count-of}
 use Rattle.lists.specs.ListChecking.{Turned, admission-with}
 use Rattle.lists.specs.Setting.{set-block}
 
--- what is asked of a run: what 20 to 24 are tried on, and the text of the value list, which is empty where there is none
+-- the row counts that a run is asked to keep: the number of the field whose zeros are counted, and how many entries are lent for them
+pub record CountsAsked : Type 0 where
+  pub field : ℕ
+  pub rows : ℕ
+
+-- none, where it is not asked to
+abbrev pub counts-of : Bool → ℕ → ℕ → Option CountsAsked
+counts-of true field rows = some (record { field = field; rows = rows })
+counts-of false field rows = none
+
+-- what is asked of a run: what 20 to 24 are tried on; the text of the value list, which is empty where there is none; and the row counts
 pub record Asked : Type 0 where
   pub request : Request
   pub values : List ℕ
+  pub counts : Option CountsAsked
 
-abbrev pub ask : Request → List ℕ → Asked
-ask q values = record { request = q; values = values }
+abbrev pub ask : Request → List ℕ → Option CountsAsked → Asked
+ask q values counts = record { request = q; values = values; counts = counts }
 
--- 20 to 24, and then the list; number 0: the run is admitted
-abbrev pub admitted : Program → Asked → Turned
-admitted p q = admission-with p (q .request) (q .values)
+-- the counts are of a field that there is, and one a row of the first dimension, else 61
+abbrev pub good-counts : Program → List ℕ → Option CountsAsked → Bool
+good-counts p sizes none = true
+good-counts p sizes (some c) = ltb (c .field) (length (p .fields)) && eqb (c .rows) (getD sizes 0 0)
+
+-- 20 to 24, then 61, and then the list; number 0: the run is admitted
+unfoldable pub admitted : Program → Asked → Turned
+admitted p q =
+    elim (eqb (admission p (q .request) .number) 0 && not (good-counts p (q .request .sizes) (q .counts))) [
+      | true ↦ record { number = 61; place = 0; line = 0 }
+      | false ↦ admission-with p (q .request) (q .values)
+    ]
 
 -- what is set into the grid at each time: the block that the list has for it
 abbrev pub blocks : Program → Asked → Blocks (List ℤ)

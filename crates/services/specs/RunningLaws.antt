@@ -13,7 +13,7 @@ use Rattle.stepper.specs.Report.{Manner, refused}
 use Rattle.lists.specs.Lines.{said}
 use Rattle.lists.specs.ListChecking.{Turned, Verdict, limits-of, check-list, admission-with}
 use Rattle.lists.specs.Passing.{Passes}
-use Rattle.services.specs.Running.{Asked, admitted, report-of, run}
+use Rattle.services.specs.Running.{Asked, good-counts, admitted, report-of, run}
 
 -- ---- the run is refused with 20 to 24, or the list decides
 
@@ -24,13 +24,29 @@ module _ (p : Program) (q : Asked) where
   abbrev verdict-of : Verdict
   verdict-of = check-list (limits-of p (q .request)) (q .values)
 
-  pub list-decides : admission p (q .request) .number ≡ 0 → admitted p q ≡ turned (verdict-of .number) 0 (verdict-of .line)
+  -- whether the counts fit, if there are any
+  abbrev counts-fit : Bool
+  counts-fit = good-counts p (q .request .sizes) (q .counts)
+
+  passed-on : admission p (q .request) .number ≡ 0 → admission-with p (q .request) (q .values) ≡ turned (verdict-of .number) 0 (verdict-of .line)
   unfolding admission-with
-  list-decides e = rw (eq-eqb (admission p (q .request) .number) 0 e, admission-with)
+  passed-on e = rw (eq-eqb (admission p (q .request) .number) 0 e, admission-with)
+
+  turned-first : (admission p (q .request) .number ≡ 0 → ⊥) → admission-with p (q .request) (q .values) ≡ turned (admission p (q .request) .number) (admission p (q .request) .place) 0
+  unfolding admission-with
+  turned-first d = rw (ne-eqb (admission p (q .request) .number) 0 d, admission-with)
+
+  pub list-decides : admission p (q .request) .number ≡ 0 → counts-fit ≡ true → admitted p q ≡ turned (verdict-of .number) 0 (verdict-of .line)
+  unfolding admitted
+  list-decides e c = rw (eq-eqb (admission p (q .request) .number) 0 e, c, admitted) (passed-on e)
+
+  pub counts-refused : admission p (q .request) .number ≡ 0 → counts-fit ≡ false → admitted p q ≡ turned 61 0 0
+  unfolding admitted
+  counts-refused e c = rw (eq-eqb (admission p (q .request) .number) 0 e, c, admitted)
 
   pub refused-first : (admission p (q .request) .number ≡ 0 → ⊥) → admitted p q ≡ turned (admission p (q .request) .number) (admission p (q .request) .place) 0
-  unfolding admission-with
-  refused-first d = rw (ne-eqb (admission p (q .request) .number) 0 d, admission-with)
+  unfolding admitted
+  refused-first d = rw (ne-eqb (admission p (q .request) .number) 0 d, admitted) (turned-first d)
 
   -- ---- an admitted run
 
@@ -41,13 +57,20 @@ module _ (p : Program) (q : Asked) where
       by true t = eqb-true _ 0 t
       by false t = ap (λ (x : Turned). x .number) (sym (refused-first (eqb-false _ 0 t))) ∙ e
 
+  pub counts-admitted : admitted p q .number ≡ 0 → counts-fit ≡ true
+  counts-admitted e = by counts-fit refl
+    where
+      by : (b : Bool) → counts-fit ≡ b → b ≡ true
+      by true t = refl
+      by false t = absurd (let z : _≡_ {A = ℕ} 61 0 = ap (λ (x : Turned). x .number) (sym (counts-refused (request-admitted e) t)) ∙ e in omega arith)
+
   pub list-passes : admitted p q .number ≡ 0 → Passes (limits-of p (q .request)) none 1 (said (q .values))
   unfolding check-list
-  list-passes e = record { is = ap (λ (x : Turned). x .number) (sym (list-decides (request-admitted e))) ∙ e }
+  list-passes e = record { is = ap (λ (x : Turned). x .number) (sym (list-decides (request-admitted e) (counts-admitted e))) ∙ e }
 
-  pub both-admit : admission p (q .request) .number ≡ 0 → Passes (limits-of p (q .request)) none 1 (said (q .values)) → admitted p q .number ≡ 0
+  pub all-admit : admission p (q .request) .number ≡ 0 → counts-fit ≡ true → Passes (limits-of p (q .request)) none 1 (said (q .values)) → admitted p q .number ≡ 0
   unfolding check-list
-  both-admit e pass = ap (λ (x : Turned). x .number) (list-decides e) ∙ pass .is
+  all-admit e c pass = ap (λ (x : Turned). x .number) (list-decides e c) ∙ pass .is
 
   -- ---- what a run gives
 

@@ -1,13 +1,13 @@
 // Running a source with a value list.
+ghost use mathlib.Core.Bool.{false};
+ghost use mathlib.Core.List.{[]};
 ghost use Rattle.stepper.specs.Report.{full, quiet};
 ghost use Rattle.services.specs.Calls.{flat-names, memory, lent, asked, read-lent, run-report};
 ghost use Rattle.services.specs.RangesKept.{RangesKept};
 ghost use Rattle.runner.specs.Property3.{Agree};
 ghost use Rattle.cellang.specs.Told.{TellsRun};
-use entries::put_report;
+use crate::exports::telling::run_told;
 use iteration::Manner;
-use runner::run;
-use spelling::told_part;
 
 // Runs a source on a grid with the blocks of a value list. Each step evaluates every cell, and gives the reply's number.
 // `report` is told as by the run without a list.
@@ -26,10 +26,11 @@ pub extern "C" fn cellang_run_full_list(
     steps: i64,
     report: &mut [u64],
 ) -> u32
-    ensures { λ r. ⌜ TellsRun full (lent (now (source .entry)) (now (list .entry)) (now (sizes .entry)) (memory (now (words .entry)) (now (names .entry)) (now (grid .entry)) (now (scratch .entry)) (now (marks .entry))) (now (values .entry)) start steps) (now (report .entry)) r (memory (now (words .exit)) (now (names .exit)) (now (grid .exit)) (now (scratch .exit)) (now (marks .exit))) (now (report .exit)) ⌝ }
-    ensures ranges { λ _. ⌜ RangesKept (read-lent flat-names (lent (now (source .entry)) (now (list .entry)) (now (sizes .entry)) (memory (now (words .entry)) (now (names .entry)) (now (grid .entry)) (now (scratch .entry)) (now (marks .entry))) (now (values .entry)) start steps)) (asked (lent (now (source .entry)) (now (list .entry)) (now (sizes .entry)) (memory (now (words .entry)) (now (names .entry)) (now (grid .entry)) (now (scratch .entry)) (now (marks .entry))) (now (values .entry)) start steps)) (now (grid .exit)) ⌝ }
+    ensures { λ r. ⌜ TellsRun full (lent (now (source .entry)) (now (list .entry)) (now (sizes .entry)) (memory (now (words .entry)) (now (names .entry)) (now (grid .entry)) (now (scratch .entry)) (now (marks .entry)) []) (now (values .entry)) start steps false 0) (now (report .entry)) r (memory (now (words .exit)) (now (names .exit)) (now (grid .exit)) (now (scratch .exit)) (now (marks .exit)) []) (now (report .exit)) ⌝ }
+    ensures ranges { λ _. ⌜ RangesKept (read-lent flat-names (lent (now (source .entry)) (now (list .entry)) (now (sizes .entry)) (memory (now (words .entry)) (now (names .entry)) (now (grid .entry)) (now (scratch .entry)) (now (marks .entry)) []) (now (values .entry)) start steps false 0)) (asked (lent (now (source .entry)) (now (list .entry)) (now (sizes .entry)) (memory (now (words .entry)) (now (names .entry)) (now (grid .entry)) (now (scratch .entry)) (now (marks .entry)) []) (now (values .entry)) start steps false 0)) (now (grid .exit)) ⌝ }
 {
-    let told = run(
+    let mut none = [0u32; 0];
+    run_told(
         source,
         list,
         words,
@@ -42,21 +43,11 @@ pub extern "C" fn cellang_run_full_list(
         start,
         steps,
         Manner::Full,
-    );
-    let part = told_part(source, told.number, told.place);
-    put_report(
+        &mut none,
+        false,
+        0,
         report,
-        told.number,
-        told.place,
-        told.cell,
-        told.steps,
-        told.count,
-        part.stands,
-        part.start,
-        part.len,
-        told.line,
-    );
-    told.number
+    )
 }
 
 // Runs a source on a grid with the blocks of a value list. Each step evaluates the open cells alone, and gives the reply's number.
@@ -76,11 +67,12 @@ pub extern "C" fn cellang_run_quiet_list(
     steps: i64,
     report: &mut [u64],
 ) -> u32
-    ensures { λ r. ⌜ TellsRun quiet (lent (now (source .entry)) (now (list .entry)) (now (sizes .entry)) (memory (now (words .entry)) (now (names .entry)) (now (grid .entry)) (now (scratch .entry)) (now (marks .entry))) (now (values .entry)) start steps) (now (report .entry)) r (memory (now (words .exit)) (now (names .exit)) (now (grid .exit)) (now (scratch .exit)) (now (marks .exit))) (now (report .exit)) ⌝ }
-    ensures ranges { λ _. ⌜ RangesKept (read-lent flat-names (lent (now (source .entry)) (now (list .entry)) (now (sizes .entry)) (memory (now (words .entry)) (now (names .entry)) (now (grid .entry)) (now (scratch .entry)) (now (marks .entry))) (now (values .entry)) start steps)) (asked (lent (now (source .entry)) (now (list .entry)) (now (sizes .entry)) (memory (now (words .entry)) (now (names .entry)) (now (grid .entry)) (now (scratch .entry)) (now (marks .entry))) (now (values .entry)) start steps)) (now (grid .exit)) ⌝ }
-    ensures agrees { λ _. ⌜ Agree (run-report flat-names quiet (lent (now (source .entry)) (now (list .entry)) (now (sizes .entry)) (memory (now (words .entry)) (now (names .entry)) (now (grid .entry)) (now (scratch .entry)) (now (marks .entry))) (now (values .entry)) start steps)) (run-report flat-names full (lent (now (source .entry)) (now (list .entry)) (now (sizes .entry)) (memory (now (words .entry)) (now (names .entry)) (now (grid .entry)) (now (scratch .entry)) (now (marks .entry))) (now (values .entry)) start steps)) ⌝ }
+    ensures { λ r. ⌜ TellsRun quiet (lent (now (source .entry)) (now (list .entry)) (now (sizes .entry)) (memory (now (words .entry)) (now (names .entry)) (now (grid .entry)) (now (scratch .entry)) (now (marks .entry)) []) (now (values .entry)) start steps false 0) (now (report .entry)) r (memory (now (words .exit)) (now (names .exit)) (now (grid .exit)) (now (scratch .exit)) (now (marks .exit)) []) (now (report .exit)) ⌝ }
+    ensures ranges { λ _. ⌜ RangesKept (read-lent flat-names (lent (now (source .entry)) (now (list .entry)) (now (sizes .entry)) (memory (now (words .entry)) (now (names .entry)) (now (grid .entry)) (now (scratch .entry)) (now (marks .entry)) []) (now (values .entry)) start steps false 0)) (asked (lent (now (source .entry)) (now (list .entry)) (now (sizes .entry)) (memory (now (words .entry)) (now (names .entry)) (now (grid .entry)) (now (scratch .entry)) (now (marks .entry)) []) (now (values .entry)) start steps false 0)) (now (grid .exit)) ⌝ }
+    ensures agrees { λ _. ⌜ Agree (run-report flat-names quiet (lent (now (source .entry)) (now (list .entry)) (now (sizes .entry)) (memory (now (words .entry)) (now (names .entry)) (now (grid .entry)) (now (scratch .entry)) (now (marks .entry)) []) (now (values .entry)) start steps false 0)) (run-report flat-names full (lent (now (source .entry)) (now (list .entry)) (now (sizes .entry)) (memory (now (words .entry)) (now (names .entry)) (now (grid .entry)) (now (scratch .entry)) (now (marks .entry)) []) (now (values .entry)) start steps false 0)) ⌝ }
 {
-    let told = run(
+    let mut none = [0u32; 0];
+    run_told(
         source,
         list,
         words,
@@ -93,19 +85,9 @@ pub extern "C" fn cellang_run_quiet_list(
         start,
         steps,
         Manner::Quiet,
-    );
-    let part = told_part(source, told.number, told.place);
-    put_report(
+        &mut none,
+        false,
+        0,
         report,
-        told.number,
-        told.place,
-        told.cell,
-        told.steps,
-        told.count,
-        part.stands,
-        part.start,
-        part.len,
-        told.line,
-    );
-    told.number
+    )
 }

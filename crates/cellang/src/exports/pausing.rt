@@ -1,13 +1,13 @@
 // A quiet run that is paused, and one that is resumed.
+ghost use mathlib.Core.Bool.{false};
+ghost use mathlib.Core.List.{[]};
 ghost use Rattle.stepper.specs.Report.{full, pausing, resuming};
 ghost use Rattle.services.specs.Calls.{flat-names, memory, lent, asked, read-lent, run-report};
 ghost use Rattle.services.specs.RangesKept.{RangesKept};
 ghost use Rattle.runner.specs.Property3.{Agree};
 ghost use Rattle.cellang.specs.Told.{TellsRun};
-use entries::put_report;
+use crate::exports::telling::run_told;
 use iteration::Manner;
-use runner::run;
-use spelling::told_part;
 
 // Runs a source on a grid with the blocks of a value list. Each step evaluates the open cells alone, and gives the reply's number. After success the marks
 // are left standing: 1 for a cell that one more step would open, else 0. `report` is told as by the quiet run, and is the same.
@@ -26,11 +26,12 @@ pub extern "C" fn cellang_run_pausing(
     steps: i64,
     report: &mut [u64],
 ) -> u32
-    ensures { λ r. ⌜ TellsRun pausing (lent (now (source .entry)) (now (list .entry)) (now (sizes .entry)) (memory (now (words .entry)) (now (names .entry)) (now (grid .entry)) (now (scratch .entry)) (now (marks .entry))) (now (values .entry)) start steps) (now (report .entry)) r (memory (now (words .exit)) (now (names .exit)) (now (grid .exit)) (now (scratch .exit)) (now (marks .exit))) (now (report .exit)) ⌝ }
-    ensures ranges { λ _. ⌜ RangesKept (read-lent flat-names (lent (now (source .entry)) (now (list .entry)) (now (sizes .entry)) (memory (now (words .entry)) (now (names .entry)) (now (grid .entry)) (now (scratch .entry)) (now (marks .entry))) (now (values .entry)) start steps)) (asked (lent (now (source .entry)) (now (list .entry)) (now (sizes .entry)) (memory (now (words .entry)) (now (names .entry)) (now (grid .entry)) (now (scratch .entry)) (now (marks .entry))) (now (values .entry)) start steps)) (now (grid .exit)) ⌝ }
-    ensures agrees { λ _. ⌜ Agree (run-report flat-names pausing (lent (now (source .entry)) (now (list .entry)) (now (sizes .entry)) (memory (now (words .entry)) (now (names .entry)) (now (grid .entry)) (now (scratch .entry)) (now (marks .entry))) (now (values .entry)) start steps)) (run-report flat-names full (lent (now (source .entry)) (now (list .entry)) (now (sizes .entry)) (memory (now (words .entry)) (now (names .entry)) (now (grid .entry)) (now (scratch .entry)) (now (marks .entry))) (now (values .entry)) start steps)) ⌝ }
+    ensures { λ r. ⌜ TellsRun pausing (lent (now (source .entry)) (now (list .entry)) (now (sizes .entry)) (memory (now (words .entry)) (now (names .entry)) (now (grid .entry)) (now (scratch .entry)) (now (marks .entry)) []) (now (values .entry)) start steps false 0) (now (report .entry)) r (memory (now (words .exit)) (now (names .exit)) (now (grid .exit)) (now (scratch .exit)) (now (marks .exit)) []) (now (report .exit)) ⌝ }
+    ensures ranges { λ _. ⌜ RangesKept (read-lent flat-names (lent (now (source .entry)) (now (list .entry)) (now (sizes .entry)) (memory (now (words .entry)) (now (names .entry)) (now (grid .entry)) (now (scratch .entry)) (now (marks .entry)) []) (now (values .entry)) start steps false 0)) (asked (lent (now (source .entry)) (now (list .entry)) (now (sizes .entry)) (memory (now (words .entry)) (now (names .entry)) (now (grid .entry)) (now (scratch .entry)) (now (marks .entry)) []) (now (values .entry)) start steps false 0)) (now (grid .exit)) ⌝ }
+    ensures agrees { λ _. ⌜ Agree (run-report flat-names pausing (lent (now (source .entry)) (now (list .entry)) (now (sizes .entry)) (memory (now (words .entry)) (now (names .entry)) (now (grid .entry)) (now (scratch .entry)) (now (marks .entry)) []) (now (values .entry)) start steps false 0)) (run-report flat-names full (lent (now (source .entry)) (now (list .entry)) (now (sizes .entry)) (memory (now (words .entry)) (now (names .entry)) (now (grid .entry)) (now (scratch .entry)) (now (marks .entry)) []) (now (values .entry)) start steps false 0)) ⌝ }
 {
-    let told = run(
+    let mut none = [0u32; 0];
+    run_told(
         source,
         list,
         words,
@@ -43,21 +44,11 @@ pub extern "C" fn cellang_run_pausing(
         start,
         steps,
         Manner::Pausing,
-    );
-    let part = told_part(source, told.number, told.place);
-    put_report(
+        &mut none,
+        false,
+        0,
         report,
-        told.number,
-        told.place,
-        told.cell,
-        told.steps,
-        told.count,
-        part.stands,
-        part.start,
-        part.len,
-        told.line,
-    );
-    told.number
+    )
 }
 
 // The same, begun from the marks that are lent: in the first step those cells are open whose mark is not 0, and those that its block or `time` opens. The
@@ -77,10 +68,11 @@ pub extern "C" fn cellang_run_resuming(
     steps: i64,
     report: &mut [u64],
 ) -> u32
-    ensures { λ r. ⌜ TellsRun (resuming (now (marks .entry))) (lent (now (source .entry)) (now (list .entry)) (now (sizes .entry)) (memory (now (words .entry)) (now (names .entry)) (now (grid .entry)) (now (scratch .entry)) (now (marks .entry))) (now (values .entry)) start steps) (now (report .entry)) r (memory (now (words .exit)) (now (names .exit)) (now (grid .exit)) (now (scratch .exit)) (now (marks .exit))) (now (report .exit)) ⌝ }
-    ensures ranges { λ _. ⌜ RangesKept (read-lent flat-names (lent (now (source .entry)) (now (list .entry)) (now (sizes .entry)) (memory (now (words .entry)) (now (names .entry)) (now (grid .entry)) (now (scratch .entry)) (now (marks .entry))) (now (values .entry)) start steps)) (asked (lent (now (source .entry)) (now (list .entry)) (now (sizes .entry)) (memory (now (words .entry)) (now (names .entry)) (now (grid .entry)) (now (scratch .entry)) (now (marks .entry))) (now (values .entry)) start steps)) (now (grid .exit)) ⌝ }
+    ensures { λ r. ⌜ TellsRun (resuming (now (marks .entry))) (lent (now (source .entry)) (now (list .entry)) (now (sizes .entry)) (memory (now (words .entry)) (now (names .entry)) (now (grid .entry)) (now (scratch .entry)) (now (marks .entry)) []) (now (values .entry)) start steps false 0) (now (report .entry)) r (memory (now (words .exit)) (now (names .exit)) (now (grid .exit)) (now (scratch .exit)) (now (marks .exit)) []) (now (report .exit)) ⌝ }
+    ensures ranges { λ _. ⌜ RangesKept (read-lent flat-names (lent (now (source .entry)) (now (list .entry)) (now (sizes .entry)) (memory (now (words .entry)) (now (names .entry)) (now (grid .entry)) (now (scratch .entry)) (now (marks .entry)) []) (now (values .entry)) start steps false 0)) (asked (lent (now (source .entry)) (now (list .entry)) (now (sizes .entry)) (memory (now (words .entry)) (now (names .entry)) (now (grid .entry)) (now (scratch .entry)) (now (marks .entry)) []) (now (values .entry)) start steps false 0)) (now (grid .exit)) ⌝ }
 {
-    let told = run(
+    let mut none = [0u32; 0];
+    run_told(
         source,
         list,
         words,
@@ -93,19 +85,9 @@ pub extern "C" fn cellang_run_resuming(
         start,
         steps,
         Manner::Resuming,
-    );
-    let part = told_part(source, told.number, told.place);
-    put_report(
+        &mut none,
+        false,
+        0,
         report,
-        told.number,
-        told.place,
-        told.cell,
-        told.steps,
-        told.count,
-        part.stands,
-        part.start,
-        part.len,
-        told.line,
-    );
-    told.number
+    )
 }

@@ -26,10 +26,11 @@ use Rattle.stepper.specs.Ranges.{admitted-dims}
 use Rattle.services.specs.Running.{Asked, admitted, blocks, report-of, run, standing}
 use Rattle.services.specs.RunningLaws.{request-admitted, run-admitted}
 use Rattle.services.specs.Services.{run-read, run-source, run-begins, marks-admitted, marks-read, marks-after}
+use Rattle.iteration.specs.Stepwise.{report-in}
 use Rattle.runner.specs.Timing.{timing}
 use Rattle.runner.specs.Property3.{Agree, read-of, paused-agrees}
 use Rattle.joining.specs.Joins.{Pauses, GoesOn, behind, at-once, together, all-at-once, all-together, last-marks, Chain}
-use Rattle.joining.proofs.RunLaws.{quiet-of, report-in, report-is, standing-is, steps-in, grid-in, joined-report, at-once-admitted, no-stop, stopped, both-calls}
+use Rattle.joining.proofs.RunLaws.{quiet-of, report-is, standing-is, steps-in, grid-in, joined-report, at-once-admitted, no-stop, stopped, both-calls}
 
 -- ---- a run that began
 
@@ -133,13 +134,13 @@ first-start q (r ∷ rs) = refl
 
 -- Calls one after the other, each from the marks that the one before left, give together what one call with all their steps and the joined lists gives, begun as
 -- the first was; the last leaves the same marks.
-pub record Joined (manner : Manner) (fit : Bool) (source : List ℕ) (q : Asked) (rs : List Asked) (marks : List ℕ) : Type 0 where
+pub record ChainJoins (manner : Manner) (fit : Bool) (source : List ℕ) (q : Asked) (rs : List Asked) (marks : List ℕ) : Type 0 where
   pub begins : run-begins (all-at-once q rs) (read-source fit source) ≡ true
   pub report : run-source manner fit source (all-at-once q rs) ≡ all-together manner fit source q rs marks
   pub stands : marks-after manner fit source (all-at-once q rs) marks ≡ last-marks manner fit source q rs marks
 
 pub chain-joins : (manner : Manner) → Pauses manner → (fit : Bool) (source : List ℕ) (q : Asked) (rs : List Asked) (marks : List ℕ) → Chain manner fit source q rs marks
-    → Joined manner fit source q rs marks
+    → ChainJoins manner fit source q rs marks
 unfolding all-together last-marks
 chain-joins manner k fit source q [] marks c = record { begins = c; report = refl; stands = refl }
 chain-joins manner k fit source q (r ∷ rs) marks c =

@@ -14,8 +14,8 @@ turned-away-requires c κs = search needs
 
 returns : tie.Need-returns
 returns c =
-    let a = c .before .before .before .before .before .before .before .before .before .args in
-    no-row-run _ _ (a .list .now) _ _ _ _ _ _ (a .values .now) (a .start) (a .steps) _ (ap not (sym (c .before .before .row-fits .ensures)) ∙ c .before .if1 .taken) (c .turned-away .ensures)
+    let a = c .before .before .before .before .before .before .before .before .before .before .args in
+    no-row-run _ _ (a .list .now) _ _ _ _ _ _ (a .values .now) (a .start) (a .steps) _ (a .counted) (a .field) _ (ap not (sym (c .before .before .row-fits .ensures)) ∙ c .before .if1 .taken) (c .turned-away .ensures)
 
 stored-requires : tie.Need-stored-requires
 stored-requires c κs = search needs
@@ -41,12 +41,15 @@ same-length-3 c = search needs
 same-length-4 : tie.Need-same-length-4
 same-length-4 c = search needs
 
+same-length-5 : tie.Need-same-length-5
+same-length-5 c = search needs
+
 returns-2 : tie.Need-returns-2
 returns-2 c =
-    let r = c .before .before .before .before .before .before .before .before .before in
-    let t = r .before .before .before .before .before .before .before in
-    let s = t .before .before .before .before .before .before .before .before in
-    row-run _ _ (s .args .list .now) _ _ _ _ _ _ (s .args .values .now) (s .args .start) (s .args .steps) _ _ _ _ _ _ _ _ (ap not (sym (t .before .row-fits .ensures)) ∙ t .if1 .left) (r .before .before .before .before .before .before .stored .ensures)
+    let r = c .before .before .before .before .before .before .before .before .before .before .before in
+    let t = r .before .before .before .before .before .before .before .before in
+    let s = t .before .before .before .before .before .before .before .before .before in
+    row-run _ _ (s .args .list .now) _ _ _ _ _ _ (s .args .values .now) (s .args .start) (s .args .steps) _ (s .args .counted) (s .args .field) _ _ _ _ _ _ _ _ _ (ap not (sym (t .before .row-fits .ensures)) ∙ t .if1 .left) (r .before .before .before .before .before .before .before .stored .ensures)
     (read-times (s .fits .start) (s .fits .steps) (r .run .ensures .0)) (c .rows-of .ensures)
 
 pub ran-spec : {M : Type 1} → statement M
@@ -64,4 +67,5 @@ ran-spec =
     same-length-2
     same-length-3
     same-length-4
+    same-length-5
     returns-2)

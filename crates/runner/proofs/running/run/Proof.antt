@@ -11,8 +11,8 @@ is-built-in-requires c κs = search needs
 
 returns : tie.Need-returns
 returns c =
-    let s = c .before .before .before .before .before .before .before .before .before in
-    let ran = unlisted (s .args .list .now) (c .before .is-built-in .ensures) (manner-of (s .args .manner) (s .args .marks .now)) (lent _ _ _ (memory _ _ _ (s .args .scratch .now) (s .args .marks .now)) (s .args .values .now) (s .args .start) (s .args .steps)) refl (c .if1 .taken) in
+    let s = c .before .before .before .before .before .before .before .before .before .before in
+    let ran = unlisted (s .args .list .now) (c .before .is-built-in .ensures) (manner-of (s .args .manner) (s .args .marks .now)) (lent _ _ _ (memory _ _ _ (s .args .scratch .now) (s .args .marks .now) (s .args .counts .now)) (s .args .values .now) (s .args .start) (s .args .steps) (s .args .counted) (s .args .field)) refl (c .if1 .taken) in
     (ran, (run-agrees flat-names (s .args .manner) _ ran, run-ranges flat-names _ _ ran))
 
 run-listed-requires : tie.Need-run-listed-requires
@@ -33,15 +33,18 @@ same-length-4 c = search needs
 same-length-5 : tie.Need-same-length-5
 same-length-5 c = search needs
 
+same-length-6 : tie.Need-same-length-6
+same-length-6 c = search needs
+
 returns-2 : tie.Need-returns-2
 returns-2 c =
-    let r = c .before .before .before .before .before .before .before .before in
-    let t = r .before .before .before .before .before .before in
-    let s = t .before .before .before .before .before .before .before .before .before in
+    let r = c .before .before .before .before .before .before .before .before .before .before in
+    let t = r .before .before .before .before .before .before .before in
+    let s = t .before .before .before .before .before .before .before .before .before .before in
     let ran = read-times (s .fits .start) (s .fits .steps) (listed (s .args .list .now) (t .before .is-built-in .ensures) (t .if1 .left) (r .run-listed .ensures)) in
     (ran, (run-agrees flat-names (s .args .manner) _ ran, run-ranges flat-names _ _ ran))
 
 pub run-spec : {M : Type 1} → statement M
 run-spec =
     tie.close
-    (tie.spec is-built-in-requires returns run-listed-requires same-length same-length-2 same-length-3 same-length-4 same-length-5 returns-2)
+    (tie.spec is-built-in-requires returns run-listed-requires same-length same-length-2 same-length-3 same-length-4 same-length-5 same-length-6 returns-2)

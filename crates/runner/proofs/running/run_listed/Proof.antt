@@ -22,8 +22,8 @@ same-length-3 c = search needs
 returns : tie.Need-returns
 returns c =
     let o = c .before .before .before .before .before .before in
-    let s = o .before .before .before .before .before .before .before .before .before .before in
-    record { each = λ list e. read-times (s .fits .start) (s .fits .steps) (closed-run (lent _ list _ (memory _ _ _ (s .args .scratch .now) (s .args .marks .now)) (s .args .values .now) _ _) e (o .open-run .ensures) (s .args .manner) (c .if1 .taken)) }
+    let s = o .before .before .before .before .before .before .before .before .before .before .before in
+    record { each = λ list e. read-times (s .fits .start) (s .fits .steps) (closed-run (lent _ list _ (memory _ _ _ (s .args .scratch .now) (s .args .marks .now) (s .args .counts .now)) (s .args .values .now) _ _ (s .args .counted) (s .args .field)) e (o .open-run .ensures) (s .args .manner) (c .if1 .taken)) }
 
 all-open-requires : tie.Need-all-open-requires
 all-open-requires c κs = search needs
@@ -32,25 +32,25 @@ cast-run-steps : tie.Need-cast-run-steps
 cast-run-steps c =
     let t = c .before .before .before .before .before .before .before in
     let o = t .before .before .before .before .before .before in
-    let s = o .before .before .before .before .before .before .before .before .before .before in
-    cast-start (lent _ built-in-names _ (memory _ _ _ (s .args .scratch .now) (s .args .marks .now)) (s .args .values .now) _ _) the-list (o .open-run .ensures) (s .args .manner) (t .if1 .left)
+    let s = o .before .before .before .before .before .before .before .before .before .before .before in
+    cast-start (lent _ built-in-names _ (memory _ _ _ (s .args .scratch .now) (s .args .marks .now) (s .args .counts .now)) (s .args .values .now) _ _ (s .args .counted) (s .args .field)) the-list (o .open-run .ensures) (s .args .manner) (t .if1 .left)
 
 cast-run-steps-2 : tie.Need-cast-run-steps-2
 cast-run-steps-2 c =
     let t = c .before .before .before .before .before .before .before in
     let o = t .before .before .before .before .before .before in
-    let s = o .before .before .before .before .before .before .before .before .before .before in
-    cast-steps (lent _ built-in-names _ (memory _ _ _ (s .args .scratch .now) (s .args .marks .now)) (s .args .values .now) _ _) the-list (o .open-run .ensures) (s .args .manner) (t .if1 .left)
+    let s = o .before .before .before .before .before .before .before .before .before .before .before in
+    cast-steps (lent _ built-in-names _ (memory _ _ _ (s .args .scratch .now) (s .args .marks .now) (s .args .counts .now)) (s .args .values .now) _ _ (s .args .counted) (s .args .field)) the-list (o .open-run .ensures) (s .args .manner) (t .if1 .left)
 
 resumes-requires : tie.Need-resumes-requires
 resumes-requires c κs = search needs
 
 run-steps-requires : tie.Need-run-steps-requires
 run-steps-requires c κs =
-    let t = c .before .before .before .before .before .before .before .before in
+    let t = c .before .before .before .before .before .before .before .before .before in
     let o = t .before .before .before .before .before .before in
-    let s = o .before .before .before .before .before .before .before .before .before .before in
-    run-ready (lent _ built-in-names _ (memory _ _ _ (s .args .scratch .now) (s .args .marks .now)) (s .args .values .now) _ _) the-list (o .open-run .ensures) (s .args .manner) (t .if1 .left)
+    let s = o .before .before .before .before .before .before .before .before .before .before .before in
+    run-ready (lent _ built-in-names _ (memory _ _ _ (s .args .scratch .now) (s .args .marks .now) (s .args .counts .now)) (s .args .values .now) _ _ (s .args .counted) (s .args .field)) the-list (o .open-run .ensures) (s .args .manner) (t .if1 .left)
 
 clear-numbers-requires : tie.Need-clear-numbers-requires
 clear-numbers-requires c κs = search needs
@@ -59,10 +59,10 @@ leave-marks-requires : tie.Need-leave-marks-requires
 leave-marks-requires c κs = search needs
 
 same-length-4 : tie.Need-same-length-4
-same-length-4 c = search needs
+same-length-4 c = search (c .before .before .before .before .before .before .before .before .before .before .before .before .before .before .before .before .before .before .before .before .before .before .before .before .before .before .before .before .before .open-run .kept, needs)
 
 same-length-5 : tie.Need-same-length-5
-same-length-5 c = search needs
+same-length-5 c = search (c .before .before .before .before .before .before .before .before .before .before .before .before .before .before .before .before .before .before .before .before .before .before .before .before .before .before .before .before .before .open-run .kept, needs)
 
 same-length-6 : tie.Need-same-length-6
 same-length-6 c = search needs
@@ -73,16 +73,19 @@ same-length-7 c = search needs
 same-length-8 : tie.Need-same-length-8
 same-length-8 c = search needs
 
+same-length-9 : tie.Need-same-length-9
+same-length-9 c = search needs
+
 returns-2 : tie.Need-returns-2
 returns-2 c =
-    let r = c .before .before .before .before .before .before .before .before .before .before .before in
-    let t = r .before .before .before .before .before .before .before .before .before in
+    let r = c .before .before .before .before .before .before .before .before .before .before .before .before .before in
+    let t = r .before .before .before .before .before .before .before .before .before .before in
     let o = t .before .before .before .before .before .before in
-    let s = o .before .before .before .before .before .before .before .before .before .before in
+    let s = o .before .before .before .before .before .before .before .before .before .before .before in
     record {
       each = λ list e. read-times (s .fits .start) (s .fits .steps)
-          (run-done (lent _ list _ (memory _ _ _ (s .args .scratch .now) (s .args .marks .now)) (s .args .values .now) _ _) e (o .open-run .ensures) (s .args .manner) (t .if1 .left) (length (r .run-steps .last .1 .1 .1 .1 .1 .1 .0))
-          (r .before .before .before .before .before .before .all-open .ensures) (r .before .resumes .ensures) (r .run-steps .ensures) (c .before .before .before .before .before .clear-numbers .ensures) (omega (arith, c .before .before .before .before .before .clear-numbers .kept, r .run-steps .kept .1 .1 .1 .1 .1 .1 .0)) (omega (arith, r .run-steps .kept .1 .1 .1 .1 .1 .1 .1 .0)) (c .before .before .leave-marks .ensures));
+          (run-done (lent _ list _ (memory _ _ _ (s .args .scratch .now) (s .args .marks .now) (s .args .counts .now)) (s .args .values .now) _ _ (s .args .counted) (s .args .field)) e (o .open-run .ensures) (s .args .manner) (t .if1 .left) (length (r .run-steps .last .1 .1 .1 .1 .1 .1 .0))
+          (r .before .before .before .before .before .before .before .all-open .ensures) (r .before .before .resumes .ensures) (r .run-steps .ensures .0) (c .before .before .before .before .before .clear-numbers .ensures) (omega (arith, c .before .before .before .before .before .clear-numbers .kept, r .run-steps .kept .1 .1 .1 .1 .1 .1 .0)) (omega (arith, r .run-steps .kept .1 .1 .1 .1 .1 .1 .1 .0)) (c .before .before .leave-marks .ensures) (r .run-steps .ensures .1));
     }
 
 pub run-listed-spec : {M : Type 1} → statement M
@@ -106,4 +109,5 @@ run-listed-spec =
     same-length-6
     same-length-7
     same-length-8
+    same-length-9
     returns-2)

@@ -1,18 +1,13 @@
 use borrow.Author.Needs.{needs}
-use Rattle.services.specs.Calls.{flat-names}
-use Rattle.runner.proofs.RunLaws.{read-times, run-ranges}
-use Rattle.cellang.proofs.Telling.{tells-run}
+use Rattle.cellang.proofs.Telling.{told-on, tells-ranges, told-plain}
 use Rattle.cellang.proofs.exports.listing.cellang_run_full_list.Statement.{statement}
 use Rattle.cellang.proofs.exports.listing.cellang_run_full_list.Tie as tie
 
-run-requires : tie.Need-run-requires
-run-requires c κs = search needs
+slice-aggregate-run-told : tie.Need-slice-aggregate-run-told
+slice-aggregate-run-told c = search needs
 
-told-part-requires : tie.Need-told-part-requires
-told-part-requires c κs = search needs
-
-put-report-requires : tie.Need-put-report-requires
-put-report-requires c κs = search needs
+run-told-requires : tie.Need-run-told-requires
+run-told-requires c κs = search needs
 
 same-length : tie.Need-same-length
 same-length c = search needs
@@ -34,18 +29,17 @@ same-length-6 c = search needs
 
 returns : tie.Need-returns
 returns c =
-    let t = c .before .before .before .before in
-    let r = t .before .before .before .before .before .before .before .before .before in
-    let s = r .before .before .before .before .before .before .before .before .before .before .before .before .before .before in
-    (tells-run (s .fits .start) (s .fits .steps) (r .run .ensures .0) (t .told-part .ensures) (c .before .before .put-report .ensures), run-ranges flat-names _ _ (read-times (s .fits .start) (s .fits .steps) (r .run .ensures .0)))
+    let r = c .before .before .before .before .before .before .before .before .before .before .before in
+    let s = c .before .before .before .before .before .before .before .before .before .before .before .before .before .before .before .before .before .before .before .before .before .before .before .before .before .before .before in
+    let t = told-plain (told-on (s .fits .start) (s .fits .steps) (r .run-told .ensures .0)) in
+    (t, tells-ranges t)
 
 pub cellang-run-full-list-spec : {M : Type 1} → statement M
 cellang-run-full-list-spec =
     tie.close
     (tie.spec
-    run-requires
-    told-part-requires
-    put-report-requires
+    slice-aggregate-run-told
+    run-told-requires
     same-length
     same-length-2
     same-length-3
