@@ -1,5 +1,5 @@
 //! What is tried before a run or a writing: the lengths of the tables, the
-//! source, 20 to 24, and a run's list.
+//! source, 20 to 24, a run's counts, and its list.
 
 use crate::lists::{read_list, Block, Limits};
 use crate::names::MAX_NAMES;
@@ -22,7 +22,7 @@ pub struct Report {
     pub count: u64,
 }
 
-/// A refusal 1 to 24 or 40 to 45.
+/// A refusal 1 to 24, 40 to 45 or 61.
 #[derive(Clone, Copy, PartialEq, Eq, Debug)]
 pub struct Refusal {
     pub number: u32,
@@ -130,12 +130,43 @@ pub struct Lent<'a> {
     pub steps: i64,
 }
 
+/// What a run is asked to count: the zeros of a field, into so many counts.
+#[derive(Clone, Copy, PartialEq, Eq, Debug)]
+pub struct Counted {
+    pub field: u32,
+    pub counts: usize,
+}
+
+/// 61: no such field, or counts that are not one a row.
+fn admit_counts(program: &Program, shape: &[u32], counted: Counted) -> Result<(), Refusal> {
+    let rows = shape[0] as usize;
+    if counted.field as usize >= program.fields.len() || counted.counts != rows {
+        return Err(Refusal {
+            number: 61,
+            place: 0,
+        });
+    }
+    Ok(())
+}
+
 /// The program and the blocks of a run that is admitted, or its refusal.
 pub fn admit(
     lent: &Lent,
     grid: &[i32],
     scratch: &[i32],
     marks: &[u8],
+) -> Result<(Program, Vec<Block>), Report> {
+    admit_counted(lent, grid, scratch, marks, None)
+}
+
+/// The same of a run that is asked to count, or not: 61 stands behind 24 and
+/// before the list.
+pub fn admit_counted(
+    lent: &Lent,
+    grid: &[i32],
+    scratch: &[i32],
+    marks: &[u8],
+    counted: Option<Counted>,
 ) -> Result<(Program, Vec<Block>), Report> {
     let program = program_of(&Read {
         source: lent.source,
@@ -151,6 +182,9 @@ pub fn admit(
         steps: lent.steps,
     };
     admit_grid(&program, &asked)?;
+    if let Some(counted) = counted {
+        admit_counts(&program, lent.shape, counted)?;
+    }
     let limits = Limits {
         sizes: lent.shape,
         fields: &program.fields,

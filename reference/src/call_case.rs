@@ -13,14 +13,14 @@
 //! - the start time and the number of steps, eight bytes each;
 //! - the length of the value list, and the list;
 //! - the manner: 0 full, 1 quiet, 2 pausing, 3 resuming;
-//! - whether rows are counted, 0 or 1; the field's number; the number of counts
-//!   (three times 0 where nothing is lent for counting);
+//! - whether rows are counted, 0 or 1; the field's number; the number of counts;
 //! - the marks, one byte each, as many as their length says;
 //! - the counts, as many as their number says.
 //!
-//! The marks are lent in every manner, and are what stands there on entry. On
-//! entry scratch holds what it does in a run's case. Grid, scratch and marks
-//! have at most 4,100 entries each, as have the counts, the list 4,096 bytes.
+//! Marks and counts are lent in every manner, also where nothing is counted, and
+//! are what stands there on entry. On entry scratch holds what it does in a
+//! run's case. Grid, scratch, marks and counts have at most 4,100 entries each,
+//! the list at most 4,096 bytes.
 //!
 //! A case is answered by one line:
 //!
@@ -37,16 +37,20 @@ use crate::admission::Report;
 use crate::case::{began, put_asked, put_u32, report_text, row_text, scratch_on_entry, word};
 use crate::case::{marks_on_entry, RunCase};
 use crate::pausing::{run, Manner};
+use crate::rows::run_counted;
 
 /// No rooms of a case are longer.
 pub const MOST_ENTRIES: usize = 4_100;
 
-/// A run, its manner, and the marks that are lent.
+/// A run, its manner, the marks that are lent, and what it is to count.
 #[derive(Clone, Debug)]
 pub struct Call {
     pub run: RunCase,
     pub manner: Manner,
     pub marks: Vec<u8>,
+    pub counted: bool,
+    pub field: u32,
+    pub counts: Vec<u32>,
 }
 
 /// What a call left.
@@ -56,6 +60,7 @@ pub struct Left {
     pub grid: Vec<i32>,
     pub scratch: &'static str,
     pub marks: Vec<u8>,
+    pub counts: Vec<u32>,
 }
 
 impl Left {
@@ -75,7 +80,24 @@ impl Call {
             marks: marks.len(),
             ..run
         };
-        Call { run, manner, marks }
+        Call {
+            run,
+            manner,
+            marks,
+            counted: false,
+            field: 0,
+            counts: Vec::new(),
+        }
+    }
+
+    /// The same call, asked to count the zeros of a field.
+    pub fn counting(self, field: u32, counts: Vec<u32>) -> Call {
+        Call {
+            counted: true,
+            field,
+            counts,
+            ..self
+        }
     }
 
     /// A call that begins afresh; what stands in its marks is not read.
@@ -84,8 +106,8 @@ impl Call {
         Call::new(run, Manner::Pausing, marks)
     }
 
-    /// The call that resumes this one: source and shape are the same, grid and
-    /// marks as they are left, and the time has moved on by the steps.
+    /// The call that resumes this one: source and shape are the same, grid,
+    /// marks and counts as they are left, and the time has moved on by the steps.
     pub fn resumed(&self, left: &Left, steps: i64, list: &[u8]) -> Call {
         let run = RunCase {
             grid: left.grid.clone(),
@@ -93,7 +115,12 @@ impl Call {
             steps,
             ..self.run.clone()
         };
-        Call::new(run.with_list(list), Manner::Resuming, left.marks.clone())
+        Call {
+            counted: self.counted,
+            field: self.field,
+            counts: left.counts.clone(),
+            ..Call::new(run.with_list(list), Manner::Resuming, left.marks.clone())
+        }
     }
 
     /// The same run in another manner.
@@ -110,13 +137,21 @@ impl Call {
         let before = scratch_on_entry(self.run.scratch);
         let mut scratch = before.clone();
         let mut marks = self.marks.clone();
+        let mut counts = self.counts.clone();
         let lent = self.run.lent();
-        let report = run(&lent, self.manner, &mut grid, &mut scratch, &mut marks);
+        let rooms = (&mut grid[..], &mut scratch[..], &mut marks[..]);
+        let report = if self.counted {
+            let (field, counts) = (self.field, &mut counts[..]);
+            run_counted(&lent, self.manner, field, counts, rooms.0, rooms.1, rooms.2)
+        } else {
+            run(&lent, self.manner, rooms.0, rooms.1, rooms.2)
+        };
         Left {
             report,
             grid,
             scratch: word(&scratch, &before, began(report.number)),
             marks,
+            counts,
         }
     }
 }
@@ -130,7 +165,8 @@ pub fn call_line(left: &Left) -> String {
         .iter()
         .map(|mark| format!("{mark:02x}"))
         .collect();
-    format!("{report} {} :{grid} : {marks} :\n", left.scratch)
+    let counts = row_text(&left.counts);
+    format!("{report} {} :{grid} : {marks} :{counts}\n", left.scratch)
 }
 
 /// The binary form of a call.
@@ -138,8 +174,11 @@ pub fn put_call(out: &mut Vec<u8>, call: &Call) {
     put_u32(out, 2);
     put_asked(out, &call.run);
     put_u32(out, call.manner as u32);
-    for none in [0, 0, 0] {
-        put_u32(out, none);
-    }
+    put_u32(out, call.counted.into());
+    put_u32(out, call.field);
+    put_u32(out, call.counts.len() as u32);
     out.extend_from_slice(&call.marks);
+    for &count in &call.counts {
+        put_u32(out, count);
+    }
 }

@@ -56,7 +56,7 @@ pub fn calm(random: &mut Random, case: &mut RunCase, fields: usize) {
 }
 
 /// A run without a list.
-fn bare(random: &mut Random, small: bool) -> RunCase {
+pub fn bare(random: &mut Random, small: bool) -> RunCase {
     let mut case = if random.chance(35) {
         of_rule(random)
     } else {
@@ -87,6 +87,15 @@ fn behind_pause(random: &mut Random, case: RunCase) -> Call {
 /// A resumed run; in few cases a pausing one, which reads no marks.
 pub fn any(random: &mut Random, small: bool) -> Call {
     let case = bare(random, small);
+    let mut call = of_run(random, case);
+    if random.chance(10) {
+        call.manner = Manner::Pausing;
+    }
+    call
+}
+
+/// A run, resumed, with a list in half of the cases.
+pub fn of_run(random: &mut Random, case: RunCase) -> Call {
     let mut call = if (1..100).contains(&case.steps) && random.chance(50) {
         behind_pause(random, case)
     } else {
@@ -95,9 +104,6 @@ pub fn any(random: &mut Random, small: bool) -> Call {
     };
     if random.chance(50) {
         give_list(random, &mut call.run, 15);
-    }
-    if random.chance(10) {
-        call.manner = Manner::Pausing;
     }
     call
 }

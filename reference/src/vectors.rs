@@ -3,6 +3,7 @@
 use crate::call_case::{call_line, put_call, Call};
 use crate::case::{check_answer, put_check, put_run, run_lines, RunCase};
 use crate::chains::{self, Chain};
+use crate::counted::{self, Question};
 use crate::damage::{damage_bytes, damage_tokens, VOCABULARY};
 use crate::generate::{program, Wish};
 use crate::limits;
@@ -118,6 +119,18 @@ pub fn chains(seed: u64, count: usize, small: bool) -> impl Iterator<Item = Chai
 pub fn resumed(seed: u64, count: usize, small: bool) -> impl Iterator<Item = Call> {
     let mut random = Random::new(seed.wrapping_add(1 << 46));
     (0..count).map(move |_| resumed::any(&mut random, small))
+}
+
+/// Generated runs that count, in order.
+pub fn counted(seed: u64, count: usize, small: bool) -> impl Iterator<Item = Call> {
+    let mut random = Random::new(seed.wrapping_add(1 << 47));
+    (0..count).map(move |_| counted::any(&mut random, small))
+}
+
+/// Generated questions about counts, in order.
+pub fn questions(seed: u64, count: usize) -> impl Iterator<Item = Question> {
+    let mut random = Random::new(seed.wrapping_add(1 << 48));
+    (0..count).map(move |_| counted::question(&mut random))
 }
 
 /// Sources from the papers' own examples.

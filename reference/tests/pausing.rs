@@ -265,7 +265,7 @@ impl Front<'_> {
         let [start, steps] = [self.long(), self.long()];
         let values = self.counted_bytes();
         let manner = Manner::ALL[self.number() as usize];
-        assert_eq!([self.number(), self.number(), self.number()], [0, 0, 0]);
+        let [counted, field, length] = [self.number(), self.number(), self.number()];
         let run = RunCase {
             source,
             words,
@@ -278,7 +278,11 @@ impl Front<'_> {
             steps,
             values,
         };
-        Call::new(run, manner, self.bytes(marks))
+        let mut call = Call::new(run, manner, self.bytes(marks));
+        call.counted = counted == 1;
+        call.field = field;
+        call.counts = (0..length).map(|_| self.number()).collect();
+        call
     }
 }
 
@@ -286,6 +290,7 @@ impl Front<'_> {
 fn calls_are_read_back() {
     let mut calls = vectors::stored_calls();
     calls.extend(vectors::resumed(26, 2_000, false));
+    calls.extend(vectors::counted(27, 2_000, false));
     let mut bytes = Vec::new();
     for call in &calls {
         put_call(&mut bytes, call);
@@ -295,11 +300,16 @@ fn calls_are_read_back() {
         let again = front.call();
         assert_eq!(format!("{again:?}"), format!("{call:?}"));
         assert_eq!(again.made(), call.made());
-        let rooms = [call.run.grid.len(), call.run.scratch, call.marks.len()];
+        let rooms = [
+            call.run.grid.len(),
+            call.run.scratch,
+            call.marks.len(),
+            call.counts.len(),
+        ];
         assert!(rooms.iter().all(|&length| length <= MOST_ENTRIES));
         assert!(call.run.values.len() <= 4_096 && call.run.shape.len() <= 8);
         assert!(call.run.words <= 16_400 && call.run.names <= 1_024);
-        assert!(call_line(&call.made()).len() < 32_768);
+        assert!(call_line(&call.made()).len() < 65_536);
     }
     assert!(front.0.is_empty());
 }
