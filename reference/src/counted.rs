@@ -7,15 +7,16 @@ use crate::parse::check;
 use crate::pausing::Manner;
 use crate::random::Random;
 use crate::resumed::{bare, of_run};
-use crate::runs::entries;
+use crate::runs::{disturb, entries};
 use crate::tree::Program;
 
 /// Rules in which zeros come and go.
-const RULES: [&str; 12] = [
+const RULES: [&str; 13] = [
     "1 dimensions of 0..1 cell := [-1]",
     "1 dimensions of -2..2 cell := cell + 1 when cell < 2 := -2 otherwise",
     "1 dimensions of 0..2 cell := cell - 1",
     "2 dimensions of 0..1 cell := [0,1]",
+    "2 dimensions of 0..1 cell := [-2,1]",
     "2 dimensions of 0..2 cell := [1,0] when [1,0] > 0",
     "2 dimensions of 0..3 cell := 0 when [0,1] = 0 := cell otherwise",
     "2 dimensions of 0..9 cell := cell - 1 when time < 3 := 6 / cell otherwise",
@@ -61,38 +62,42 @@ fn counts(random: &mut Random, length: usize) -> Vec<u32> {
     (0..length).map(|_| any_count(random)).collect()
 }
 
-/// The field that is chosen; in few cases there is none of this number.
-fn field(random: &mut Random, program: Option<&Program>) -> u32 {
+/// The field that is chosen; one of `part` cases in 100 has none.
+fn field(random: &mut Random, program: Option<&Program>, part: usize) -> u32 {
     let fields = program.map_or(1, |program| program.fields.len());
-    match random.below(40) {
-        0 => fields as u32,
-        1 => *random.pick(&[8, 255, 256, 65_536, u32::MAX]),
-        _ => random.below(fields) as u32,
+    if random.chance(part) {
+        return *random.pick(&[fields as u32, fields as u32, 8, 256, u32::MAX]);
     }
+    random.below(fields) as u32
 }
 
-/// The number of counts; in few cases it is not that of the rows.
-fn length(random: &mut Random, case: &RunCase) -> usize {
+/// The number of counts; in `part` cases of 100 it is not that of the rows.
+fn length(random: &mut Random, case: &RunCase, part: usize) -> usize {
     let rows = case.shape.first().map_or(1, |&size| size as usize);
-    match random.below(40) {
-        0 => rows.saturating_sub(1),
-        1 => rows.saturating_add(1),
-        2 => *random.pick(&[0, case.marks, case.grid.len(), 4_096]),
-        _ => rows,
+    if random.chance(part) {
+        let other = [0, case.marks, case.grid.len(), rows.saturating_sub(1)];
+        return *random.pick(&[other, [rows + 1; 4]].concat());
     }
+    rows
 }
 
 /// A run that counts, in any manner; in few cases one that is lent counts and
 /// does not count.
 pub fn any(random: &mut Random, small: bool) -> Call {
-    let case = if random.chance(65) {
+    let mut case = if random.chance(65) {
         of_rule(random)
     } else {
         bare(random, small)
     };
     let program = check(&case.source).program;
-    let field = field(random, program.as_ref());
-    let length = length(random, &case);
+    // Where something else is wrong, the counts often are too.
+    let mut part = 5;
+    if random.chance(8) && !case.shape.is_empty() {
+        disturb(random, &mut case);
+        part = 25;
+    }
+    let field = field(random, program.as_ref(), part);
+    let length = length(random, &case, part);
     let mut call = of_run(random, case).counting(field, counts(random, length));
     call.counted = random.chance(92);
     call.manner = *random.pick(&Manner::ALL);

@@ -1,17 +1,15 @@
 //! How often generated cases show what they are generated for.
 
 use crate::call_case::{Call, Left};
-use crate::case::{began, run_case, RunCase};
+use crate::case::{began, row_text, run_case, RunCase};
 use crate::chains::Chain;
 use crate::lists::{before_time, times_of};
 use crate::parse::check;
 use crate::pausing::Manner;
 use crate::places::places;
+use crate::rows::row_counts;
 use crate::vectors;
 use crate::write_case::write_case;
-
-/// How many cases gave each number.
-type Numbers = [usize; 64];
 
 /// What was seen, in the order in which it is printed: how often, and whether
 /// it has to be seen or may not be.
@@ -139,7 +137,8 @@ fn see_joint(earlier: (&Call, &Left), later: &Call, fields: usize, seen: &mut Se
     );
 }
 
-fn see_chain(chain: &Chain, seen: &mut Seen) {
+/// Gives the numbers of the calls.
+fn see_chain(chain: &Chain, seen: &mut Seen) -> Vec<u32> {
     let program = check(&chain.whole.run.source).program.expect("accepted");
     let claimed = chain.claimed();
     let together = chain.together();
@@ -174,6 +173,8 @@ fn see_chain(chain: &Chain, seen: &mut Seen) {
             see_joint(earlier, later, program.fields.len(), seen);
         }
     }
+    let numbers = chain.left.iter().map(|left| left.report.number);
+    numbers.collect()
 }
 
 fn see_resumed(call: &Call, seen: &mut Seen) -> u32 {
@@ -228,58 +229,149 @@ fn see_resumed(call: &Call, seen: &mut Seen) -> u32 {
     number
 }
 
+/// A run that counts, asked to count or not.
+fn see_counted(call: &Call, seen: &mut Seen) -> u32 {
+    let left = call.made();
+    let number = left.report.number;
+    let mut bare = call.clone();
+    bare.counted = false;
+    if !call.counted {
+        seen.note(
+            "runs lent counts that they are not asked for",
+            !call.counts.is_empty() && left.began(),
+        );
+        return number;
+    }
+    let fields = check(&call.run.source)
+        .program
+        .map_or(0, |program| program.fields.len());
+    let rows = call.run.shape.first().map_or(0, |&size| size as usize);
+    let no_field = call.field as usize >= fields;
+    let no_rows = call.counts.len() != rows;
+    seen.note("20 to 24 where the counts are wrong too", {
+        (20..=24).contains(&number) && (no_field || no_rows)
+    });
+    if number == 61 {
+        let bad = bare.made().report.number;
+        seen.note("61 for the field alone", no_field && !no_rows);
+        seen.note("61 for the number of counts alone", no_rows && !no_field);
+        seen.note("61 where the list is refused too", (50..=56).contains(&bad));
+    }
+    if !left.began() {
+        return number;
+    }
+    let before = row_counts(&call.run.shape, fields, call.field as usize, &call.run.grid);
+    let moved = before != left.counts;
+    let [full, quiet, pausing, resuming] = [
+        "full runs whose counts moved",
+        "quiet runs whose counts moved",
+        "pausing runs whose counts moved",
+        "resumed runs whose counts moved",
+    ];
+    let title = match call.manner {
+        Manner::Full => full,
+        Manner::Quiet => quiet,
+        Manner::Pausing => pausing,
+        Manner::Resuming => resuming,
+    };
+    seen.note(title, moved);
+    let wide = call.run.shape[1..].iter().any(|&size| size > 1);
+    seen.note("counts moved in rows of more than one cell", moved && wide);
+    seen.note("counts moved of another field than the first", {
+        moved && call.field > 0
+    });
+    seen.note("counts moved by a block alone", {
+        moved && left.report.steps == 0
+    });
+    seen.note("counts moved before a fault", moved && left.faulted());
+    number
+}
+
+/// The cases of one kind: their numbers, and those that there have to be.
+struct Kind {
+    title: &'static str,
+    found: [usize; 64],
+    wanted: Vec<usize>,
+}
+
+impl Kind {
+    fn new(
+        title: &'static str,
+        numbers: impl Iterator<Item = u32>,
+        wanted: &[std::ops::RangeInclusive<usize>],
+    ) -> Kind {
+        let mut found = [0; 64];
+        for number in numbers {
+            found[number as usize] += 1;
+        }
+        let wanted = wanted.iter().cloned().flatten().collect();
+        Kind {
+            title,
+            found,
+            wanted,
+        }
+    }
+
+    fn missing(&self) -> impl Iterator<Item = usize> + '_ {
+        let wanted = self.wanted.iter().copied();
+        wanted.filter(|&number| self.found[number] == 0)
+    }
+}
+
+/// The cases of each kind that are generated for a count.
+fn kinds(seed: u64, count: usize, seen: &mut Seen) -> Vec<Kind> {
+    let checks = vectors::checks(seed, count, false);
+    let part = count / 10;
+    vec![
+        Kind::new(
+            "checks",
+            checks.map(|source| check(&source).reply.number),
+            &[0..=0, 2..=9, 12..=15, 40..=45],
+        ),
+        Kind::new(
+            "runs",
+            vectors::runs(seed, part, false).map(|case| see_run(&case, seen)),
+            &[0..=0, 20..=24, 30..=33, 50..=56],
+        ),
+        Kind::new(
+            "lists",
+            vectors::lists(seed, part, false).map(|case| see_run(&case, seen)),
+            &[0..=0, 30..=33, 50..=56],
+        ),
+        Kind::new(
+            "writings",
+            vectors::writings(seed, part).map(|case| write_case(&case).0.number),
+            &[0..=1, 20..=24, 57..=57],
+        ),
+        Kind::new(
+            "chains",
+            vectors::chains(seed, part, false).flat_map(|chain| see_chain(&chain, seen)),
+            &[0..=0, 30..=33],
+        ),
+        Kind::new(
+            "resumed",
+            vectors::resumed(seed, part, false).map(|call| see_resumed(&call, seen)),
+            &[0..=1, 20..=24, 30..=33, 50..=56],
+        ),
+        Kind::new(
+            "counted",
+            vectors::counted(seed, part, false).map(|call| see_counted(&call, seen)),
+            &[0..=1, 20..=24, 30..=33, 50..=56, 61..=61],
+        ),
+    ]
+}
+
 /// Counts generated cases of each kind by their numbers, and what is seen in
 /// them; the second result says whether nothing is missing.
 pub fn coverage(seed: u64, count: usize) -> (String, bool) {
-    let [mut checks, mut runs, mut lists, mut writings] = [[0; 64]; 4];
-    let [mut chains, mut resumed] = [[0; 64]; 2];
     let mut seen = Seen::default();
-    for source in vectors::checks(seed, count, false) {
-        checks[check(&source).reply.number as usize] += 1;
-    }
-    let part = count / 10;
-    for case in vectors::runs(seed, part, false) {
-        runs[see_run(&case, &mut seen) as usize] += 1;
-    }
-    for case in vectors::lists(seed, part, false) {
-        lists[see_run(&case, &mut seen) as usize] += 1;
-    }
-    for case in vectors::writings(seed, part) {
-        writings[write_case(&case).0.number as usize] += 1;
-    }
-    for chain in vectors::chains(seed, part, false) {
-        for left in &chain.left {
-            chains[left.report.number as usize] += 1;
-        }
-        see_chain(&chain, &mut seen);
-    }
-    for call in vectors::resumed(seed, part, false) {
-        resumed[see_resumed(&call, &mut seen) as usize] += 1;
-    }
-    let row = |parts: &[std::ops::RangeInclusive<usize>]| -> Vec<usize> {
-        parts.iter().cloned().flatten().collect()
-    };
-    let kinds: [(&str, &Numbers, Vec<usize>); 6] = [
-        ("checks", &checks, row(&[0..=0, 2..=9, 12..=15, 40..=45])),
-        ("runs", &runs, row(&[0..=0, 20..=24, 30..=33, 50..=56])),
-        ("lists", &lists, row(&[0..=0, 30..=33, 50..=56])),
-        ("writings", &writings, row(&[0..=1, 20..=24, 57..=57])),
-        ("chains", &chains, row(&[0..=0, 30..=33])),
-        (
-            "resumed",
-            &resumed,
-            row(&[0..=1, 20..=24, 30..=33, 50..=56]),
-        ),
-    ];
-    let titles: Vec<&str> = kinds.iter().map(|kind| kind.0).collect();
+    let kinds = kinds(seed, count, &mut seen);
+    let titles: Vec<&str> = kinds.iter().map(|kind| kind.title).collect();
     let mut text = format!("number {}\n", titles.join(" "));
     for number in 0..64 {
-        let each: Vec<String> = kinds
-            .iter()
-            .map(|kind| kind.1[number].to_string())
-            .collect();
-        if each.iter().any(|count| count != "0") {
-            text += &format!("{number} {}\n", each.join(" "));
+        if kinds.iter().any(|kind| kind.found[number] > 0) {
+            let each: Vec<usize> = kinds.iter().map(|kind| kind.found[number]).collect();
+            text += &format!("{number}{}\n", row_text(&each));
         }
     }
     let mut complete = true;
@@ -287,12 +379,10 @@ pub fn coverage(seed: u64, count: usize) -> (String, bool) {
         text += &format!("{what}: {count}\n");
         complete &= wanted == (count > 0);
     }
-    for (what, found, wanted) in kinds {
-        for number in wanted {
-            if found[number] == 0 {
-                text += &format!("never among {what}: {number}\n");
-                complete = false;
-            }
+    for kind in kinds {
+        for number in kind.missing() {
+            text += &format!("never among {}: {number}\n", kind.title);
+            complete = false;
         }
     }
     (text, complete)

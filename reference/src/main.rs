@@ -1,6 +1,6 @@
 //! The program: `reference SUBCOMMAND ...`; see `USAGE`.
 
-use reference::call_case::{call_line, put_call};
+use reference::call_case::{call_line, put_call, Call};
 use reference::case::{check_answer, check_line, put_check, put_run, run_case, run_lines, RunCase};
 use reference::coverage::coverage;
 use reference::write_case::{put_writing, writing_line};
@@ -15,14 +15,16 @@ usage: reference check                        one source on standard input
        reference answer                       sources on standard input, as in the vectors of checks
        reference run FILE                     one run, as JSON
        reference cases checks|runs|lists SEED COUNT [--small]
-       reference stream checks|runs|lists|writings|chains|resumed SEED COUNT [--small] [--replies]
+       reference stream checks|runs|lists|writings|chains|resumed|counted SEED COUNT [--small] [--replies]
        reference vectors DIR
        reference verify ROOT
        reference count SEED COUNT
 ";
 
 /// The kinds of cases that are streamed.
-const STREAMS: [&str; 6] = ["checks", "runs", "lists", "writings", "chains", "resumed"];
+const STREAMS: [&str; 7] = [
+    "checks", "runs", "lists", "writings", "chains", "resumed", "counted",
+];
 
 fn main() -> ExitCode {
     let mut words: Vec<String> = std::env::args().skip(1).collect();
@@ -147,6 +149,15 @@ fn runs_of(what: &str, seed: u64, count: usize, small: bool) -> Box<dyn Iterator
     }
 }
 
+/// Generated runs in a manner; those of `counted` are lent counts.
+fn calls_of(what: &str, seed: u64, count: usize, small: bool) -> Box<dyn Iterator<Item = Call>> {
+    if what == "counted" {
+        Box::new(vectors::counted(seed, count, small))
+    } else {
+        Box::new(vectors::resumed(seed, count, small))
+    }
+}
+
 fn cases(what: &str, seed: u64, count: usize, small: bool) -> io::Result<ExitCode> {
     let mut out = BufWriter::new(io::stdout().lock());
     if what == "checks" {
@@ -198,8 +209,8 @@ fn stream(what: &str, seed: u64, count: usize, small: bool, replies: bool) -> io
                 }
             }
         }
-        "resumed" => {
-            for call in vectors::resumed(seed, count, small) {
+        "resumed" | "counted" => {
+            for call in calls_of(what, seed, count, small) {
                 put(&|bytes| put_call(bytes, &call), &|| call_line(&call.made()))?;
             }
         }

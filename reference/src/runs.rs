@@ -117,7 +117,7 @@ pub fn entries(random: &mut Random, program: &Program, cells: usize) -> Vec<i32>
 }
 
 /// Makes one thing about a run wrong, or puts it at a limit.
-fn disturb(random: &mut Random, case: &mut RunCase) {
+pub fn disturb(random: &mut Random, case: &mut RunCase) {
     match random.below(16) {
         0 => {
             case.shape.push(1 + random.below(2) as u32);

@@ -18,6 +18,7 @@ use crate::write_case::{put_writing, writing_line, WriteCase};
 use crate::writings;
 use crate::written;
 use crate::written_calls;
+use crate::written_counts;
 use crate::written_lists;
 
 /// A generated source. In `small` ones there are at most about 120 tokens.
@@ -240,19 +241,31 @@ pub fn stored_writings() -> Vec<WriteCase> {
 /// The kinds of cases that are stored. A kind is stored once the proved program
 /// reads it: the files are written again by `reference vectors`.
 struct Stored {
-    /// Runs in a manner.
+    /// Runs that are paused and resumed.
     calls: bool,
+    /// Runs that count, which are of the same kind with counts lent.
+    counted: bool,
 }
 
-const STORED: Stored = Stored { calls: true };
+const STORED: Stored = Stored {
+    calls: true,
+    counted: false,
+};
 
-/// The stored runs in a manner.
+/// The stored runs that are paused and resumed.
 pub fn stored_calls() -> Vec<Call> {
     let mut row = written_calls::calls();
     for chain in chains(31, 22, true) {
         row.extend(chain.all().map(|(call, _)| call.clone()));
     }
     row.extend(resumed(32, 90, true));
+    row
+}
+
+/// The stored runs that count.
+pub fn stored_counted() -> Vec<Call> {
+    let mut row = written_counts::calls();
+    row.extend(counted(33, 80, true));
     row
 }
 
@@ -272,11 +285,13 @@ pub fn files() -> Files {
     let checks = stored_checks();
     let runs = stored_runs();
     let writings = stored_writings();
-    let calls = if STORED.calls {
-        stored_calls()
-    } else {
-        Vec::new()
-    };
+    let mut calls = Vec::new();
+    if STORED.calls {
+        calls.extend(stored_calls());
+    }
+    if STORED.counted {
+        calls.extend(stored_counted());
+    }
     let mut files = Files {
         check_in: Vec::new(),
         check_out: Vec::new(),

@@ -289,6 +289,7 @@ impl Front<'_> {
 #[test]
 fn calls_are_read_back() {
     let mut calls = vectors::stored_calls();
+    calls.extend(vectors::stored_counted());
     calls.extend(vectors::resumed(26, 2_000, false));
     calls.extend(vectors::counted(27, 2_000, false));
     let mut bytes = Vec::new();
