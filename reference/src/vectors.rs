@@ -249,7 +249,7 @@ struct Stored {
 
 const STORED: Stored = Stored {
     calls: true,
-    counted: false,
+    counted: true,
 };
 
 /// The stored runs that are paused and resumed.
