@@ -1,6 +1,6 @@
 // Reading what runs and writings begin with. The rooms hold a little more than a case may use, so that lengths that are wrong come in too; a case that
 // is cut short, or that does not fit, ends the answers.
-use crate::bytes::load_sizes;
+use crate::bytes::load_numbers;
 use crate::bytes::read_part;
 use crate::bytes::word_at;
 use crate::runs::answer_grid;
@@ -35,7 +35,7 @@ fn answer_sizes(kind: u32, source: &[u8], words: u32, names: u32, count: u32) ->
     }
     let mut room = [0u32; 8];
     let sizes: &mut [u32] = &mut room[..n];
-    load_sizes(&bytes, sizes);
+    load_numbers(&bytes, sizes);
     let length = word_at(&bytes, 4 * n);
     answer_kind(kind, source, words, names, sizes, length)
 }

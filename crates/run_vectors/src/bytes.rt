@@ -61,10 +61,10 @@ pub fn long_at(bytes: &[u8], at: usize) -> i64 {
 }
 
 // Fills a room with the numbers that the bytes begin with.
-pub fn load_sizes(bytes: &[u8], sizes: &mut [u32]) {
+pub fn load_numbers(bytes: &[u8], numbers: &mut [u32]) {
     let mut i: usize = 0;
-    while i < sizes.len() {
-        sizes[i] = word_at(bytes, 4 * i);
+    while i < numbers.len() {
+        numbers[i] = word_at(bytes, 4 * i);
         i += 1;
     }
 }

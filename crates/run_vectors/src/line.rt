@@ -25,6 +25,23 @@ fn put_values(line: &mut [u8], at: usize, values: &[i32]) -> usize {
     end
 }
 
+// Puts a space and a number.
+fn put_count(line: &mut [u8], at: usize, n: u32) -> usize {
+    let behind = put_byte(line, at, b' ');
+    put_number(line, behind, n as u64)
+}
+
+// Puts counts, each behind a space.
+fn put_counts(line: &mut [u8], at: usize, counts: &[u32]) -> usize {
+    let mut end = at;
+    let mut i: usize = 0;
+    while i < counts.len() {
+        end = put_count(line, end, counts[i]);
+        i += 1;
+    }
+    end
+}
+
 // Puts what became of a room, and a space.
 fn put_left(line: &mut [u8], at: usize, left: Left) -> usize {
     match left {
@@ -97,8 +114,17 @@ pub fn write_run(report: Report, scratch: Left, marks: Left, grid: &[i32]) -> bo
     write_front(line, f)
 }
 
-// Writes the line of a run in a manner to standard output, and says whether it could.
-pub fn write_call(report: Report, scratch: Left, grid: &[i32], marks: &[u8]) -> bool {
+// Writes counts, and the end of the line, to standard output, and says whether it could.
+fn write_counts(counts: &[u32]) -> bool {
+    let mut room = io::large_buffer();
+    let line: &mut [u8] = &mut room;
+    let a = put_counts(line, 0, counts);
+    let b = put_byte(line, a, b'\n');
+    write_front(line, b)
+}
+
+// Writes the line of a run in a manner, up to its counts, to standard output, and says whether it could.
+fn write_uncounted(report: Report, scratch: Left, grid: &[i32], marks: &[u8]) -> bool {
     let mut room = io::large_buffer();
     let line: &mut [u8] = &mut room;
     let a = put_report(line, report);
@@ -107,8 +133,20 @@ pub fn write_call(report: Report, scratch: Left, grid: &[i32], marks: &[u8]) -> 
     let d = put_values(line, c, grid);
     let e = put_text(line, d, b" : ");
     let f = put_bytes(line, e, marks);
-    let g = put_text(line, f, b" :\n");
+    let g = put_text(line, f, b" :");
     write_front(line, g)
+}
+
+// Writes the line of a run in a manner to standard output, and says whether it could. It has two parts, each in a room of its own: 4,100 entries,
+// marks and counts fit so, whatever they are.
+pub fn write_call(
+    report: Report,
+    scratch: Left,
+    grid: &[i32],
+    marks: &[u8],
+    counts: &[u32],
+) -> bool {
+    write_uncounted(report, scratch, grid, marks) && write_counts(counts)
 }
 
 // Writes the line of a writing to standard output, and says whether it could.

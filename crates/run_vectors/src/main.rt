@@ -4,14 +4,13 @@
 // A case is written so, every number with its lowest byte first: 0 for a run, 1 for a writing, 2 for a run in a manner; the length of the source and
 // the source; the lengths of the word table, in words, and of the name list, in records; the number of sizes and the sizes. Then a run has the length
 // of the grid and its entries; the lengths of scratch and marks; the start time and the number of steps; the length of the value list and the list. A
-// run in a manner has the same, and a tail: the manner, 0 full, 1 quiet, 2 pausing, 3 resuming; three numbers for counts of rows, of which the first
-// and the last have to be 0, so that nothing is counted and no counts are lent; the marks, one byte each. A writing has the length of the earlier grid
-// and its entries; the later grid likewise; the time; the length of the room. The times and the number of steps have eight bytes, all other numbers
-// four.
+// run in a manner has the same, and a tail: the manner, 0 full, 1 quiet, 2 pausing, 3 resuming; whether rows are counted, 0 or 1; the number of the
+// field; the number of counts; the marks, one byte each; the counts. A writing has the length of the earlier grid and its entries; the later grid
+// likewise; the time; the length of the room. The times and the number of steps have eight bytes, all other numbers four.
 //
 // The line of a run has the report, what became of scratch and marks, and the grid: `number place line cell steps count SCRATCH MARKS : g0 g1 ..`.
-// The line of a run in a manner has the marks themselves, in hexadecimal digits, two for each, and a colon in front of the counts that there are not:
-// `number place line cell steps count SCRATCH : g0 g1 .. : m0m1.. :`.
+// The line of a run in a manner has the marks themselves, in hexadecimal digits, two for each, and the counts, also where nothing is counted:
+// `number place line cell steps count SCRATCH : g0 g1 .. : m0m1.. : c0 c1 ..`.
 // The line of a writing has what was returned, and the room's bytes in hexadecimal digits: `number place length : b0b1..`.
 
 mod answer;

@@ -18,6 +18,9 @@ fn answer_both(
     let full = Way {
         manner: Manner::Full,
         lent: false,
+        counted: false,
+        field: 0,
+        rows: 0,
     };
     if !answer_way(full, source, words, names, sizes, bytes, length, values) {
         return false;
@@ -25,6 +28,9 @@ fn answer_both(
     let quiet = Way {
         manner: Manner::Quiet,
         lent: false,
+        counted: false,
+        field: 0,
+        rows: 0,
     };
     answer_way(quiet, source, words, names, sizes, bytes, length, values)
 }
@@ -39,7 +45,7 @@ fn manner_of(number: u32) -> Manner {
     }
 }
 
-// Reads the tail of a run in a manner, up to its marks, and runs the source so. A case that has rows counted, or that lends counts, ends the answers.
+// Reads the tail of a run in a manner, up to its marks, and runs the source so.
 fn answer_call(
     source: &[u8],
     words: u32,
@@ -54,12 +60,16 @@ fn answer_call(
         return false;
     }
     let manner = word_at(&tail, 0);
-    if manner > 3 || word_at(&tail, 4) != 0 || word_at(&tail, 12) != 0 {
+    let counted = word_at(&tail, 4);
+    if manner > 3 || counted > 1 {
         return false;
     }
     let way = Way {
         manner: manner_of(manner),
         lent: true,
+        counted: counted == 1,
+        field: word_at(&tail, 8),
+        rows: word_at(&tail, 12),
     };
     answer_way(way, source, words, names, sizes, bytes, length, values)
 }

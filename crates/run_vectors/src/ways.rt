@@ -1,4 +1,5 @@
 // A run in one way, in the rooms that it needs, and its line.
+use crate::bytes::load_numbers;
 use crate::bytes::load_values;
 use crate::bytes::long_at;
 use crate::bytes::read_part;
@@ -12,10 +13,14 @@ use crate::rooms::left_of_scratch;
 use iteration::Manner;
 use iteration::Report;
 
-// The way of a run: its manner, and whether the marks on entry are the next bytes of the case. Where they are, the line has the marks that are left.
+// The way of a run: its manner, and whether the marks on entry are the next bytes of the case. Where they are, the line has the marks and the counts
+// that are left. Then, whether rows are counted, of which field, and how many counts stand behind the marks.
 pub struct Way {
     pub manner: Manner,
     pub lent: bool,
+    pub counted: bool,
+    pub field: u32,
+    pub rows: u32,
 }
 
 // Whether the run that a reply is of began.
@@ -36,6 +41,9 @@ fn run_source(
     values: &[u8],
     start: i64,
     steps: i64,
+    counts: &mut [u32],
+    counted: bool,
+    field: u32,
 ) -> Report {
     let list = spelling::BUILT_IN;
     runner::run(
@@ -51,6 +59,9 @@ fn run_source(
         start,
         steps,
         manner,
+        counts,
+        counted,
+        field,
     )
 }
 
@@ -67,12 +78,39 @@ fn enter_marks(lent: bool, marks: &mut [u8]) -> bool {
     read_part(marks, n)
 }
 
+// Makes the counts what they are on entry, the next bytes of the case, and says whether it could.
+fn enter_counts(counts: &mut [u32]) -> bool {
+    let n = counts.len();
+    if 4100 < n {
+        return false;
+    }
+    let mut bytes = [0u8; 16400];
+    if !read_part(&mut bytes, 4 * n) {
+        return false;
+    }
+    load_numbers(&bytes, counts);
+    true
+}
+
+// Makes scratch, marks and counts what they are on entry, and says whether it could.
+fn enter_rooms(lent: bool, scratch: &mut [i32], marks: &mut [u8], counts: &mut [u32]) -> bool {
+    fill_scratch(scratch);
+    enter_marks(lent, marks) && enter_counts(counts)
+}
+
 // Writes the line of a run that left the rooms so.
-fn write_left(lent: bool, report: Report, scratch: &[i32], marks: &[u8], grid: &[i32]) -> bool {
+fn write_left(
+    lent: bool,
+    report: Report,
+    scratch: &[i32],
+    marks: &[u8],
+    grid: &[i32],
+    counts: &[u32],
+) -> bool {
     let begun = began(report.number);
     let cleared = left_of_scratch(scratch, begun);
     if lent {
-        return write_call(report, cleared, grid, marks);
+        return write_call(report, cleared, grid, marks, counts);
     }
     write_run(report, cleared, left_of_marks(marks, begun), grid)
 }
@@ -90,9 +128,9 @@ fn answer_run(
     values: &[u8],
     start: i64,
     steps: i64,
+    counts: &mut [u32],
 ) -> bool {
-    fill_scratch(scratch);
-    if !enter_marks(way.lent, marks) {
+    if !enter_rooms(way.lent, scratch, marks, counts) {
         return false;
     }
     let manner = way.manner;
@@ -108,8 +146,46 @@ fn answer_run(
         values,
         start,
         steps,
+        counts,
+        way.counted,
+        way.field,
     );
-    write_left(way.lent, report, scratch, marks, grid)
+    write_left(way.lent, report, scratch, marks, grid, counts)
+}
+
+// Makes the counts.
+fn answer_rows(
+    way: Way,
+    source: &[u8],
+    words: &mut [u32],
+    names: &mut [u32],
+    sizes: &[u32],
+    grid: &mut [i32],
+    scratch: &mut [i32],
+    marks: &mut [u8],
+    values: &[u8],
+    start: i64,
+    steps: i64,
+) -> bool {
+    if 4100 < way.rows {
+        return false;
+    }
+    let mut room = [0u32; 4100];
+    let n = way.rows as usize;
+    answer_run(
+        way,
+        source,
+        words,
+        names,
+        sizes,
+        grid,
+        scratch,
+        marks,
+        values,
+        start,
+        steps,
+        &mut room[..n],
+    )
 }
 
 // Makes the word table and the name list.
@@ -136,7 +212,7 @@ fn answer_tables(
     let mut name_room = [0u32; 4096];
     let w = words as usize;
     let n = 4 * (names as usize);
-    answer_run(
+    answer_rows(
         way,
         source,
         &mut word_room[..w],

@@ -29,11 +29,11 @@ array-borrow-prefix-room c = search needs
 slice-aggregate-sizes : tie.Need-slice-aggregate-sizes
 slice-aggregate-sizes c = sym (length-take-le _ _ (omega arith))
 
-slice-aggregate-load-sizes : tie.Need-slice-aggregate-load-sizes
-slice-aggregate-load-sizes c = search needs
+slice-aggregate-load-numbers : tie.Need-slice-aggregate-load-numbers
+slice-aggregate-load-numbers c = search needs
 
-load-sizes-requires : tie.Need-load-sizes-requires
-load-sizes-requires c κs = search needs
+load-numbers-requires : tie.Need-load-numbers-requires
+load-numbers-requires c κs = search needs
 
 slice-aggregate-word-at : tie.Need-slice-aggregate-word-at
 slice-aggregate-word-at c = search needs
@@ -62,8 +62,8 @@ answer-sizes-spec =
     returns-2
     array-borrow-prefix-room
     slice-aggregate-sizes
-    slice-aggregate-load-sizes
-    load-sizes-requires
+    slice-aggregate-load-numbers
+    load-numbers-requires
     slice-aggregate-word-at
     mul-word-at
     word-at-requires

@@ -17,17 +17,17 @@ mul-n c = search needs
 array-borrow-prefix-word-room : tie.Need-array-borrow-prefix-word-room
 array-borrow-prefix-word-room c = search needs
 
-slice-aggregate-answer-run : tie.Need-slice-aggregate-answer-run
-slice-aggregate-answer-run c = sym (length-take-le _ _ (omega arith))
+slice-aggregate-answer-rows : tie.Need-slice-aggregate-answer-rows
+slice-aggregate-answer-rows c = sym (length-take-le _ _ (omega arith))
 
 array-borrow-prefix-name-room : tie.Need-array-borrow-prefix-name-room
 array-borrow-prefix-name-room c = search needs
 
-slice-aggregate-answer-run-2 : tie.Need-slice-aggregate-answer-run-2
-slice-aggregate-answer-run-2 c = sym (length-take-le _ _ (omega arith))
+slice-aggregate-answer-rows-2 : tie.Need-slice-aggregate-answer-rows-2
+slice-aggregate-answer-rows-2 c = sym (length-take-le _ _ (omega arith))
 
-answer-run-requires : tie.Need-answer-run-requires
-answer-run-requires c κs = search needs
+answer-rows-requires : tie.Need-answer-rows-requires
+answer-rows-requires c κs = search needs
 
 same-length : tie.Need-same-length
 same-length c = search needs
@@ -49,10 +49,10 @@ answer-tables-spec =
     returns-2
     mul-n
     array-borrow-prefix-word-room
-    slice-aggregate-answer-run
+    slice-aggregate-answer-rows
     array-borrow-prefix-name-room
-    slice-aggregate-answer-run-2
-    answer-run-requires
+    slice-aggregate-answer-rows-2
+    answer-rows-requires
     same-length
     same-length-2
     same-length-3

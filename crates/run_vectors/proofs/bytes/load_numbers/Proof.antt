@@ -3,14 +3,14 @@ use borrow.Author.Needs.{needs}
 use lib.ListN.{length, length-set}
 use mathlib.Core.Path.{_≡_, refl}
 use native.Mathlib.Omega.{arith}
-use Rattle.run_vectors.proofs.bytes.load_sizes.Statement.{statement}
-use Rattle.run_vectors.proofs.bytes.load_sizes.Tie as tie
+use Rattle.run_vectors.proofs.bytes.load_numbers.Statement.{statement}
+use Rattle.run_vectors.proofs.bytes.load_numbers.Tie as tie
 
 abbrev Inv-loop : tie.InvT-loop
-Inv-loop bytes sizes₀ i₀ sizes i = (i ≤ length sizes) × (length sizes ≡ length sizes₀)
+Inv-loop bytes numbers₀ i₀ numbers i = (i ≤ length numbers) × (length numbers ≡ length numbers₀)
 
 abbrev μ-loop : tie.MeasureT-loop
-μ-loop bytes sizes₀ i₀ sizes i = length sizes - i
+μ-loop bytes numbers₀ i₀ numbers i = length numbers - i
 
 loop-holds : tie.Need-loop-holds Inv-loop μ-loop
 loop-holds c = (omega arith, refl)
@@ -21,11 +21,11 @@ mul-word-at c = search needs
 word-at-requires : tie.Need-word-at-requires Inv-loop μ-loop
 word-at-requires c κs = tt
 
-mul-sizes : tie.Need-mul-sizes Inv-loop μ-loop
-mul-sizes c = search needs
+mul-numbers : tie.Need-mul-numbers Inv-loop μ-loop
+mul-numbers c = search needs
 
-slice-write-sizes : tie.Need-slice-write-sizes Inv-loop μ-loop
-slice-write-sizes c = search needs
+slice-write-numbers : tie.Need-slice-write-numbers Inv-loop μ-loop
+slice-write-numbers c = search needs
 
 add-i : tie.Need-add-i Inv-loop μ-loop
 add-i c = search needs
@@ -42,8 +42,8 @@ same-length c = search needs
 returns : tie.Need-returns Inv-loop μ-loop
 returns c = tt
 
-pub load-sizes-spec : {M : Type 1} → statement M
-load-sizes-spec =
+pub load-numbers-spec : {M : Type 1} → statement M
+load-numbers-spec =
     tie.close
     (tie.spec
     Inv-loop
@@ -51,8 +51,8 @@ load-sizes-spec =
     loop-holds
     mul-word-at
     word-at-requires
-    mul-sizes
-    slice-write-sizes
+    mul-numbers
+    slice-write-numbers
     add-i
     loop-less
     loop-again

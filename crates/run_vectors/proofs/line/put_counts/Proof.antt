@@ -1,0 +1,56 @@
+use Prim.Native.Nat.{_-_, _≤_}
+use borrow.Author.Needs.{needs}
+use lib.ListN.{length}
+use mathlib.Core.Path.{_≡_, refl}
+use native.Mathlib.Omega.{arith}
+use Rattle.run_vectors.proofs.line.put_counts.Statement.{statement}
+use Rattle.run_vectors.proofs.line.put_counts.Tie as tie
+
+abbrev Inv-loop : tie.InvT-loop
+Inv-loop line₀ at counts end₀ i₀ line end i = (i ≤ length counts) × (length line ≡ length line₀)
+
+abbrev μ-loop : tie.MeasureT-loop
+μ-loop line₀ at counts end₀ i₀ line end i = length counts - i
+
+loop-holds : tie.Need-loop-holds Inv-loop μ-loop
+loop-holds c = (omega arith, refl)
+
+mul-put-count : tie.Need-mul-put-count Inv-loop μ-loop
+mul-put-count c = search needs
+
+shared-slice-read-put-count : tie.Need-shared-slice-read-put-count Inv-loop μ-loop
+shared-slice-read-put-count c = search needs
+
+put-count-requires : tie.Need-put-count-requires Inv-loop μ-loop
+put-count-requires c κs = tt
+
+add-i : tie.Need-add-i Inv-loop μ-loop
+add-i c = search needs
+
+loop-less : tie.Need-loop-less Inv-loop μ-loop
+loop-less c = search needs
+
+loop-again : tie.Need-loop-again Inv-loop μ-loop
+loop-again c = search needs
+
+same-length : tie.Need-same-length Inv-loop μ-loop
+same-length c = search needs
+
+returns : tie.Need-returns Inv-loop μ-loop
+returns c = tt
+
+pub put-counts-spec : {M : Type 1} → statement M
+put-counts-spec =
+    tie.close
+    (tie.spec
+    Inv-loop
+    μ-loop
+    loop-holds
+    mul-put-count
+    shared-slice-read-put-count
+    put-count-requires
+    add-i
+    loop-less
+    loop-again
+    same-length
+    returns)
