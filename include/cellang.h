@@ -1,8 +1,8 @@
 /*
- * Checking and running correction rules written in Cellang, setting and writing values by timed lists, pausing and resuming runs, and
- * comparing grids.
+ * Checking and running correction rules written in Cellang, setting and writing values by timed lists, pausing and resuming runs,
+ * counting the zeros of rows, and comparing grids.
  *
- * Link libcellang.a (x86-64 Linux). It needs memset and nothing else, allocates nothing and keeps
+ * Link libcellang.a (x86-64 Linux). It needs memset and memcpy and nothing else, allocates nothing and keeps
  * nothing between calls; calls on different memory may run at the same time. A run takes about
  * 200 KB of stack.
  *
@@ -66,7 +66,8 @@ enum cellang_kind {
 
 /*
  * What a call gives back. 1, then 2, are tried before any token; then the smallest place wins, then
- * the lowest number, where 40 to 45 stand between 9 and 12. 20 to 24 are tried in this order once the source is accepted, and then 50 to 56
+ * the lowest number, where 40 to 45 stand between 9 and 12. 20 to 24 are tried in this order once the source is accepted, then 61
+ * in a run with row counts, and then 50 to 56
  * on the lines of a value list: the lowest line wins, then the lowest number. "At" says which
  * byte of the source the place names, where the end of the source stands at its length; where
  * nothing is said the place is 0.
@@ -124,7 +125,12 @@ enum cellang_reply {
     CELLANG_LIST_TIME_PAST_END = 56,      /* a time above start plus steps */
 
     /* the source and both grids are accepted, but the writer writes nothing */
-    CELLANG_ROOM_TOO_SHORT = 57 /* the room is shorter than the text */
+    CELLANG_ROOM_TOO_SHORT = 57, /* the room is shorter than the text */
+
+    /* row counts: 61 in a run or in a question, 62 in a question */
+    CELLANG_BAD_COUNTS = 61, /* in a run no such field, or counts not one a row; in a question reversed rows, rows outside the counts, or
+                                counts that are not one a row of any grid */
+    CELLANG_NO_ZERO_ROW = 62 /* no row has a zero */
 };
 
 /*
@@ -135,12 +141,14 @@ enum cellang_reply {
  *   3 to 15   zero                    as it was                 as they were
  *   40 to 45  zero                    as it was                 as they were
  *   20 to 24  the program, then zero  as it was                 as they were
+ *   61        the program, then zero  as it was                 as they were
  *   50 to 56  the program, then zero  as it was                 as they were
  *   30 to 33  the program, then zero  after the steps done      zero
  *   0         the program, then zero  after all steps           zero, even after 0 steps
  *
  * In a run with a value list the block of the faulting step's time is set too (30 to 33), or that of the time behind the last step (0).
  * cellang_run_pausing and cellang_run_resuming leave the same but for the marks at 0, which stand (see there).
+ * Row counts are as they were after a refusal, and else those of the grid that is left (see there).
  * The writer leaves words and names as a run does; at 57 they hold the program.
  */
 
@@ -333,6 +341,107 @@ uint32_t cellang_run_resuming(
     const uint8_t *values, size_t values_length,
     int64_t start, int64_t steps,
     uint64_t *report, size_t report_length);
+
+/* ---- row counts */
+
+/*
+ * A run can keep, beside the grid, how many cells of each row have 0 in one field. The rows are those of the first dimension; where there is
+ * one dimension, each cell is a row. counts has one entry a row, in order, and field is the field's number, from 0, as the name list has it.
+ *
+ * The four functions are cellang_run_full_list, cellang_run_quiet_list, cellang_run_pausing and cellang_run_resuming with these two
+ * arguments more. Report, grid, scratch and marks are the same, but that there is one refusal more: 61, with place 0, if there is no such field
+ * or counts is not one entry a row. It is tried after 24 and before the value list.
+ *
+ * What counts holds on entry does not matter, also where a run is resumed: it is filled from the grid when the run is admitted. After 0
+ * and 30 to 33 it holds the counts of the grid that is left: after all steps and blocks, and at a fault after the steps done, with the block
+ * of the faulting step's time set. After every other reply it is as it was. A count is at most CELLANG_MOST_CELLS.
+ */
+uint32_t cellang_run_full_counts(
+    const uint8_t *source, size_t source_length,
+    const uint8_t *list, size_t list_length,
+    uint32_t *words, size_t words_length,
+    uint32_t *names, size_t names_length,
+    const uint32_t *shape, size_t shape_length,
+    int32_t *grid, size_t grid_length,
+    int32_t *scratch, size_t scratch_length,
+    uint8_t *marks, size_t marks_length,
+    const uint8_t *values, size_t values_length,
+    int64_t start, int64_t steps,
+    uint32_t *counts, size_t counts_length,
+    uint32_t field,
+    uint64_t *report, size_t report_length);
+
+uint32_t cellang_run_quiet_counts(
+    const uint8_t *source, size_t source_length,
+    const uint8_t *list, size_t list_length,
+    uint32_t *words, size_t words_length,
+    uint32_t *names, size_t names_length,
+    const uint32_t *shape, size_t shape_length,
+    int32_t *grid, size_t grid_length,
+    int32_t *scratch, size_t scratch_length,
+    uint8_t *marks, size_t marks_length,
+    const uint8_t *values, size_t values_length,
+    int64_t start, int64_t steps,
+    uint32_t *counts, size_t counts_length,
+    uint32_t field,
+    uint64_t *report, size_t report_length);
+
+uint32_t cellang_run_pausing_counts(
+    const uint8_t *source, size_t source_length,
+    const uint8_t *list, size_t list_length,
+    uint32_t *words, size_t words_length,
+    uint32_t *names, size_t names_length,
+    const uint32_t *shape, size_t shape_length,
+    int32_t *grid, size_t grid_length,
+    int32_t *scratch, size_t scratch_length,
+    uint8_t *marks, size_t marks_length,
+    const uint8_t *values, size_t values_length,
+    int64_t start, int64_t steps,
+    uint32_t *counts, size_t counts_length,
+    uint32_t field,
+    uint64_t *report, size_t report_length);
+
+uint32_t cellang_run_resuming_counts(
+    const uint8_t *source, size_t source_length,
+    const uint8_t *list, size_t list_length,
+    uint32_t *words, size_t words_length,
+    uint32_t *names, size_t names_length,
+    const uint32_t *shape, size_t shape_length,
+    int32_t *grid, size_t grid_length,
+    int32_t *scratch, size_t scratch_length,
+    uint8_t *marks, size_t marks_length,
+    const uint8_t *values, size_t values_length,
+    int64_t start, int64_t steps,
+    uint32_t *counts, size_t counts_length,
+    uint32_t field,
+    uint64_t *report, size_t report_length);
+
+/* The entries that answer a question about row counts. Where fewer are lent, the first ones are told; any others stay. */
+enum cellang_rows_entry {
+    CELLANG_ROWS_NUMBER = 0, /* the reply's number */
+    CELLANG_ROWS_VALUE = 1,  /* how many, or the row, at 0; else 0 */
+    CELLANG_ROWS_LENGTH = 2  /* entries in all */
+};
+
+/*
+ * Two questions, answered from row counts alone, without a source or a grid. The answers are what looking through the whole grid gives, if
+ * counts is as a run left it and nothing else wrote the grid or counts since.
+ *
+ * cellang_zeros_in_rows: how many cells of the rows first to last, both included, have 0 in the field. Gives 0, or 61 if last is below first
+ * or is no row of counts.
+ *
+ * cellang_first_zero_row: the first row that has such a cell. Gives 0, or 62 if no row has one.
+ *
+ * Both give 61 if counts has 0 or more than CELLANG_MOST_SIZE entries.
+ */
+uint32_t cellang_zeros_in_rows(
+    const uint32_t *counts, size_t counts_length,
+    uint32_t first, uint32_t last,
+    uint64_t *reply, size_t reply_length);
+
+uint32_t cellang_first_zero_row(
+    const uint32_t *counts, size_t counts_length,
+    uint64_t *reply, size_t reply_length);
 
 /* ---- writing a value list */
 

@@ -244,11 +244,17 @@ fn opened_by_one_change() -> u64 {
     done.count - CELLS as u64
 }
 
-fn quiet(times: usize) {
-    let mut glider = vec![0; CELLS];
+/// A grid with one glider.
+fn glider() -> Vec<i32> {
+    let mut grid = vec![0; CELLS];
     for (row, column) in [(0, 1), (1, 2), (2, 0), (2, 1), (2, 2)] {
-        glider[(500 + row) * SIDE + 500 + column] = 1;
+        grid[(500 + row) * SIDE + 500 + column] = 1;
     }
+    grid
+}
+
+fn quiet(times: usize) {
+    let glider = glider();
     let random = rules().swap_remove(0).grid;
     println!("quiet run, milliseconds a step");
     println!("| grid | quiet | full | ratio |");
@@ -421,7 +427,66 @@ fn lists(times: usize) {
     }
 }
 
-/// `bench [TIMES [full|quiet|growth|lists]]`: the best of so many runs counts.
+/// A run of the proved library that keeps row counts; they are held to the grid that is left.
+fn run_counting(mode: Mode, source: &str, grid: &[i32], steps: i64) -> Vec<i32> {
+    let mut rooms = Rooms::new(CELLS, 1);
+    let mut left = grid.to_vec();
+    let mut row_counts = vec![0; SIDE];
+    proved::run_counting(
+        mode,
+        source,
+        &SIZES,
+        &mut left,
+        &mut rooms,
+        &mut row_counts,
+        steps,
+    );
+    let zeros = |row: &[i32]| row.iter().filter(|&&entry| entry == 0).count() as u32;
+    let expected: Vec<u32> = left.chunks(SIDE).map(zeros).collect();
+    assert!(row_counts == expected, "the row counts differ");
+    left
+}
+
+/// What row counts cost in a step, by the difference of two runs with different numbers of steps.
+fn counts(times: usize) {
+    let (glider, random) = (glider(), rules().swap_remove(0).grid);
+    println!("row counts, milliseconds a step");
+    println!("| grid | without | with counts | ratio |");
+    println!("|---|---|---|---|");
+    let table = [
+        ("quiet, Life, one glider", Mode::Quiet, LIFE, &glider, 1_001),
+        ("quiet, Life, half filled", Mode::Quiet, LIFE, &random, 21),
+        ("quiet, every cell changes", Mode::Quiet, FLIP, &random, 11),
+        ("full, Life, half filled", Mode::Full, LIFE, &random, 11),
+    ];
+    for (name, mode, source, grid, many) in table {
+        assert!(
+            run_counting(mode, source, grid, 11) == run_proved(mode, source, grid, 1, 11),
+            "{name}: the run with counts differs"
+        );
+        let run = |steps| drop(run_proved(mode, source, grid, 1, steps));
+        let counting = |steps| drop(run_counting(mode, source, grid, steps));
+        let each = best_each(
+            times,
+            [
+                &mut || run(1),
+                &mut || run(many),
+                &mut || counting(1),
+                &mut || counting(many),
+            ],
+        );
+        let without = (each[1] - each[0]) / (many - 1) as f64;
+        let with = (each[3] - each[2]) / (many - 1) as f64;
+        println!(
+            "| {name} | {:.3} | {:.3} | {:.3} |",
+            without * 1e3,
+            with * 1e3,
+            with / without
+        );
+    }
+}
+
+/// `bench [TIMES [full|quiet|growth|lists|counts]]`: the best of so many runs counts.
 fn main() {
     let words: Vec<String> = env::args().collect();
     let times = words.get(1).and_then(|word| word.parse().ok()).unwrap_or(3);
@@ -437,5 +502,8 @@ fn main() {
     }
     if ["", "lists"].contains(&which) {
         lists(times);
+    }
+    if ["", "counts"].contains(&which) {
+        counts(times);
     }
 }

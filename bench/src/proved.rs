@@ -1,6 +1,6 @@
 //! Runs of the proved library, in memory that is kept from run to run.
 
-use cellang::{run_in, Done, Lent, Mode, Run, NAME_WORDS, WORDS};
+use cellang::{run_in, CountingLent, Done, Lent, Mode, Run, NAME_WORDS, WORDS};
 
 /// The memory that a run is lent, beside the grid.
 pub struct Rooms {
@@ -47,4 +47,24 @@ pub fn run(
 pub fn set(source: &str, sizes: &[u32], grid: &mut [i32], rooms: &mut Rooms, list: &[u8]) {
     let run = Run::new(source.as_bytes(), sizes, 0, 0, Mode::Full).with_list(list);
     run.on_in(grid, rooms.lent()).expect("a list that passes");
+}
+
+/// A run of plain cells from time 0 that keeps row counts.
+pub fn run_counting(
+    mode: Mode,
+    source: &str,
+    sizes: &[u32],
+    grid: &mut [i32],
+    rooms: &mut Rooms,
+    counts: &mut [u32],
+    steps: i64,
+) -> Done {
+    let lent = CountingLent {
+        lent: rooms.lent(),
+        field: 0,
+        counts,
+    };
+    let run = Run::new(source.as_bytes(), sizes, 0, steps, mode);
+    let outcome = run.on_counting_in(grid, lent);
+    outcome.expect("every step is done")
 }

@@ -1,5 +1,5 @@
 /* Calls the library from C: the marked examples M1 to M13, spellings, value lists and their writer, runs that are paused and resumed,
- * comparisons of grids, and what the lent memory holds afterwards. */
+ * row counts, comparisons of grids, and what the lent memory holds afterwards. */
 #ifndef _DEFAULT_SOURCE
 #define _DEFAULT_SOURCE /* for mmap of memory without a file */
 #endif
@@ -71,6 +71,14 @@ typedef uint32_t list_run_call(const uint8_t *, size_t, const uint8_t *, size_t,
 #define LIST_RUNS 4
 static list_run_call *const list_runs[LIST_RUNS] = {cellang_run_full_list, cellang_run_quiet_list, cellang_run_pausing,
                                                     cellang_run_resuming};
+
+typedef uint32_t count_run_call(const uint8_t *, size_t, const uint8_t *, size_t, uint32_t *, size_t, uint32_t *, size_t,
+                                const uint32_t *, size_t, int32_t *, size_t, int32_t *, size_t, uint8_t *, size_t, const uint8_t *,
+                                size_t, int64_t, int64_t, uint32_t *, size_t, uint32_t, uint64_t *, size_t);
+
+/* The same runs with row counts. */
+static count_run_call *const count_runs[LIST_RUNS] = {cellang_run_full_counts, cellang_run_quiet_counts, cellang_run_pausing_counts,
+                                                      cellang_run_resuming_counts};
 
 static int began(uint64_t number) {
     return number == CELLANG_DONE || (number >= CELLANG_RESULT_OUT_OF_RANGE && number <= CELLANG_VALUE_OUTSIDE_FIELD);
@@ -191,6 +199,7 @@ static void another_list(void) {
         const uint64_t told_of_run[CELLANG_REPORT_LENGTH] = {CELLANG_ROOM_LENGTH, 0, 0, 0, 0, 0, 0, 0, 0};
         const uint64_t told_of_writing[CELLANG_WRITTEN_LENGTH] = {CELLANG_ROOM_LENGTH, 0, 0, 0, 0, 0};
         const int32_t pair[] = {0, 1};
+        uint32_t count = UNTOUCHED;
         uint8_t room[4];
         uint32_t reply[CELLANG_REPLY_LENGTH];
         uint64_t report[CELLANG_REPORT_LENGTH];
@@ -215,6 +224,11 @@ static void another_list(void) {
                                 CELLANG_NAME_WORDS, shape, 1, grid, 1, scratch, 1, marks, 1, (const uint8_t *)"x", 1, 0, 1, report,
                                 CELLANG_REPORT_LENGTH) == CELLANG_ROOM_LENGTH, "another list beside a value list");
             expect(memcmp(report, told_of_run, sizeof told_of_run) == 0, "another list beside a value list is told");
+            expect(count_runs[k]((const uint8_t *)source, strlen(source), list, strlen(lists[i]), words, CELLANG_WORDS, names,
+                                 CELLANG_NAME_WORDS, shape, 1, grid, 1, scratch, 1, marks, 1, (const uint8_t *)"x", 1, 0, 1, &count, 1,
+                                 9, report, CELLANG_REPORT_LENGTH) == CELLANG_ROOM_LENGTH, "another list in a run with counts");
+            expect(memcmp(report, told_of_run, sizeof told_of_run) == 0 && count == UNTOUCHED,
+                   "another list in a run with counts is told");
         }
         expect(cellang_write_list((const uint8_t *)source, strlen(source), list, strlen(lists[i]), words, CELLANG_WORDS, names,
                                   CELLANG_NAME_WORDS, shape, 1, pair, 1, pair + 1, 1, 0, room, sizeof room, report,
@@ -252,6 +266,10 @@ static void lengths(void) {
                == CELLANG_ROOM_LENGTH, "nothing lent to a run that is to be paused");
     expect(cellang_run_resuming(NULL, 0, NULL, 0, NULL, 0, NULL, 0, NULL, 0, NULL, 0, NULL, 0, NULL, 0, NULL, 0, 0, 0, NULL, 0)
                == CELLANG_ROOM_LENGTH, "nothing lent to a run that is to be resumed");
+    for (size_t k = 0; k < LIST_RUNS; k++) {
+        expect(count_runs[k](NULL, 0, NULL, 0, NULL, 0, NULL, 0, NULL, 0, NULL, 0, NULL, 0, NULL, 0, NULL, 0, 0, 0, NULL, 0, 0, NULL, 0)
+                   == CELLANG_ROOM_LENGTH, "nothing lent to a run with counts");
+    }
     expect(cellang_write_list(NULL, 0, NULL, 0, NULL, 0, NULL, 0, NULL, 0, NULL, 0, NULL, 0, 0, NULL, 0, NULL, 0)
                == CELLANG_ROOM_LENGTH, "nothing lent to the writer");
 }
@@ -636,6 +654,186 @@ static void pauses(void) {
     }
 }
 
+/* ---- row counts */
+
+#define MOST_ROWS 6
+#define COUNTED_PLANE "2 dimensions of 0..1"
+#define PIXELS "2 dimensions of a of 0..9 moved of 0..1 end if cell.moved = 0 then cell.a := [0,1].a cell.moved := 1 end"
+
+/* A run with row counts from time 0 on, and what it is to leave. Of a refusal the counts are to be as they were. */
+struct counting {
+    const char *what;
+    const char *source;
+    uint32_t shape[3];
+    size_t dimensions, entries, cells;
+    int32_t grid[ROW * 2];
+    int64_t steps;
+    const char *list;
+    uint32_t field;
+    size_t counts;
+    uint64_t number, place, cell, steps_done, line;
+    int32_t grid_after[ROW * 2];
+    uint32_t counts_after[MOST_ROWS];
+};
+
+static const struct counting countings[] = {
+    {"0 steps", SHIFT, {5}, 1, 5, 5, {1, 0, 0, 0, 0}, 0, "", 0, 5, 0, 0, 0, 0, 0, {1, 0, 0, 0, 0}, {0, 1, 1, 1, 1}},
+    {"2 steps", SHIFT, {5}, 1, 5, 5, {1, 0, 0, 0, 0}, 2, "", 0, 5, 0, 0, 0, 2, 0, {0, 0, 1, 0, 0}, {1, 1, 0, 1, 1}},
+    {"a fault", COUNT, {3}, 1, 3, 3, {0, 2, 1}, 5, "", 0, 3, CELLANG_VALUE_OUTSIDE_FIELD, 26, 1, 1, 0, {1, 3, 2}, {0, 0, 0}},
+    {"a fault behind a block", COUNT, {3}, 1, 3, 3, {0, 2, 1}, 5, "1\n[0] = 0\n", 0, 3, CELLANG_VALUE_OUTSIDE_FIELD, 26, 1, 1, 0,
+     {0, 3, 2}, {1, 0, 0}},
+    {"rows of two cells", COUNTED_PLANE, {5, 2}, 2, 10, 10, {0, 0, 1, 1, 0, 1, 1, 0, 1, 1}, 0, "", 0, 5, 0, 0, 0, 0, 0,
+     {0, 0, 1, 1, 0, 1, 1, 0, 1, 1}, {2, 0, 1, 1, 0}},
+    {"a block of the start time", COUNTED_PLANE, {5, 2}, 2, 10, 10, {0, 0, 1, 1, 0, 1, 1, 0, 1, 1}, 0, "0\n[1, 1] = 0\n", 0, 5, 0, 0, 0,
+     0, 0, {0, 0, 1, 0, 0, 1, 1, 0, 1, 1}, {2, 1, 1, 1, 0}},
+    {"a block behind the last step", COUNTED_PLANE, {5, 2}, 2, 10, 10, {0, 0, 1, 1, 0, 1, 1, 0, 1, 1}, 3, "3\n[0, 0] = 1\n", 0, 5, 0, 0,
+     0, 3, 0, {1, 0, 1, 1, 0, 1, 1, 0, 1, 1}, {1, 0, 1, 1, 0}},
+    {"the first of two fields", PIXELS, {2, 2}, 2, 8, 4, {3, 0, 0, 0, 5, 1, 0, 0}, 1, "", 0, 2, 0, 0, 0, 1, 0, {0, 1, 3, 1, 5, 1, 5, 1},
+     {1, 0}},
+    {"the second of two fields", PIXELS, {2, 2}, 2, 8, 4, {3, 0, 0, 1, 5, 1, 0, 0}, 0, "", 1, 2, 0, 0, 0, 0, 0, {3, 0, 0, 1, 5, 1, 0, 0},
+     {1, 1}},
+    {"the second of two fields, a step on", PIXELS, {2, 2}, 2, 8, 4, {3, 0, 0, 1, 5, 1, 0, 0}, 1, "1\n[0, 1] = , 0\n", 1, 2, 0, 0, 0, 1, 0,
+     {0, 1, 0, 0, 5, 1, 5, 1}, {1, 0}},
+    {"rows that are planes", "3 dimensions of 0..1", {2, 2, 2}, 3, 8, 8, {0, 1, 0, 0, 1, 1, 1, 1}, 2, "", 0, 2, 0, 0, 0, 2, 0,
+     {0, 1, 0, 0, 1, 1, 1, 1}, {3, 0}},
+
+    /* refusals */
+    {"no such field", SHIFT, {5}, 1, 5, 5, {1, 0, 0, 0, 0}, 2, "", 1, 5, CELLANG_BAD_COUNTS, 0, 0, 0, 0, {1, 0, 0, 0, 0}, {0}},
+    {"no such field by far", SHIFT, {5}, 1, 5, 5, {1, 0, 0, 0, 0}, 2, "", UINT32_MAX, 5, CELLANG_BAD_COUNTS, 0, 0, 0, 0,
+     {1, 0, 0, 0, 0}, {0}},
+    {"no third field", PIXELS, {2, 2}, 2, 8, 4, {3, 0, 0, 0, 5, 1, 0, 0}, 1, "", 2, 2, CELLANG_BAD_COUNTS, 0, 0, 0, 0,
+     {3, 0, 0, 0, 5, 1, 0, 0}, {0}},
+    {"counts too few, before the list", SHIFT, {5}, 1, 5, 5, {1, 0, 0, 0, 0}, 2, "\n", 0, 4, CELLANG_BAD_COUNTS, 0, 0, 0, 0,
+     {1, 0, 0, 0, 0}, {0}},
+    {"counts too many", SHIFT, {5}, 1, 5, 5, {1, 0, 0, 0, 0}, 2, "", 0, 6, CELLANG_BAD_COUNTS, 0, 0, 0, 0, {1, 0, 0, 0, 0}, {0}},
+    {"no counts", SHIFT, {5}, 1, 5, 5, {1, 0, 0, 0, 0}, 2, "", 0, 0, CELLANG_BAD_COUNTS, 0, 0, 0, 0, {1, 0, 0, 0, 0}, {0}},
+    {"counts of cells", COUNTED_PLANE, {2, 3}, 2, 6, 6, {0}, 2, "", 0, 6, CELLANG_BAD_COUNTS, 0, 0, 0, 0, {0}, {0}},
+    {"an entry before the counts", SHIFT, {5}, 1, 5, 5, {1, 0, 2, 0, 0}, 2, "", 0, 4, CELLANG_ENTRY_OUT_OF_RANGE, 2, 0, 0, 0,
+     {1, 0, 2, 0, 0}, {0}},
+    {"times before the counts", SHIFT, {5}, 1, 5, 5, {1, 0, 0, 0, 0}, -1, "", 9, 4, CELLANG_BAD_TIMES, 0, 0, 0, 0, {1, 0, 0, 0, 0}, {0}},
+    {"sizes before the counts", SHIFT, {0}, 1, 5, 5, {1, 0, 0, 0, 0}, 2, "", 9, 4, CELLANG_BAD_SHAPE, 0, 0, 0, 0, {1, 0, 0, 0, 0}, {0}},
+    {"a list behind the counts", SHIFT, {5}, 1, 5, 5, {1, 0, 0, 0, 0}, 2, "9\n", 0, 5, CELLANG_LIST_TIME_PAST_END, 0, 0, 0, 1,
+     {1, 0, 0, 0, 0}, {0}},
+    {"a line behind the counts", SHIFT, {5}, 1, 5, 5, {1, 0, 0, 0, 0}, 2, "1\n[5] = 1\n", 0, 5, CELLANG_LIST_OUTSIDE_GRID, 0, 0, 0, 2,
+     {1, 0, 0, 0, 0}, {0}},
+};
+
+/* Runs in each manner, a resumed run with all cells open, and holds it to what is expected and to the run without counts. */
+static void expect_counting(const struct counting *c) {
+    for (size_t k = 0; k < LIST_RUNS; k++) {
+        const uint8_t *source = (const uint8_t *)c->source, *list = (const uint8_t *)c->list;
+        const size_t grid_size = c->entries * sizeof(int32_t);
+        uint64_t report[CELLANG_REPORT_LENGTH], plain[CELLANG_REPORT_LENGTH];
+        int32_t left[ROW * 2], plain_left[ROW * 2], row_scratch[ROW * 2];
+        uint8_t row_marks[ROW * 2], plain_marks[ROW * 2];
+        uint32_t counts[MOST_ROWS];
+        memcpy(left, c->grid, grid_size);
+        memcpy(plain_left, c->grid, grid_size);
+        memset(row_scratch, UNTOUCHED, sizeof row_scratch);
+        memset(row_marks, UNTOUCHED, sizeof row_marks);
+        memset(plain_marks, UNTOUCHED, sizeof plain_marks);
+        memset(counts, UNTOUCHED, sizeof counts);
+        expect(count_runs[k](source, strlen(c->source), LIST, words, CELLANG_WORDS, names, CELLANG_NAME_WORDS, c->shape, c->dimensions,
+                             left, c->entries, row_scratch, c->entries, row_marks, c->cells, list, strlen(c->list), 0, c->steps, counts,
+                             c->counts, c->field, report, CELLANG_REPORT_LENGTH) == c->number, c->what);
+        expect(report[CELLANG_REPORT_NUMBER] == c->number && report[CELLANG_REPORT_PLACE] == c->place
+                   && report[CELLANG_REPORT_CELL] == c->cell && report[CELLANG_REPORT_STEPS] == c->steps_done
+                   && report[CELLANG_REPORT_LINE] == c->line, c->what);
+        expect(memcmp(left, c->grid_after, grid_size) == 0, c->what);
+        if (began(c->number)) {
+            expect(memcmp(counts, c->counts_after, c->counts * sizeof *counts) == 0, c->what);
+            expect(all_bytes(counts + c->counts, sizeof counts - c->counts * sizeof *counts, UNTOUCHED), c->what);
+            expect(all_bytes(row_scratch, grid_size, 0), c->what);
+        } else {
+            expect(all_bytes(counts, sizeof counts, UNTOUCHED), c->what);
+            expect(all_bytes(row_scratch, sizeof row_scratch, UNTOUCHED) && all_bytes(row_marks, sizeof row_marks, UNTOUCHED), c->what);
+        }
+        if (c->number == CELLANG_BAD_COUNTS) {
+            const uint64_t refused[CELLANG_REPORT_LENGTH] = {CELLANG_BAD_COUNTS};
+            expect(memcmp(report, refused, sizeof report) == 0, c->what);
+        } else {
+            expect(list_runs[k](source, strlen(c->source), LIST, words, CELLANG_WORDS, names, CELLANG_NAME_WORDS, c->shape, c->dimensions,
+                                plain_left, c->entries, row_scratch, c->entries, plain_marks, c->cells, list, strlen(c->list), 0, c->steps,
+                                plain, CELLANG_REPORT_LENGTH) == c->number, c->what);
+            expect(memcmp(report, plain, sizeof report) == 0 && memcmp(left, plain_left, grid_size) == 0
+                       && memcmp(row_marks, plain_marks, sizeof row_marks) == 0, c->what);
+        }
+    }
+}
+
+/* A paused run, and the one that resumes it: the counts are filled anew. */
+static void counts_of_slices(void) {
+    const uint32_t shape[] = {ROW}, after[] = {1, 0, 1, 0, 1}, later[] = {1, 1, 0, 1, 0};
+    const char *list = "1\n[3] = 1\n";
+    const int32_t row[ROW] = {1, 0, 0, 0, 0};
+    uint64_t report[CELLANG_REPORT_LENGTH];
+    uint32_t counts[ROW];
+    memcpy(grid, row, sizeof row);
+    memset(counts, UNTOUCHED, sizeof counts);
+    expect(cellang_run_pausing_counts((const uint8_t *)SHIFT, strlen(SHIFT), LIST, words, CELLANG_WORDS, names, CELLANG_NAME_WORDS, shape,
+                                      1, grid, ROW, scratch, ROW, marks, ROW, (const uint8_t *)list, strlen(list), 0, 1, counts, ROW, 0,
+                                      report, CELLANG_REPORT_LENGTH) == CELLANG_DONE, "a slice with counts");
+    expect(memcmp(counts, after, sizeof counts) == 0, "the counts of a slice");
+    memset(counts, UNTOUCHED, sizeof counts);
+    expect(cellang_run_resuming_counts((const uint8_t *)SHIFT, strlen(SHIFT), LIST, words, CELLANG_WORDS, names, CELLANG_NAME_WORDS, shape,
+                                       1, grid, ROW, scratch, ROW, marks, ROW, NULL, 0, 1, 1, counts, ROW, 0, report,
+                                       CELLANG_REPORT_LENGTH) == CELLANG_DONE, "a later slice with counts");
+    expect(memcmp(counts, later, sizeof counts) == 0, "the counts of a later slice");
+}
+
+/* Asks how many zeros there are in rows; a reply of any length is told. */
+static void expect_zeros(const uint32_t *counts, size_t length, uint32_t first, uint32_t last, uint32_t number, uint64_t value) {
+    const uint64_t told[CELLANG_ROWS_LENGTH] = {number, value};
+    for (size_t lent = 0; lent <= CELLANG_ROWS_LENGTH + 1; lent++) {
+        uint64_t reply[CELLANG_ROWS_LENGTH + 1] = {UNTOUCHED, UNTOUCHED, UNTOUCHED};
+        expect(cellang_zeros_in_rows(counts, length, first, last, reply, lent) == number, "how many zeros");
+        for (size_t i = 0; i <= CELLANG_ROWS_LENGTH; i++) {
+            expect(reply[i] == (i < lent && i < CELLANG_ROWS_LENGTH ? told[i] : UNTOUCHED), "how many zeros are told");
+        }
+    }
+}
+
+/* Asks which is the first row with a zero. */
+static void expect_first(const uint32_t *counts, size_t length, uint32_t number, uint64_t row) {
+    const uint64_t told[CELLANG_ROWS_LENGTH] = {number, row};
+    for (size_t lent = 0; lent <= CELLANG_ROWS_LENGTH + 1; lent++) {
+        uint64_t reply[CELLANG_ROWS_LENGTH + 1] = {UNTOUCHED, UNTOUCHED, UNTOUCHED};
+        expect(cellang_first_zero_row(counts, length, reply, lent) == number, "the first row with a zero");
+        for (size_t i = 0; i <= CELLANG_ROWS_LENGTH; i++) {
+            expect(reply[i] == (i < lent && i < CELLANG_ROWS_LENGTH ? told[i] : UNTOUCHED), "the first row with a zero is told");
+        }
+    }
+}
+
+static void row_counts(void) {
+    static uint32_t most[CELLANG_MOST_SIZE + 1];
+    const uint32_t five[] = {2, 0, 1, 1, 0}, later[] = {0, 0, 1, 1, 0}, none[] = {0, 0}, large[] = {UINT32_MAX, UINT32_MAX};
+    for (size_t i = 0; i < sizeof countings / sizeof *countings; i++) {
+        expect_counting(&countings[i]);
+    }
+    counts_of_slices();
+    expect_zeros(five, 5, 1, 3, CELLANG_DONE, 2);
+    expect_zeros(five, 5, 0, 4, CELLANG_DONE, 4);
+    expect_zeros(five, 5, 4, 4, CELLANG_DONE, 0);
+    expect_zeros(five, 5, 0, 0, CELLANG_DONE, 2);
+    expect_zeros(five, 5, 3, 1, CELLANG_BAD_COUNTS, 0);
+    expect_zeros(five, 5, 0, 5, CELLANG_BAD_COUNTS, 0);
+    expect_zeros(five, 5, 5, 5, CELLANG_BAD_COUNTS, 0);
+    expect_zeros(five, 5, UINT32_MAX, UINT32_MAX, CELLANG_BAD_COUNTS, 0);
+    expect_zeros(NULL, 0, 0, 0, CELLANG_BAD_COUNTS, 0);
+    expect_zeros(large, 2, 0, 1, CELLANG_DONE, 2 * (uint64_t)UINT32_MAX);
+    expect_first(five, 5, CELLANG_DONE, 0);
+    expect_first(later, 5, CELLANG_DONE, 2);
+    expect_first(none, 2, CELLANG_NO_ZERO_ROW, 0);
+    expect_first(NULL, 0, CELLANG_BAD_COUNTS, 0);
+    expect_first(most, CELLANG_MOST_SIZE, CELLANG_NO_ZERO_ROW, 0);
+    expect_first(most, CELLANG_MOST_SIZE + 1, CELLANG_BAD_COUNTS, 0);
+    most[CELLANG_MOST_SIZE - 1] = 3;
+    expect_first(most, CELLANG_MOST_SIZE, CELLANG_DONE, CELLANG_MOST_SIZE - 1);
+    expect_zeros(most, CELLANG_MOST_SIZE, 0, CELLANG_MOST_SIZE - 1, CELLANG_DONE, 3);
+    expect_zeros(most, CELLANG_MOST_SIZE + 1, 0, 1, CELLANG_BAD_COUNTS, 0);
+}
+
 /* ---- the writer */
 
 #define MOST_ROOM 64
@@ -795,6 +993,7 @@ int main(void) {
     blocks();
     report_lengths();
     pauses();
+    row_counts();
     writings();
     comparisons();
     printf("%d passed, %d failed\n", passed, failed);

@@ -114,7 +114,8 @@ pub fn run_in<'a>(
     Run::new(source, shape, start, steps, mode).on_in(grid, lent)
 }
 
-/// A run of a source that can be given a value list.
+/// A run of a source that can be given a value list, and can keep row counts:
+/// [`on_counting`](Run::on_counting).
 ///
 /// A value list sets cells at chosen times. Each line is a time, which begins a
 /// block, or a cell with the values of its first fields; `[0, 3] = 5, , 1`
@@ -144,12 +145,12 @@ pub fn run_in<'a>(
 /// ```
 #[derive(Clone, Copy, Debug)]
 pub struct Run<'a, 'l> {
-    source: &'a [u8],
-    shape: &'l [u32],
-    start: i64,
-    steps: i64,
-    mode: Mode,
-    values: Option<&'l [u8]>,
+    pub(crate) source: &'a [u8],
+    pub(crate) shape: &'l [u32],
+    pub(crate) start: i64,
+    pub(crate) steps: i64,
+    pub(crate) mode: Mode,
+    pub(crate) values: Option<&'l [u8]>,
 }
 
 impl<'a, 'l> Run<'a, 'l> {
@@ -298,6 +299,8 @@ pub(crate) fn cells_of(shape: &[u32]) -> usize {
 #[cfg(test)]
 mod tests {
     use super::*;
+    use crate::counting::CountingLent;
+    use crate::foreign::CountingRunCall;
     use crate::replies::Stop;
     use crate::rooms::{NAME_WORDS, WORDS};
 
@@ -389,6 +392,24 @@ mod tests {
             ] {
                 run_beside(&list, |list, grid, lent| {
                     listed[1].by(call, list, grid, lent)
+                });
+            }
+            for call in [
+                foreign::cellang_run_full_counts as CountingRunCall,
+                foreign::cellang_run_quiet_counts,
+                foreign::cellang_run_pausing_counts,
+                foreign::cellang_run_resuming_counts,
+            ] {
+                run_beside(&list, |list, grid, lent| {
+                    let mut counts = [7];
+                    let lent = CountingLent {
+                        lent,
+                        field: 0,
+                        counts: &mut counts,
+                    };
+                    let outcome = listed[1].counting_by(call, list, grid, lent);
+                    assert_eq!(counts, [if outcome.is_ok() { 0 } else { 7 }]);
+                    outcome
                 });
             }
         }

@@ -12,6 +12,9 @@ pub const REPORT: usize = 9;
 /// the spelling's three.
 pub const WRITTEN: usize = 6;
 
+/// How many entries answer a question about row counts: number and value.
+pub const ROWS: usize = 2;
+
 /// The spelling stands in the source.
 pub const IN_SOURCE: u32 = 1;
 
@@ -67,6 +70,35 @@ pub type ListRunCall = unsafe extern "C" fn(
     values_length: usize,
     start: i64,
     steps: i64,
+    report: *mut u64,
+    report_length: usize,
+) -> u32;
+
+/// A function that runs a source with a value list and keeps row counts.
+pub type CountingRunCall = unsafe extern "C" fn(
+    source: *const u8,
+    source_length: usize,
+    list: *const u8,
+    list_length: usize,
+    words: *mut u32,
+    words_length: usize,
+    names: *mut u32,
+    names_length: usize,
+    sizes: *const u32,
+    sizes_length: usize,
+    grid: *mut i32,
+    grid_length: usize,
+    scratch: *mut i32,
+    scratch_length: usize,
+    marks: *mut u8,
+    marks_length: usize,
+    values: *const u8,
+    values_length: usize,
+    start: i64,
+    steps: i64,
+    counts: *mut u32,
+    counts_length: usize,
+    field: u32,
     report: *mut u64,
     report_length: usize,
 ) -> u32;
@@ -231,6 +263,134 @@ extern "C" {
         report_length: usize,
     ) -> u32;
 
+    pub fn cellang_run_full_counts(
+        source: *const u8,
+        source_length: usize,
+        list: *const u8,
+        list_length: usize,
+        words: *mut u32,
+        words_length: usize,
+        names: *mut u32,
+        names_length: usize,
+        sizes: *const u32,
+        sizes_length: usize,
+        grid: *mut i32,
+        grid_length: usize,
+        scratch: *mut i32,
+        scratch_length: usize,
+        marks: *mut u8,
+        marks_length: usize,
+        values: *const u8,
+        values_length: usize,
+        start: i64,
+        steps: i64,
+        counts: *mut u32,
+        counts_length: usize,
+        field: u32,
+        report: *mut u64,
+        report_length: usize,
+    ) -> u32;
+
+    pub fn cellang_run_quiet_counts(
+        source: *const u8,
+        source_length: usize,
+        list: *const u8,
+        list_length: usize,
+        words: *mut u32,
+        words_length: usize,
+        names: *mut u32,
+        names_length: usize,
+        sizes: *const u32,
+        sizes_length: usize,
+        grid: *mut i32,
+        grid_length: usize,
+        scratch: *mut i32,
+        scratch_length: usize,
+        marks: *mut u8,
+        marks_length: usize,
+        values: *const u8,
+        values_length: usize,
+        start: i64,
+        steps: i64,
+        counts: *mut u32,
+        counts_length: usize,
+        field: u32,
+        report: *mut u64,
+        report_length: usize,
+    ) -> u32;
+
+    pub fn cellang_run_pausing_counts(
+        source: *const u8,
+        source_length: usize,
+        list: *const u8,
+        list_length: usize,
+        words: *mut u32,
+        words_length: usize,
+        names: *mut u32,
+        names_length: usize,
+        sizes: *const u32,
+        sizes_length: usize,
+        grid: *mut i32,
+        grid_length: usize,
+        scratch: *mut i32,
+        scratch_length: usize,
+        marks: *mut u8,
+        marks_length: usize,
+        values: *const u8,
+        values_length: usize,
+        start: i64,
+        steps: i64,
+        counts: *mut u32,
+        counts_length: usize,
+        field: u32,
+        report: *mut u64,
+        report_length: usize,
+    ) -> u32;
+
+    pub fn cellang_run_resuming_counts(
+        source: *const u8,
+        source_length: usize,
+        list: *const u8,
+        list_length: usize,
+        words: *mut u32,
+        words_length: usize,
+        names: *mut u32,
+        names_length: usize,
+        sizes: *const u32,
+        sizes_length: usize,
+        grid: *mut i32,
+        grid_length: usize,
+        scratch: *mut i32,
+        scratch_length: usize,
+        marks: *mut u8,
+        marks_length: usize,
+        values: *const u8,
+        values_length: usize,
+        start: i64,
+        steps: i64,
+        counts: *mut u32,
+        counts_length: usize,
+        field: u32,
+        report: *mut u64,
+        report_length: usize,
+    ) -> u32;
+
+    pub fn cellang_zeros_in_rows(
+        counts: *const u32,
+        counts_length: usize,
+        first: u32,
+        last: u32,
+        reply: *mut u64,
+        reply_length: usize,
+    ) -> u32;
+
+    pub fn cellang_first_zero_row(
+        counts: *const u32,
+        counts_length: usize,
+        reply: *mut u64,
+        reply_length: usize,
+    ) -> u32;
+
     pub fn cellang_write_list(
         source: *const u8,
         source_length: usize,
@@ -268,7 +428,7 @@ extern "C" {
 
 #[cfg(test)]
 mod tests {
-    use super::{COMPARISON, IN_LIST, IN_SOURCE, REPLY, REPORT, WRITTEN};
+    use super::{COMPARISON, IN_LIST, IN_SOURCE, REPLY, REPORT, ROWS, WRITTEN};
 
     #[test]
     fn the_header_says_the_same() {
@@ -292,6 +452,8 @@ mod tests {
         assert_eq!(named("CELLANG_WRITTEN_SPELLING"), Some(3));
         assert_eq!(named("CELLANG_WRITTEN_SPELLING_START"), Some(4));
         assert_eq!(named("CELLANG_WRITTEN_SPELLING_LENGTH"), Some(5));
+        assert_eq!(named("CELLANG_ROWS_LENGTH"), Some(ROWS));
+        assert_eq!(named("CELLANG_ROWS_VALUE"), Some(1));
         assert_eq!(named("CELLANG_COMPARISON_LENGTH"), Some(COMPARISON));
         assert_eq!(named("CELLANG_SPELLING_NONE"), Some(0));
         assert_eq!(

@@ -1,7 +1,7 @@
 //! Checks sources written in Cellang, a small language for cellular automata,
-//! runs them on grids, also with timed value lists and in slices, writes such
-//! lists, and compares grids, by a library that is proved to do what the rules
-//! say.
+//! runs them on grids, also with timed value lists, in slices and with row
+//! counts, writes such lists, and compares grids, by a library that is proved to
+//! do what the rules say.
 //!
 //! ```
 //! use cellang::{check, run, Cell, Fault, FaultKind, Mode, Place, Rooms, Stop};
@@ -48,6 +48,7 @@
 
 mod calls;
 mod comparing;
+mod counting;
 mod foreign;
 mod names;
 mod pausing;
@@ -57,6 +58,10 @@ mod writing;
 
 pub use calls::{check, check_in, run, run_in, Lent, Mode, Run, BUILT_IN};
 pub use comparing::{compare, compare_flat, Difference, NotCompared};
+pub use counting::{
+    first_zero_row, run_pausing_counting_in, run_resuming_counting_in, zeros_in_rows, CountingLent,
+    Counts, NotCounted,
+};
 pub use names::{Kind, Name, Names};
 pub use pausing::{run_pausing_in, run_resuming_in, NotBegun, NotResumed, Paused};
 pub use replies::{

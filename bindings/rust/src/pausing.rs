@@ -1,6 +1,7 @@
 //! Quiet runs in slices: pausing and resuming.
 
 use crate::calls::{cells_of, Lent, Mode, Run, BUILT_IN};
+use crate::counting::{run_resuming_counting_in, CountingLent, Counts};
 use crate::foreign::{self, ListRunCall};
 use crate::replies::{Fault, Line, ListReason, ListRefusal, Outcome, Stop};
 use crate::rooms::Rooms;
@@ -9,6 +10,12 @@ use std::fmt;
 
 /// The greatest sum of start and steps.
 const GREATEST_TIME: i64 = 2_147_483_647;
+
+/// The list begins with a time that a list before it had.
+const TIME_REPEATED: Stop<'static> = Stop::ListRefused(ListRefusal {
+    reason: ListReason::TimeNotRising,
+    line: Line(1),
+});
 
 /// Runs a source in [`Mode::Quiet`] with a value list, where one of 0 bytes is
 /// as none, in memory of the caller's, and leaves the marks standing. All else
@@ -184,15 +191,63 @@ impl<'a> Paused<'a> {
         list: &[u8],
         rooms: &mut Rooms,
     ) -> Result<Paused<'a>, NotResumed<'a>> {
-        let fits = (0..=GREATEST_TIME - self.time()).contains(&steps);
-        let outcome = if fits && self.repeats_time(list, rooms) {
-            Err(Stop::ListRefused(ListRefusal {
-                reason: ListReason::TimeNotRising,
-                line: Line(1),
-            }))
+        let call = foreign::cellang_run_resuming;
+        let outcome = if self.fits(steps) && self.repeats_time(list, rooms) {
+            Err(TIME_REPEATED)
         } else {
-            self.slice(foreign::cellang_run_resuming, steps, list, rooms)
+            self.slice(call, steps, list, rooms)
         };
+        self.resumed(steps, list, outcome)
+    }
+
+    /// Goes on as [`resume`](Paused::resume) does, and fills row counts with
+    /// those of the grid as it stands then, also at a fault. It is refused too,
+    /// before the list, if there is no such field: 61. A refusal leaves the
+    /// counts as they were.
+    ///
+    /// ```
+    /// use cellang::{Counts, Paused, Rooms, Stop};
+    ///
+    /// let source = b"1 dimensions of 0..1 cell := [-1]";
+    /// let mut rooms = Rooms::new();
+    /// let mut counts = Counts::of_field(0);
+    /// let paused = Paused::begin(source, &[5], vec![1, 0, 0, 0, 0], 0, &mut rooms)?;
+    /// let paused = paused.resume_counting(0, b"", &mut counts, &mut rooms)?;
+    /// assert_eq!(counts.rows(), [0, 1, 1, 1, 1]);
+    /// let paused = paused.resume_counting(2, b"", &mut counts, &mut rooms)?;
+    /// assert_eq!(paused.grid(), [0, 0, 1, 0, 0]);
+    /// assert_eq!(counts.rows(), [1, 1, 0, 1, 1]);
+    /// # Ok::<(), Stop>(())
+    /// ```
+    pub fn resume_counting(
+        mut self,
+        steps: i64,
+        list: &[u8],
+        counts: &mut Counts,
+        rooms: &mut Rooms,
+    ) -> Result<Paused<'a>, NotResumed<'a>> {
+        let field = counts.field();
+        let repeated = self.fits(steps) && self.repeats_time(list, rooms);
+        let outcome = if repeated && self.has_field(field, rooms) {
+            Err(TIME_REPEATED)
+        } else {
+            self.slice_counting(steps, list, counts, rooms)
+        };
+        self.resumed(steps, list, outcome)
+    }
+
+    /// Whether the run can go on for so many steps.
+    fn fits(&self, steps: i64) -> bool {
+        (0..=GREATEST_TIME - self.time()).contains(&steps)
+    }
+
+    /// The run after a slice that gave this outcome.
+    fn resumed(
+        mut self,
+        steps: i64,
+        list: &[u8],
+        outcome: Outcome<'a>,
+    ) -> Result<Paused<'a>, NotResumed<'a>> {
         match outcome {
             Ok(done) => {
                 self.steps += done.steps;
@@ -233,6 +288,45 @@ impl<'a> Paused<'a> {
         };
         let run = Run::new(self.source, &self.shape, time, steps, Mode::Quiet).with_list(list);
         run.by(call, BUILT_IN, &mut self.grid, lent)
+    }
+
+    /// Resumes on the grid and the marks, from the time on, with row counts.
+    fn slice_counting(
+        &mut self,
+        steps: i64,
+        list: &[u8],
+        counts: &mut Counts,
+        rooms: &mut Rooms,
+    ) -> Outcome<'a> {
+        let time = self.time();
+        let Paused {
+            source,
+            shape,
+            grid,
+            marks,
+            ..
+        } = self;
+        counts.fill(shape, |field, counts| {
+            let lent = Lent {
+                words: &mut rooms.words,
+                names: &mut rooms.names,
+                scratch: &mut vec![0; grid.len()],
+                marks,
+            };
+            let lent = CountingLent {
+                lent,
+                field,
+                counts,
+            };
+            run_resuming_counting_in(source, shape, grid, lent, time, steps, list)
+        })
+    }
+
+    /// Whether there is a field with this number. A run of 0 steps without a list
+    /// changes nothing, and is refused for its field alone.
+    fn has_field(&mut self, field: u32, rooms: &mut Rooms) -> bool {
+        let mut counts = Counts::of_field(field);
+        self.slice_counting(0, b"", &mut counts, rooms).is_ok()
     }
 
     /// Whether a list begins with a time that a list before it had: the time at
@@ -335,7 +429,8 @@ pub enum NotResumed<'a> {
     /// The steps or the list are refused, and the run stands where it stood.
     Refused {
         /// Why: the run is not admitted, since steps is negative or leads past
-        /// time 2147483647, or the list is refused.
+        /// time 2147483647, or there is no field to be counted; or the list is
+        /// refused.
         stop: Stop<'a>,
         /// The run, which can be resumed.
         paused: Box<Paused<'a>>,

@@ -207,7 +207,7 @@ impl fmt::Display for Refusal<'_> {
 impl Error for Refusal<'_> {}
 
 /// Why a run is not admitted although its source is accepted: replies 20 to
-/// 24.
+/// 24, and 61 for a run with row counts.
 #[derive(Clone, Copy, PartialEq, Eq, Hash, Debug)]
 pub enum Objection {
     /// 20: the number or size of dimensions, or the total of cells, is wrong.
@@ -222,6 +222,9 @@ pub enum Objection {
     IndexTooFar(Place),
     /// 24: a field is out of range on entry; the lowest one in the grid.
     EntryOutOfRange(Entry),
+    /// 61: there is no field with the number whose zeros are to be counted, or
+    /// counts are not one a row.
+    BadCounts,
 }
 
 impl Objection {
@@ -232,6 +235,7 @@ impl Objection {
             22 => Objection::BadTimes,
             23 => Objection::IndexTooFar(Place(place)),
             24 => Objection::EntryOutOfRange(Entry(place)),
+            61 => Objection::BadCounts,
             _ => return None,
         })
     }
@@ -244,6 +248,7 @@ impl Objection {
             Objection::BadTimes => 22,
             Objection::IndexTooFar(_) => 23,
             Objection::EntryOutOfRange(_) => 24,
+            Objection::BadCounts => 61,
         }
     }
 }
@@ -263,6 +268,7 @@ impl fmt::Display for Objection {
             Objection::EntryOutOfRange(entry) => {
                 write!(f, " at grid entry {entry}: field out of range on entry")
             }
+            Objection::BadCounts => f.write_str(": no such field, or counts not one a row"),
         }
     }
 }

@@ -155,7 +155,7 @@ fn compare_run(case: &RunCase, mode: Mode, listed: bool, seen: &mut Seen) {
 
 #[test]
 fn checks() {
-    let mut seen = [0; 58];
+    let mut seen = [0; 63];
     for source in vectors::stored_checks() {
         compare_check(&source, &mut seen);
     }
@@ -173,8 +173,8 @@ fn checks() {
 #[test]
 fn runs() {
     for mode in [Mode::Full, Mode::Quiet] {
-        let mut seen = [0; 58];
-        let mut listed = [0; 58];
+        let mut seen = [0; 63];
+        let mut listed = [0; 63];
         let cases = vectors::stored_runs().into_iter();
         let cases = cases.chain(vectors::runs(20_002, RUNS, false));
         for case in cases.chain(vectors::lists(20_004, LISTS, false)) {
@@ -266,7 +266,7 @@ fn compare_text(case: &WriteCase, number: u32) {
 
 #[test]
 fn writings() {
-    let mut seen = [0; 58];
+    let mut seen = [0; 63];
     let cases = vectors::stored_writings().into_iter();
     for case in cases.chain(vectors::writings(20_005, WRITINGS)) {
         compare_writing(&case, &mut seen);

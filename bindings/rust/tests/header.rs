@@ -1,8 +1,8 @@
 //! The C header names the same replies and kinds.
 
 use cellang::{
-    Difference, Entry, FaultKind, Kind, ListReason, NotCompared, NotWritten, Objection, Place,
-    Reason, BUILT_IN, NAME_WORDS, WORDS,
+    Difference, Entry, FaultKind, Kind, ListReason, NotCompared, NotCounted, NotWritten, Objection,
+    Place, Reason, BUILT_IN, NAME_WORDS, WORDS,
 };
 use std::fmt::Debug;
 use std::mem::size_of;
@@ -98,6 +98,10 @@ fn replies() {
         let name = name_of(reason).replacen("CELLANG", "CELLANG_LIST", 1);
         assert_eq!(named(&name), Some(number), "{reason:?}");
     }
+    let counts = Objection::BadCounts;
+    assert_eq!((counts.number(), NotCounted.number()), (61, 61));
+    assert_eq!(named(&name_of(counts)), Some(61));
+    assert_eq!(named("CELLANG_NO_ZERO_ROW"), Some(62));
     let short = NotWritten::RoomTooShort;
     assert_eq!(short.number(), 57);
     assert_eq!(named(&name_of(short)), Some(57));

@@ -572,7 +572,7 @@ fn compare_chain(random: &mut Random, case: &RunCase, mut paused: Paused, rooms:
 fn chains() {
     let mut random = Random::new(20_006);
     let mut rooms = Rooms::new();
-    let mut seen = [0; 58];
+    let mut seen = [0; 63];
     for case in cases(20_006, CHAINS) {
         // All that is lent beside the grid has the right length.
         let RunCase { source, shape, .. } = &case;
@@ -828,7 +828,7 @@ fn compare_joined(random: &mut Random, call: Call, case: &RunCase, marks: &[u8])
 #[test]
 fn any_marks() {
     let mut random = Random::new(20_007);
-    let (mut paused, mut resumed) = ([0; 58], [0; 58]);
+    let (mut paused, mut resumed) = ([0; 63], [0; 63]);
     for case in cases(20_007, MARKED) {
         let often = *random.pick(&[0, 10, 30, 50, 90, 100]);
         let marks: Vec<u8> = (0..case.marks)

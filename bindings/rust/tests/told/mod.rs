@@ -5,7 +5,7 @@ use cellang::{Objection, Outcome, Stop};
 use reference::Report;
 
 /// How many cases gave each number.
-pub type Seen = [usize; 58];
+pub type Seen = [usize; 63];
 
 /// The six numbers of an outcome.
 pub fn report_of(outcome: &Outcome) -> Report {
