@@ -11,7 +11,7 @@ mkdir "$room/bin"
 cp target/bin/run_rule target/bin/compare_grids "$room/bin"
 cp tools/picture.py "$room/bin/picture.py"
 chmod +x "$room/bin/picture.py"
-for example in life shift edge difference refused fault archive badlist pause; do
+for example in life shift edge difference refused fault archive badlist pause zeros; do
     cp -R "examples/$example" "$room/$example"
     (cd "$room/$example" && PATH="$room/bin:$PATH" sh ./command >wrote)
     cmp "$room/$example/wrote" "examples/$example/output"

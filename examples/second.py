@@ -4,7 +4,7 @@
 FOLDER is an example's folder in which its command has been run. The lines of its command that call run_rule say what is run; the reports and
 the grids that they wrote are compared with those of the second program. A resumed run is compared as the rest of the run before it: the second
 program runs the steps of both at once. A list of changes that was written must lead to the grid too: the second program sets it into the grid
-that was given, and must get the grid that was left.
+that was given, and must get the grid that was left. What is said of zeros is counted again in the second program's grid.
 """
 
 import json
@@ -66,6 +66,15 @@ def grid_left(folder, out, text):
         return entries(file.read())
 
 
+def zeros_said(rule, shape, field, grid):
+    """What is to be said of the zeros of a field of a rule in a grid."""
+    names = re.findall(r"^ *(?:const +)?([a-z]\w*) +of ", bytes(rule).decode(), re.M) or ["cell"]
+    zeros = [i // len(names) for i, entry in enumerate(grid) if i % len(names) == names.index(field.lower()) and entry == 0]
+    said = "zeros: field %s, %d cells in rows 0 to %d" % (field, len(zeros), shape[0] - 1)
+    row = len(grid) // len(names) // shape[0]
+    return said + (", first in row %d" % (zeros[0] // row) if zeros else "")
+
+
 def joined(earlier, later):
     """A run and the one that resumes it, each a case with its report, as one run."""
     case = dict(earlier[0], steps=earlier[0]["steps"] + later[0]["steps"], values=earlier[0]["values"] + later[0]["values"])
@@ -84,6 +93,7 @@ def main(root, folder):
         return 1
     whole = None
     for words, text in zip(calls, texts):
+        words, field = (words[:-2], words[-1]) if words[-2] == "--zeros" else (words, None)
         manner, out = words[4], words[6]
         changes = (words[7:] + ["-", "-"])[1]
         run = call_of(folder, words), report_of(text)
@@ -94,6 +104,10 @@ def main(root, folder):
         second = {name: int(reports[way][name]) for name in whole[1]}
         if second_left != left or second != whole[1]:
             print("the second program differs: %s, grid %s" % (second, second_left))
+            return 1
+        said = re.findall("^zeros: .*$", text, re.M)
+        if said != ([zeros_said(run[0]["source"], run[0]["shape"], field, second_left)] if field else []):
+            print("the zeros of the second program's grid are not those that are told: %s" % said)
             return 1
         path = os.path.join(folder, changes)
         if changes != "-" and os.path.exists(path):

@@ -6,11 +6,13 @@ use console::texts::complain;
 use console::texts::is_argument;
 use iteration::Manner;
 
-// What is asked of a run: the time it starts at, the steps, and its manner.
+// What is asked of a run: the time it starts at, the steps, its manner, whether the zeros of a field are counted, and the number of this field.
 pub struct Order {
     pub start: i64,
     pub steps: i64,
     pub manner: Manner,
+    pub counted: bool,
+    pub field: u32,
 }
 
 // What is asked, or an argument could not be taken.
@@ -25,16 +27,33 @@ enum Way {
     Unknown,
 }
 
+// How many arguments there are, with the program's name and without a `--zeros` and a field at the end.
+fn plain_count() -> usize {
+    let count = os::arg_count();
+    if count < 10 {
+        return count;
+    }
+    if is_argument(count - 2, b"--zeros") {
+        return count - 2;
+    }
+    count
+}
+
+// Whether the zeros of a field are asked for.
+pub fn has_zeros() -> bool {
+    plain_count() < os::arg_count()
+}
+
 // Whether all arguments are there and none is over. If not, how to call the program is said.
 pub fn all_there() -> bool {
-    let count = os::arg_count();
+    let count = plain_count();
     if count >= 8 {
         if count <= 11 {
             return true;
         }
     }
     complain(
-        b"usage: run_rule RULE SHAPE START STEPS full|quiet|pause|resume GRID OUT [LIST [CHANGES [PAUSE]]]\n",
+        b"usage: run_rule RULE SHAPE START STEPS full|quiet|pause|resume GRID OUT [LIST [CHANGES [PAUSE]]] [--zeros FIELD]\n",
     );
     complain(b"  RULE     the file of the rule\n");
     complain(b"  SHAPE    the sizes of the grid, joined by x, as 8x8 or 5 or 2x3x4\n");
@@ -51,12 +70,13 @@ pub fn all_there() -> bool {
     complain(
         b"  PAUSE    the file of the open cells, which resume reads, and pause and resume write\n",
     );
+    complain(b"  FIELD    the name of a field: how many cells are left with 0 in it is said\n");
     false
 }
 
 // Whether an argument names a file that may be left out: it is there, and is not `-`.
 pub fn is_given(i: usize) -> bool {
-    os::arg_count() > i && !is_argument(i, b"-")
+    plain_count() > i && !is_argument(i, b"-")
 }
 
 // A value in 64 bits.
@@ -88,7 +108,7 @@ fn way_argument() -> Way {
     Way::Unknown
 }
 
-// What a run from a start is asked.
+// What a run from a start is asked, without the zeros.
 fn order_from(start: i32, steps: i32) -> Orders {
     let Way::Named(manner) = way_argument() else {
         complain(b"run_rule: the fifth argument is none of full, quiet, pause and resume\n");
@@ -98,6 +118,8 @@ fn order_from(start: i32, steps: i32) -> Orders {
         start: wide(start),
         steps: wide(steps),
         manner,
+        counted: false,
+        field: 0,
     })
 }
 

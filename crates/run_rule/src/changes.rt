@@ -1,6 +1,6 @@
 // The value list that leads from the grid that is given to the grid that is left.
 use crate::arguments::is_given;
-use crate::reports::is_fault;
+use crate::reports::has_begun;
 use console::places::wide;
 use console::rooms;
 use console::rooms::ROOM;
@@ -115,11 +115,6 @@ fn write_between(source: &[u8], sizes: &[u32], earlier: &[i32], later: &[i32], t
     }
     let length = rooms::of_bytes(written.length as usize, &room);
     write_text(&room[..length]);
-}
-
-// Whether a run began: all its steps are done, or it faulted.
-fn has_begun(number: u32) -> bool {
-    number == 0 || is_fault(number)
 }
 
 // Writes the list of changes, if it is asked for and the run began. The grid stands at the start of the room, and the grid as it was before the

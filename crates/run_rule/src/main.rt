@@ -1,8 +1,8 @@
 // Runs a rule on a grid, called as
-//     run_rule RULE SHAPE START STEPS full|quiet|pause|resume GRID OUT [LIST [CHANGES [PAUSE]]]
+//     run_rule RULE SHAPE START STEPS full|quiet|pause|resume GRID OUT [LIST [CHANGES [PAUSE]]] [--zeros FIELD]
 // It writes the report of the run in words to standard output, the grid that is left to OUT, and the value list that leads there from the grid
 // that was given to CHANGES. LIST is the value list of the run. A run that pauses writes the marks that stand to PAUSE, and one that resumes begins
-// from those that it reads there. Where an argument or a file cannot be taken it says so on standard error, and writes nothing else.
+// from those that it reads there. With --zeros it says how many cells are left with 0 in a field. Where an argument or a file cannot be taken it says so on standard error, and writes nothing else.
 ghost use mathlib.Core.Path.{_≡_};
 ghost use lib.ListN.{length};
 ghost use Rattle.runner.specs.Sourcewise.{manner-of};
@@ -15,6 +15,7 @@ mod pauses;
 mod reports;
 mod rows;
 mod values;
+mod zeros;
 
 use arguments::Order;
 use arguments::Orders;
@@ -35,7 +36,8 @@ enum Outcome {
     Refused,
 }
 
-// A run of a source on a grid with a value list, as it was asked for. The report, the grid and the marks that are left are those of the definition.
+// A run of a source on a grid with a value list, as it was asked for. The report, the grid, the marks and the counts that are left are those of the
+// definition.
 fn run(
     source: &[u8],
     words: &mut [u32],
@@ -45,9 +47,10 @@ fn run(
     marks: &mut [u8],
     values: &[u8],
     order: Order,
+    counts: &mut [u32],
 ) -> Ran
     requires { ⌜ 16384 ≡ length (now words) ⌝ }
-    ensures { λ r. ⌜ Runs (manner-of (order .manner) (now (marks .entry))) (now (source .entry)) (now (sizes .entry)) (now (grid .entry)) (length (now (scratch .entry))) (now (marks .entry)) (now (values .entry)) (order .start) (order .steps) (r .report) (now (grid .exit)) (now (marks .exit)) ⌝ }
+    ensures { λ r. ⌜ Runs (manner-of (order .manner) (now (marks .entry))) (now (source .entry)) (now (sizes .entry)) (now (grid .entry)) (length (now (scratch .entry))) (now (marks .entry)) (now (values .entry)) (order .start) (order .steps) (order .counted) (order .field) (now (counts .entry)) (r .report) (now (grid .exit)) (now (marks .exit)) (now (counts .exit)) ⌝ }
 {
     let list = spelling::BUILT_IN;
     let names = naming::no_names();
@@ -65,7 +68,26 @@ fn run(
         order.start,
         order.steps,
         manner,
+        counts,
+        order.counted,
+        order.field,
     )
+}
+
+// Writes where a run paused and which cells are left with 0 in a field, if that is asked for, and then what is left.
+fn write_left(
+    report: Report,
+    sizes: &[u32],
+    grid: &[i32],
+    scratch: &mut [i32],
+    marks: &[u8],
+    order: Order,
+    counts: &[u32],
+) {
+    pauses::tell(report, marks, order);
+    zeros::tell(report, sizes, order, counts);
+    let written = write_grid(grid, shapes::row(sizes, grid.len(), marks.len()));
+    pauses::write(report, sizes, scratch, marks, order, written);
 }
 
 // Runs a source on a grid, reports, and writes what is left. Gives the report.
@@ -77,6 +99,7 @@ fn run_and_tell(
     marks: &mut [u8],
     values: &[u8],
     order: Order,
+    counts: &mut [u32],
 ) -> Report {
     let entries = grid.len();
     let cells = marks.len();
@@ -90,16 +113,39 @@ fn run_and_tell(
         marks,
         values,
         order,
+        counts,
     );
     let report = ran.report;
     let field = fields::field_told(report, &words, fields_of(entries, cells));
     let rows = ran.rows;
     let name = naming::field_record(rows, field);
     reports::tell(report, name, source, values, sizes, entries, cells);
-    pauses::tell(report, marks, order);
-    let written = write_grid(grid, shapes::row(sizes, entries, cells));
-    pauses::write(report, sizes, scratch, marks, order, written);
+    write_left(report, sizes, grid, scratch, marks, order, counts);
     report
+}
+
+// Runs a source on a grid, with a count for each row if zeros are counted, else with none.
+fn run_counted(
+    source: &[u8],
+    sizes: &[u32],
+    grid: &mut [i32],
+    scratch: &mut [i32],
+    marks: &mut [u8],
+    values: &[u8],
+    order: Order,
+) -> Report {
+    let mut counts = [0u32; 4096];
+    let counted = rooms::of_words(zeros::counts_of(sizes, order), &counts);
+    run_and_tell(
+        source,
+        sizes,
+        grid,
+        scratch,
+        marks,
+        values,
+        order,
+        &mut counts[..counted],
+    )
 }
 
 // Runs a source on a grid, from the marks of PAUSE if it is resumed, with as much of two rooms as it asks for. They are given back when it ends.
@@ -118,7 +164,7 @@ fn run_in_rooms(
     }
     let kept = rooms::of_numbers(grid.len(), &scratch);
     let marked = rooms::of_bytes(cells, &marks);
-    Outcome::Told(run_and_tell(
+    Outcome::Told(run_counted(
         source,
         sizes,
         grid,
@@ -182,10 +228,10 @@ fn run_in_shape(sizes: &[u32]) {
         texts::complain(b"run_rule: SHAPE has more than 786432 cells\n");
         return;
     }
-    let Orders::Taken(order) = arguments::order_arguments() else {
+    let Orders::Taken(asked) = arguments::order_arguments() else {
         return;
     };
-    let manner = order.manner;
+    let manner = asked.manner;
     if !pauses::is_right(manner) {
         return;
     }
@@ -194,6 +240,9 @@ fn run_in_shape(sizes: &[u32]) {
         return;
     };
     let length = rooms::of_bytes(n, &source);
+    let Orders::Taken(order) = zeros::with_zeros(&source[..length], asked) else {
+        return;
+    };
     run_with_list(&source[..length], sizes, cells, order);
 }
 

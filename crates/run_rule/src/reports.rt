@@ -17,6 +17,11 @@ pub fn is_fault(number: u32) -> bool {
     number >= 30 && number <= 33
 }
 
+// Whether a run began: all its steps are done, or it faulted.
+pub fn has_begun(number: u32) -> bool {
+    number == 0 || is_fault(number)
+}
+
 // Whether a reply has a place in the source: the other refusals of a source are 1 and 2, and those of a list begin at 50.
 fn has_place(number: u32) -> bool {
     if number < 3 {

@@ -25,12 +25,15 @@ same-length-3 c = search needs
 same-length-4 : tie.Need-same-length-4
 same-length-4 c = search needs
 
+same-length-5 : tie.Need-same-length-5
+same-length-5 c = search needs
+
 returns : tie.Need-returns
 returns c =
-    let ran = c .before .before .before .before .before .before in
-    let s = ran .before .before .before .before .before .before .before .before in
-    let begun = s .before .before .before .before .before .before in
+    let ran = c .before .before .before .before .before .before .before .before in
+    let s = ran .before .before .before .before .before .before .before .before .before in
+    let begun = s .before .before .before .before .before .before .before in
     runs-of (begun .pre) (s .no-names .ensures) (search needs) (search needs) (ran .run .ensures)
 
 pub run-spec : {M : Type 1} → statement M
-run-spec = tie.close (tie.spec no-names-requires slice-aggregate-run run-requires same-length same-length-2 same-length-3 same-length-4 returns)
+run-spec = tie.close (tie.spec no-names-requires slice-aggregate-run run-requires same-length same-length-2 same-length-3 same-length-4 same-length-5 returns)

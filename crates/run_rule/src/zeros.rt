@@ -1,0 +1,209 @@
+// The cells that are left with 0 in a field, which is named behind `--zeros`.
+use crate::arguments::Order;
+use crate::arguments::Orders;
+use crate::arguments::has_zeros;
+use crate::reports::has_begun;
+use console::places::wide;
+use console::rooms;
+use console::texts::argument;
+use console::texts::complain;
+use console::texts::say;
+use console::texts::say_number;
+use iteration::Manner;
+use iteration::Report;
+use names::folded;
+use records::Name;
+use row_counts::queries::first_zero_row;
+use row_counts::queries::zeros_in_rows;
+
+// More than any field's number: no field has the name; or it is `cell`, the name of the field of a rule that names none; or the rule is refused.
+const NONE: u32 = 4294967295;
+
+const UNNAMED: u32 = 4294967294;
+
+const UNREAD: u32 = 4294967293;
+
+// The place of the name of the field among the arguments: the last.
+fn name_place() -> usize {
+    let count = os::arg_count();
+    if count == 0 {
+        return 0;
+    }
+    count - 1
+}
+
+// Whether two texts spell the same, without letter case.
+fn same(a: &[u8], b: &[u8]) -> bool {
+    if a.len() != b.len() {
+        return false;
+    }
+    let mut i = 0;
+    while i < a.len() {
+        if folded(a, i) != folded(b, i) {
+            return false;
+        }
+        i += 1;
+    }
+    true
+}
+
+// Whether a record of a source has a name.
+fn has_name(source: &[u8], r: Name, name: &[u8]) -> bool {
+    let start = r.start as usize;
+    let length = r.length as usize;
+    if start > source.len() {
+        return false;
+    }
+    if length > source.len() - start {
+        return false;
+    }
+    same(&source[start..start + length], name)
+}
+
+// The field that has a name, with the record of the field k more.
+fn field_with(source: &[u8], r: Name, name: &[u8], k: u32, field: u32) -> u32 {
+    if r.kind == 0 {
+        return field;
+    }
+    if has_name(source, r, name) {
+        return k;
+    }
+    if field == UNNAMED {
+        return NONE;
+    }
+    field
+}
+
+// The field that has a name, where there is no record.
+fn field_without(name: &[u8]) -> u32 {
+    if same(name, b"cell") { UNNAMED } else { NONE }
+}
+
+// The field that has a name, by the records of a source.
+fn find_field(source: &[u8], rows: [Name; 256], name: &[u8]) -> u32 {
+    let mut field = field_without(name);
+    let mut k = 0;
+    while k < 64 {
+        field = field_with(source, naming::field_record(rows, k), name, k, field);
+        k += 1;
+    }
+    field
+}
+
+// The field of a source that has a name. The records are those of a run that is refused for its one size, 0, once the source is accepted.
+fn field_named(source: &[u8], name: &[u8]) -> u32 {
+    let list = spelling::BUILT_IN;
+    let mut words = rooms::table_room();
+    let sizes = [0u32; 1];
+    let mut grid = [0i32; 1];
+    let mut scratch = [0i32; 1];
+    let mut marks = [0u8; 1];
+    let values = [0u8; 1];
+    let mut counts = [0u32; 1];
+    let ran = naming::run(
+        source,
+        &list,
+        &mut words,
+        naming::no_names(),
+        &sizes,
+        &mut grid,
+        &mut scratch,
+        &mut marks,
+        &values,
+        0,
+        0,
+        Manner::Full,
+        &mut counts,
+        false,
+        0,
+    );
+    let report = ran.report;
+    if report.number != 20 {
+        return UNREAD;
+    }
+    let rows = ran.rows;
+    let field = find_field(source, rows, name);
+    if field == UNNAMED { 0 } else { field }
+}
+
+// Says that no field has a name.
+fn complain_name(name: &[u8]) {
+    complain(b"run_rule: RULE has no field `");
+    complain(name);
+    complain(b"`\n");
+}
+
+// What is asked of a run, with the field that the last argument names, if any. If there is no such field, that is said. A rule that is refused has no
+// fields, and is run to tell why.
+pub fn with_zeros(source: &[u8], order: Order) -> Orders {
+    if !has_zeros() {
+        return Orders::Taken(order);
+    }
+    let mut text = io::buffer();
+    let n = argument(name_place(), &mut text);
+    let field = field_named(source, &text[..n]);
+    if field == NONE {
+        complain_name(&text[..n]);
+        return Orders::Refused;
+    }
+    let manner = order.manner;
+    Orders::Taken(Order {
+        start: order.start,
+        steps: order.steps,
+        manner,
+        counted: field != UNREAD,
+        field,
+    })
+}
+
+// How many rows a grid has.
+fn rows_of(sizes: &[u32]) -> u32 {
+    if sizes.len() == 0 {
+        return 0;
+    }
+    sizes[0]
+}
+
+// How many counts a run is lent: one for each row, if zeros are counted.
+pub fn counts_of(sizes: &[u32], order: Order) -> usize {
+    if !order.counted {
+        return 0;
+    }
+    rows_of(sizes) as usize
+}
+
+// Writes the name of the field.
+fn say_name() {
+    let mut text = io::buffer();
+    let n = argument(name_place(), &mut text);
+    say(&text[..n]);
+}
+
+// Writes how many cells have 0 in the rows up to the last, and which row is the first with one.
+fn say_zeros(counts: &[u32], last: u32) {
+    let total = zeros_in_rows(counts, 0, last);
+    let first = first_zero_row(counts);
+    say_number(total.value);
+    say(b" cells in rows 0 to ");
+    say_number(wide(last));
+    if first.number == 0 {
+        say(b", first in row ");
+        say_number(first.value);
+    }
+    say(b"\n");
+}
+
+// Writes what the counts say of the grid that is left, if zeros are counted and the run began.
+pub fn tell(report: Report, sizes: &[u32], order: Order, counts: &[u32]) {
+    if !order.counted || !has_begun(report.number) {
+        return;
+    }
+    let rows = rows_of(sizes);
+    if rows == 0 {
+        return;
+    }
+    say(b"zeros: field ");
+    say_name();
+    say(b", ");
+    say_zeros(counts, rows - 1);
+}
