@@ -3,3 +3,4 @@ mod CountLaws
 mod MoveLaws
 mod QueryLaws
 pub mod Theorems
+mod SkipLaws

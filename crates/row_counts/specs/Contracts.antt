@@ -1,3 +1,4 @@
 -- What the functions promise.
 pub mod Counting
 pub mod Queries
+pub mod Skipping

@@ -5,7 +5,7 @@ ghost use lib.ListN.{length, getD, set};
 ghost use Rattle.automaton.specs.Step.{how-many};
 ghost use Rattle.automaton.specs.Rows.{has-zero, row-counts};
 ghost use Rattle.row_counts.specs.Contracts.Counting.{row-size, zero-bit, Divisible, RowCountable, Countable, CellCountable, NotBefore, Movable};
-use marked_cells::scan::next_marked;
+use crate::skipping::far_marked;
 
 // How many cells a row has.
 fn row_cells(sizes: &[u32], cells: usize) -> usize
@@ -96,10 +96,10 @@ pub fn move_counts(
 {
     let cells = row_cells(sizes, marks.len());
     let mut row: usize = 0;
-    let mut cell = next_marked(marks, 0);
+    let mut cell = far_marked(marks, 0);
     while cell < marks.len() {
         row = row_from(row, cells, cell);
         count_cell(old, grid, cell * fields + field, row, counts);
-        cell = next_marked(marks, cell + 1);
+        cell = far_marked(marks, cell + 1);
     }
 }

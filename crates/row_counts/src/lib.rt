@@ -2,3 +2,4 @@
 
 pub mod counting;
 pub mod queries;
+mod skipping;

@@ -21,7 +21,7 @@ row-cells-requires c κs = marks-divide (c .before .before .before .pre)
 
 loop-holds : tie.Need-loop-holds Inv-loop μ-loop
 loop-holds c =
-    let next = c .next-marked .ensures in
+    let next = c .far-marked .ensures in
     (λ m. moved-skip m (moved-start m) next, omega arith, next .within, next .found)
 
 row-from-requires : tie.Need-row-from-requires Inv-loop μ-loop
@@ -44,18 +44,18 @@ count-cell-requires c κs =
     let going = c .before .before .loop-test .taken in
     cell-countable pre (l .inv .0 pre) going (l .inv .3 going) (own (c .before))
 
-add-next-marked : tie.Need-add-next-marked Inv-loop μ-loop
-add-next-marked c = omega (arith, c .before .before .before .before .before .loop-test .taken)
+add-far-marked : tie.Need-add-far-marked Inv-loop μ-loop
+add-far-marked c = omega (arith, c .before .before .before .before .before .loop-test .taken)
 
-next-marked-requires-2 : tie.Need-next-marked-requires-2 Inv-loop μ-loop
-next-marked-requires-2 c κs = omega (arith, c .before .before .before .before .before .loop-test .taken)
+far-marked-requires-2 : tie.Need-far-marked-requires-2 Inv-loop μ-loop
+far-marked-requires-2 c κs = omega (arith, c .before .before .before .before .before .loop-test .taken)
 
 loop-less : tie.Need-loop-less Inv-loop μ-loop
-loop-less c = omega (arith, c .next-marked2 .ensures .onward, c .before .before .before .before .before .before .loop-test .taken)
+loop-less c = omega (arith, c .far-marked2 .ensures .onward, c .before .before .before .before .before .before .loop-test .taken)
 
 loop-again : tie.Need-loop-again Inv-loop μ-loop
 loop-again c =
-    let next = c .next-marked2 .ensures in
+    let next = c .far-marked2 .ensures in
     let called = c .before .before .before .before .before in
     let going = called .before .loop-test .taken in
     let l = called .before .before .loop in (
@@ -84,8 +84,8 @@ move-counts-spec =
     mul-count-cell
     add-count-cell
     count-cell-requires
-    add-next-marked
-    next-marked-requires-2
+    add-far-marked
+    far-marked-requires-2
     loop-less
     loop-again
     same-length
