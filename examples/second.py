@@ -4,7 +4,8 @@
 FOLDER is an example's folder in which its command has been run. The lines of its command that call run_rule say what is run; the reports and
 the grids that they wrote are compared with those of the second program. A resumed run is compared as the rest of the run before it: the second
 program runs the steps of both at once. A list of changes that was written must lead to the grid too: the second program sets it into the grid
-that was given, and must get the grid that was left. What is said of zeros is counted again in the second program's grid.
+that was given, and must get the grid that was left. What is said of zeros is counted again in the second program's grid. What check_one_move
+says of a rule is held to what the second program says of it.
 """
 
 import json
@@ -24,13 +25,18 @@ def bytes_of(path):
         return list(file.read())
 
 
+def second_says(root, *words, given=None):
+    """What the second program writes."""
+    command = ["cargo", "run", "--quiet", "--release", "--offline", "--manifest-path", os.path.join(root, "reference/Cargo.toml"), "--", *words]
+    return subprocess.run(command, check=True, capture_output=True, input=given).stdout.decode()
+
+
 def second_run(root, case):
     """What the second program says of a run: the reports, each as its numbers by their names, and the grid."""
     with tempfile.NamedTemporaryFile("w", suffix=".json") as file:
         json.dump(case, file)
         file.flush()
-        command = ["cargo", "run", "--quiet", "--release", "--offline", "--manifest-path", os.path.join(root, "reference/Cargo.toml"), "--", "run", file.name]
-        said = subprocess.run(command, check=True, capture_output=True, text=True).stdout
+        said = second_says(root, "run", file.name)
     lines = {line.split()[0]: line.split()[1:] for line in said.splitlines()}
     reports = {way: dict(zip(lines[way][0::2], lines[way][1::2])) for way in ("full", "quiet")}
     return reports, [int(word) for word in lines["grid"]]
@@ -75,6 +81,15 @@ def zeros_said(rule, shape, field, grid):
     return said + (", first in row %d" % (zeros[0] // row) if zeros else "")
 
 
+def profiles_agree(root, folder, lines, wrote):
+    """Whether the lines of a command that call check_one_move wrote what the second program says of these rules, up to the rule that is missed, and
+    where that is the first with the refusal."""
+    rules = [line.split("<")[1].strip() for line in lines if line.startswith("check_one_move ")]
+    said = [line for line in wrote.splitlines() if re.match("in the profile$|misses rule ", line)]
+    seconds = [second_says(root, "profile", given=bytes(bytes_of(os.path.join(folder, rule)))).rstrip() for rule in rules]
+    return len(said) == len(seconds) and all(line == second or line.startswith(second + ":") for line, second in zip(said, seconds))
+
+
 def joined(earlier, later):
     """A run and the one that resumes it, each a case with its report, as one run."""
     case = dict(earlier[0], steps=earlier[0]["steps"] + later[0]["steps"], values=earlier[0]["values"] + later[0]["values"])
@@ -84,10 +99,15 @@ def joined(earlier, later):
 
 def main(root, folder):
     with open(os.path.join(folder, "command")) as file:
-        # a call whose arguments are not taken says so on standard error, and has no report
-        calls = [line.split()[1:] for line in file if line.startswith("run_rule ") and "2>&1" not in line]
+        lines = file.readlines()
+    # a call whose arguments are not taken says so on standard error, and has no report
+    calls = [line.split()[1:] for line in lines if line.startswith("run_rule ") and "2>&1" not in line]
     with open(os.path.join(folder, "wrote")) as file:
-        texts = re.split(r"^(?=reply )", file.read(), flags=re.M)[1:]
+        wrote = file.read()
+    texts = re.split(r"^(?=reply )", wrote, flags=re.M)[1:]
+    if not profiles_agree(root, folder, lines, wrote):
+        print("the second program says something else of a rule")
+        return 1
     if len(texts) != len(calls):
         print("%d reports of %d calls" % (len(texts), len(calls)))
         return 1

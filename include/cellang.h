@@ -1,6 +1,6 @@
 /*
  * Checking and running correction rules written in Cellang, setting and writing values by timed lists, pausing and resuming runs,
- * counting the zeros of rows, and comparing grids.
+ * counting the zeros of rows, telling rules that move a pixel once, and comparing grids.
  *
  * Link libcellang.a (x86-64 Linux). It needs memset and memcpy and nothing else, allocates nothing and keeps
  * nothing between calls; calls on different memory may run at the same time. A run takes about
@@ -67,7 +67,7 @@ enum cellang_kind {
 /*
  * What a call gives back. 1, then 2, are tried before any token; then the smallest place wins, then
  * the lowest number, where 40 to 45 stand between 9 and 12. 20 to 24 are tried in this order once the source is accepted, then 61
- * in a run with row counts, and then 50 to 56
+ * in a run with row counts, and then 50 to 56 and 58
  * on the lines of a value list: the lowest line wins, then the lowest number. "At" says which
  * byte of the source the place names, where the end of the source stands at its length; where
  * nothing is said the place is 0.
@@ -123,6 +123,7 @@ enum cellang_reply {
     CELLANG_LIST_TIME_NOT_RISING = 54,    /* a time that is not above the time before it */
     CELLANG_LIST_TIME_BEFORE_START = 55,  /* a time below start */
     CELLANG_LIST_TIME_PAST_END = 56,      /* a time above start plus steps */
+    CELLANG_LIST_MOVED_ZERO = 58,         /* a value for `moved` that is 0, in a rule that moves a pixel once */
 
     /* the source and both grids are accepted, but the writer writes nothing */
     CELLANG_ROOM_TOO_SHORT = 57, /* the room is shorter than the text */
@@ -143,6 +144,7 @@ enum cellang_reply {
  *   20 to 24  the program, then zero  as it was                 as they were
  *   61        the program, then zero  as it was                 as they were
  *   50 to 56  the program, then zero  as it was                 as they were
+ *   58        the program, then zero  as it was                 as they were
  *   30 to 33  the program, then zero  after the steps done      zero
  *   0         the program, then zero  after all steps           zero, even after 0 steps
  *
@@ -185,6 +187,45 @@ uint32_t cellang_check(
     uint32_t *names, size_t names_length,
     uint32_t *reply, size_t reply_length);
 
+/* ---- rules that move a pixel once */
+
+/*
+ * A source is in this profile if
+ *
+ *   1. it is accepted;
+ *   2. it has a named field `moved` that is not const and whose range is 0..1;
+ *   3. it has one statement, constants aside: `if cell.moved = 0 then` .. `end`, without `elsif` and `else`, whose last statement, constants
+ *      aside, is `cell.moved := 1`. Both are exactly these tokens; letter case does not matter.
+ *
+ * Then in every run a cell whose `moved` is 1 never changes in a later step and never faults, and after one completed step `moved` is 1 in every
+ * cell and no later step changes anything; of cellang_run_resuming this is said where joined calls lead back to cellang_run_pausing. The blocks of
+ * a value list may set other fields of any cell at any time, and `moved` to 1. A run of such a source refuses a list that gives `moved` 0, however
+ * it is spelled, with 58; a missing value is none.
+ */
+enum cellang_profile {
+    CELLANG_MOVES_ONCE = 0,         /* the source is in the profile */
+    CELLANG_MISSES_ACCEPTANCE = 1,  /* rule 1 is missed: the source is refused */
+    CELLANG_MISSES_FLAG = 2,        /* rule 2 is missed */
+    CELLANG_MISSES_STATEMENT = 3    /* rule 3 is missed */
+};
+
+/* The entries that tell whether a source is in the profile. Where fewer are lent, the first ones are told; any others stay. */
+enum cellang_profile_entry {
+    CELLANG_PROFILE_RULE = 0,   /* a cellang_profile: the first rule that is missed, or 0 */
+    CELLANG_PROFILE_NUMBER = 1, /* where rule 1 is missed, the number that refuses the source; else 0 */
+    CELLANG_PROFILE_PLACE = 2,  /* its place */
+    CELLANG_PROFILE_LENGTH = 3  /* entries in all */
+};
+
+/* Tells whether a source is in the profile. Gives 0, or the first rule that it misses. Words and names are left as cellang_check leaves them, also
+ * where rule 2 or 3 is missed. */
+uint32_t cellang_check_one_move(
+    const uint8_t *source, size_t source_length,
+    const uint8_t *list, size_t list_length,
+    uint32_t *words, size_t words_length,
+    uint32_t *names, size_t names_length,
+    uint32_t *told, size_t told_length);
+
 /* ---- running */
 
 /* The entries that tell a run. Where fewer are lent, the first ones are told; any others stay. */
@@ -197,7 +238,7 @@ enum cellang_report_entry {
     CELLANG_REPORT_SPELLING = 5,        /* where the spelling stands: a cellang_spelling */
     CELLANG_REPORT_SPELLING_START = 6,  /* its first byte */
     CELLANG_REPORT_SPELLING_LENGTH = 7, /* its length in bytes */
-    CELLANG_REPORT_LINE = 8,            /* the refused line of the value list, from 1, at 50 to 56; else 0 */
+    CELLANG_REPORT_LINE = 8,            /* the refused line of the value list, from 1, at 50 to 56 and 58; else 0 */
     CELLANG_REPORT_LENGTH = 9           /* entries in all */
 };
 
@@ -255,7 +296,7 @@ uint32_t cellang_run_quiet(
  * The list of 0 bytes has no line and passes.
  *
  * Both calls are as those without _list, and set the blocks of the list: each before the step at its time, or after the last step where it
- * is start plus steps; the lines of a block in order. The whole list is checked before the run begins, behind 20 to 24. A list that is refused, 50 to 56,
+ * is start plus steps; the lines of a block in order. The whole list is checked before the run begins, behind 20 to 24. A list that is refused, 50 to 56 or 58,
  * leaves grid, scratch and marks as they were, and is told with its line: CELLANG_REPORT_LINE, from 1.
  */
 uint32_t cellang_run_full_list(
@@ -471,7 +512,9 @@ enum cellang_written_entry {
  * 57; this and every other refusal leaves the room as it was. A room of CELLANG_MOST_TIME_LINE bytes and CELLANG_MOST_CELL_LINE for each cell that
  * differs is always long enough.
  *
- * A run with the text as its value list, on the earlier grid and with 0 steps from the time on, leaves the later grid.
+ * A run with the text as its value list, on the earlier grid and with 0 steps from the time on, leaves the later grid. In a rule that moves a
+ * pixel once a `moved` that is 0 in the later grid is left missing, its comma and spaces kept; there this holds if no cell has 1 for `moved` in
+ * the earlier grid and 0 in the later.
  */
 uint32_t cellang_write_list(
     const uint8_t *source, size_t source_length,

@@ -392,6 +392,23 @@ use Rattle.cellang.proofs.AnswerRow.{OutRow, ReplyRow, reply-mach, out-
         'may': 'e .few',
     },
     {
+        'module': 'profiling', 'fn': 'check_one_move', 'core': 'profiled', 'answer': 'profile', 'outcome': 'ProfileAnswer',
+        'params': [('shr', 'u8'), ('shr', 'u8'), ('mut', 'u32'), ('names', 'Row')],
+        'vals': '', 'plains': '', 'signed': '', 'builtins': '', 'integers': '',
+        'uses': '''
+use Rattle.records.specs.declared.Name.{Name}
+use Rattle.cellang.specs.declared.profiling.ProfileAnswer.{ProfileAnswer}
+use Rattle.cellang.specs.Left.{lent-rows-fit}
+use Rattle.cellang.specs.Promises.{ProfilesOver, ProfilesRows}
+use Rattle.cellang.proofs.profiling.ProfileAnswer.Laws as O′
+use Rattle.records.proofs.NameRow.{Row, vals, makes}
+use Rattle.cellang.proofs.ProfileAnswerRow.{OutRow, ProfileRow, profile-mach, out-tells, rows-is, count-fits, profile-is, profile-makes, out-typed, profile-typed}''',
+        'said': 'ProfilesOver (lent-rows-fit v1 (length v2) (length v3)) v0 v2 (length v3) r z2',
+        'final': 'ProfilesRows (lent-rows-fit v1 (length v2) (length v3)) v0 v2 v3 (r .profile) z2 ns',
+        'proof': 'record { answer = e .answer; words = e .words; names = h ∙ e .stores v3 refl }',
+        'may': 'e .few',
+    },
+    {
         'module': 'running', 'fn': 'run', 'core': 'ran', 'answer': 'report', 'outcome': 'RunAnswer',
         'params': [('shr', 'u8'), ('shr', 'u8'), ('mut', 'u32'), ('names', 'Row'), ('shr', 'u32'), ('mut', 'i32'), ('mut', 'i32'), ('mut', 'u8'), ('shr', 'u8'), ('sint', 'w64'), ('sint', 'w64'), ('enum', 'Manner'), ('mut', 'u32'), ('bool', ''), ('uint', 'w32')],
         'vals': ', vbool, ofZ', 'plains': ', uint-vals, uint-tells, uint-lawful, bool-vals, bool-tells, bool-makes, bool-lawful', 'signed': 'use denote.Signed.{sint-vals, sint-tells, sint-makes, sint-lawful}\n',
@@ -414,7 +431,7 @@ use Rattle.records.proofs.NameRow.{Row, vals, makes}
 use Rattle.cellang.proofs.MannerRow.{MannerRow, manner-val, manner-vals, manner-tells, manner-makes, manner-lawful}
 use Rattle.cellang.proofs.RunAnswerRow.{OutRow, ReportRow, report-mach, out-tells, rows-is, count-fits, report-is, report-makes, out-typed, report-typed}''',
         'said': f'RunsOver (manner-of v11 v7) (length v3) (λ m. {LENT.format("m")}) r (λ m. {EXIT.format("m")})',
-        'final': f'RunLeaves row-names (manner-of v11 v7) {LENT.format("v3")} (r .report) {EXIT.format("ns")} × AgreesFresh v11 (told (r .report) z5) (run-report row-names full {LENT.format("v3")}) × RangesKept (read-lent row-names {LENT.format("v3")}) (asked {LENT.format("v3")}) z5',
+        'final': f'RunLeaves row-names (manner-of v11 v7) {LENT.format("v3")} (r .report) {EXIT.format("ns")} × AgreesFresh v11 (told (r .report) z5) (run-report row-names full {LENT.format("v3")}) × RangesKept v0 (read-lent row-names {LENT.format("v3")}) (asked {LENT.format("v3")}) z5',
         'proof': f'let left = subst (λ m. RunLeaves row-names (manner-of v11 v7) {LENT.format("v3")} (r .report) {EXIT.format("m")}) (sym h) (e .stores v3 refl) in (left, run-agrees row-names v11 {LENT.format("v3")} left, run-ranges row-names (manner-of v11 v7) {LENT.format("v3")} left)',
         'may': 'e .few',
     },

@@ -390,7 +390,7 @@ use Rattle.cellang.specs.Left.{row-names}
 use Rattle.cellang.proofs.MannerRow.{MannerRow, manner-val, manner-vals, manner-tells, manner-makes, manner-lawful}
 use Rattle.cellang.proofs.RunAnswerRow.{ReportRow}
 use Rattle.naming.specs.declared.Ran.{Ran}''',
-        'said': f'RunLeaves row-names (manner-of v11 v7) {LENT.format("v3")} r {EXIT.format("ns")} × AgreesFresh v11 (told r z5) (run-report row-names full {LENT.format("v3")}) × RangesKept (read-lent row-names {LENT.format("v3")}) (asked {LENT.format("v3")}) z5',
+        'said': f'RunLeaves row-names (manner-of v11 v7) {LENT.format("v3")} r {EXIT.format("ns")} × AgreesFresh v11 (told r z5) (run-report row-names full {LENT.format("v3")}) × RangesKept v0 (read-lent row-names {LENT.format("v3")}) (asked {LENT.format("v3")}) z5',
         'final': f'RunLeaves row-names (manner-of v11 v7) {LENT.format("v3")} r {EXIT.format("ns")}',
         'proof': 'e .0',
     },

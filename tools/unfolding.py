@@ -15,8 +15,9 @@ DEFINITIONS = [
     ("token", ["Bytes", "Kind", "Lexeme", "Scanning"]),
     ("names", ["Names"]),
     ("grammar", ["Complaint", "Reader", "Constants", "Expressions", "Statements", "Source", "Checking"]),
-    ("semantics", ["Operators", "Evaluation", "Written", "Places"]),
+    ("semantics", ["Operators", "Evaluation", "Written", "Places", "Stands"]),
     ("stepper", ["Reach", "Admission", "Report"]),
+    ("one_move", ["Profile"]),
     ("lists", ["Text", "Lines", "ListChecking", "Setting"]),
     ("services", ["Running", "Services"]),
 ]

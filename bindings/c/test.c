@@ -1,5 +1,5 @@
 /* Calls the library from C: the marked examples M1 to M13, spellings, value lists and their writer, runs that are paused and resumed,
- * row counts, comparisons of grids, and what the lent memory holds afterwards. */
+ * row counts, rules that move a pixel once, comparisons of grids, and what the lent memory holds afterwards. */
 #ifndef _DEFAULT_SOURCE
 #define _DEFAULT_SOURCE /* for mmap of memory without a file */
 #endif
@@ -213,6 +213,11 @@ static void another_list(void) {
         expect(cellang_check((const uint8_t *)source, strlen(source), list, strlen(lists[i]), words, CELLANG_WORDS, names,
                              CELLANG_NAME_WORDS, reply, CELLANG_REPLY_LENGTH) == CELLANG_ROOM_LENGTH, "another list");
         expect(memcmp(reply, told, sizeof told) == 0, "another list is told");
+        expect(cellang_check_one_move((const uint8_t *)source, strlen(source), list, strlen(lists[i]), words, CELLANG_WORDS, names,
+                                      CELLANG_NAME_WORDS, reply, CELLANG_PROFILE_LENGTH) == CELLANG_MISSES_ACCEPTANCE,
+               "another list beside a rule that moves a pixel once");
+        expect(reply[CELLANG_PROFILE_RULE] == CELLANG_MISSES_ACCEPTANCE && reply[CELLANG_PROFILE_NUMBER] == CELLANG_ROOM_LENGTH
+                   && reply[CELLANG_PROFILE_PLACE] == 0, "another list beside such a rule is told");
         for (size_t k = 0; k < 2; k++) {
             expect(runs[k]((const uint8_t *)source, strlen(source), list, strlen(lists[i]), words, CELLANG_WORDS, names,
                            CELLANG_NAME_WORDS, shape, 1, grid, 1, scratch, 1, marks, 1, 0, 1, report, CELLANG_REPORT_LENGTH)
@@ -258,6 +263,8 @@ static void lengths(void) {
     expect(reply[0] == CELLANG_SOURCE_TOO_LONG && reply[1] == 0, "one entry is told");
     expect(all_bytes(words, sizeof words, UNTOUCHED) && all_bytes(names, sizeof names, UNTOUCHED), "1 and 2 touch nothing");
     expect(cellang_check(NULL, 0, NULL, 0, NULL, 0, NULL, 0, NULL, 0) == CELLANG_ROOM_LENGTH, "nothing lent");
+    expect(cellang_check_one_move(NULL, 0, NULL, 0, NULL, 0, NULL, 0, NULL, 0) == CELLANG_MISSES_ACCEPTANCE,
+           "nothing lent beside a rule that moves a pixel once");
     expect(cellang_run_quiet(NULL, 0, NULL, 0, NULL, 0, NULL, 0, NULL, 0, NULL, 0, NULL, 0, NULL, 0, 0, 0, NULL, 0)
                == CELLANG_ROOM_LENGTH, "nothing lent to a run");
     expect(cellang_run_full_list(NULL, 0, NULL, 0, NULL, 0, NULL, 0, NULL, 0, NULL, 0, NULL, 0, NULL, 0, NULL, 0, 0, 0, NULL, 0)
@@ -658,7 +665,7 @@ static void pauses(void) {
 
 #define MOST_ROWS 6
 #define COUNTED_PLANE "2 dimensions of 0..1"
-#define PIXELS "2 dimensions of a of 0..9 moved of 0..1 end if cell.moved = 0 then cell.a := [0,1].a cell.moved := 1 end"
+#define PIXELS "2 dimensions of a of 0..9 m of 0..1 end if cell.m = 0 then cell.a := [0,1].a cell.m := 1 end"
 
 /* A run with row counts from time 0 on, and what it is to leave. Of a refusal the counts are to be as they were. */
 struct counting {
@@ -931,6 +938,151 @@ static void writings(void) {
     }
 }
 
+/* ---- rules that move a pixel once */
+
+#define MOVING_FIELDS "2 dimensions of c of 0..9 moved of 0..1 d of 0..1 end "
+#define MOVING MOVING_FIELDS "if cell.moved = 0 then cell.c := [0,1].c cell.moved := 1 end"
+#define MOVING_ENTRIES 12
+
+/* Tells whether a source is in the profile, into any number of entries; words and names are left as a check leaves them. */
+static void expect_profile(const char *source, uint32_t rule, uint32_t number, uint32_t place) {
+    static uint32_t words_of_check[CELLANG_WORDS], names_of_check[CELLANG_NAME_WORDS];
+    const uint32_t told[CELLANG_PROFILE_LENGTH] = {rule, number, place};
+    memset(words_of_check, UNTOUCHED, sizeof words_of_check);
+    memset(names_of_check, UNTOUCHED, sizeof names_of_check);
+    cellang_check((const uint8_t *)source, strlen(source), LIST, words_of_check, CELLANG_WORDS, names_of_check, CELLANG_NAME_WORDS,
+                  NULL, 0);
+    for (size_t lent = 0; lent <= CELLANG_PROFILE_LENGTH + 1; lent++) {
+        uint32_t given[CELLANG_PROFILE_LENGTH + 1] = {UNTOUCHED, UNTOUCHED, UNTOUCHED, UNTOUCHED};
+        memset(words, UNTOUCHED, sizeof words);
+        memset(names, UNTOUCHED, sizeof names);
+        expect(cellang_check_one_move((const uint8_t *)source, strlen(source), LIST, words, CELLANG_WORDS, names, CELLANG_NAME_WORDS,
+                                      given, lent) == rule, source);
+        for (size_t i = 0; i <= CELLANG_PROFILE_LENGTH; i++) {
+            expect(given[i] == (i < lent && i < CELLANG_PROFILE_LENGTH ? told[i] : UNTOUCHED), source);
+        }
+        expect(memcmp(words, words_of_check, sizeof words) == 0 && memcmp(names, names_of_check, sizeof names) == 0, source);
+    }
+}
+
+static void profiles(void) {
+    expect_profile(MOVING, CELLANG_MOVES_ONCE, 0, 0);
+    expect_profile("CONST one := 1 1 dimensions of a, Moved of -0..ONE end const k := 1 IF Cell . MOVED = 0#\nthen const l := 2 x := [l].a "
+                   "cell.moved := 1 const m := 3 end const n[] for 2 := 1, -1", CELLANG_MOVES_ONCE, 0, 0);
+    expect_profile("", CELLANG_MISSES_ACCEPTANCE, CELLANG_NOT_ALLOWED, 0);
+    expect_profile(S "x := y", CELLANG_MISSES_ACCEPTANCE, CELLANG_NAME_UNKNOWN, 26);
+    expect_profile(MOVING " end", CELLANG_MISSES_ACCEPTANCE, CELLANG_NOT_ALLOWED, (uint32_t)strlen(MOVING " "));
+    expect_profile("1 dimensions of const moved of 0..1 end if cell.moved = 0 then cell.moved := 1 end", CELLANG_MISSES_ACCEPTANCE,
+                   CELLANG_NAME_USED, 68);
+    expect_profile(S, CELLANG_MISSES_FLAG, 0, 0);
+    expect_profile(S "if cell = 0 then cell := 1 end", CELLANG_MISSES_FLAG, 0, 0);
+    expect_profile("1 dimensions of moved of 0..2 end if cell.moved = 0 then cell.moved := 1 end", CELLANG_MISSES_FLAG, 0, 0);
+    expect_profile("1 dimensions of const moved of 0..1 end if cell.moved = 0 then end", CELLANG_MISSES_FLAG, 0, 0);
+    expect_profile("1 dimensions of mo_ved of 0..1 end if cell.mo_ved = 0 then cell.mo_ved := 1 end", CELLANG_MISSES_FLAG, 0, 0);
+    expect_profile(MOVING_FIELDS, CELLANG_MISSES_STATEMENT, 0, 0);
+    expect_profile(MOVING " x := 1", CELLANG_MISSES_STATEMENT, 0, 0);
+    expect_profile(MOVING_FIELDS "if cell.moved = 00 then cell.moved := 1 end", CELLANG_MISSES_STATEMENT, 0, 0);
+    expect_profile(MOVING_FIELDS "if 0 = cell.moved then cell.moved := 1 end", CELLANG_MISSES_STATEMENT, 0, 0);
+    expect_profile(MOVING_FIELDS "if (cell.moved = 0) then cell.moved := 1 end", CELLANG_MISSES_STATEMENT, 0, 0);
+    expect_profile(MOVING_FIELDS "if [0,0].moved = 0 then cell.moved := 1 end", CELLANG_MISSES_STATEMENT, 0, 0);
+    expect_profile(MOVING_FIELDS "if cell.moved = 0 then cell.moved := 1 else end", CELLANG_MISSES_STATEMENT, 0, 0);
+    expect_profile(MOVING_FIELDS "if cell.moved = 0 then cell.moved := 1 elsif 1 then end", CELLANG_MISSES_STATEMENT, 0, 0);
+    expect_profile(MOVING_FIELDS "if cell.moved = 0 then cell.moved := 1 when 1 end", CELLANG_MISSES_STATEMENT, 0, 0);
+    expect_profile(MOVING_FIELDS "if cell.moved = 0 then if 1 then cell.moved := 1 end end", CELLANG_MISSES_STATEMENT, 0, 0);
+    expect_profile("const one := 1 " MOVING_FIELDS "if cell.moved = 0 then cell.moved := one end", CELLANG_MISSES_STATEMENT, 0, 0);
+}
+
+/* Runs with a list from time 3 on, 2 steps, on a row of four cells; a refusal leaves all but words and names. */
+static void expect_moving(const char *source, const char *list, uint32_t number, uint64_t line) {
+    static const int32_t before[MOVING_ENTRIES] = {1, 0, 0, 2, 1, 0, 3, 0, 1, 4, 1, 1};
+    const uint64_t refused[CELLANG_REPORT_LENGTH] = {number, 0, 0, 0, 0, 0, 0, 0, line};
+    const uint32_t shape[] = {1, 4};
+    for (size_t k = 0; k < 2 * LIST_RUNS; k++) {
+        uint64_t report[CELLANG_REPORT_LENGTH];
+        int32_t row[MOVING_ENTRIES], row_scratch[MOVING_ENTRIES];
+        uint8_t row_marks[4];
+        uint32_t given, counts[1] = {UNTOUCHED};
+        memcpy(row, before, sizeof row);
+        memset(row_scratch, UNTOUCHED, sizeof row_scratch);
+        memset(row_marks, UNTOUCHED, sizeof row_marks);
+        if (k < LIST_RUNS) {
+            given = list_runs[k]((const uint8_t *)source, strlen(source), LIST, words, CELLANG_WORDS, names, CELLANG_NAME_WORDS, shape, 2,
+                                 row, MOVING_ENTRIES, row_scratch, MOVING_ENTRIES, row_marks, 4, (const uint8_t *)list, strlen(list), 3, 2,
+                                 report, CELLANG_REPORT_LENGTH);
+        } else {
+            given = count_runs[k - LIST_RUNS]((const uint8_t *)source, strlen(source), LIST, words, CELLANG_WORDS, names,
+                                              CELLANG_NAME_WORDS, shape, 2, row, MOVING_ENTRIES, row_scratch, MOVING_ENTRIES, row_marks, 4,
+                                              (const uint8_t *)list, strlen(list), 3, 2, counts, 1, 1, report, CELLANG_REPORT_LENGTH);
+        }
+        expect(given == number && report[CELLANG_REPORT_LINE] == line, list);
+        if (number == CELLANG_DONE) {
+            expect(report[CELLANG_REPORT_STEPS] == 2, list);
+            continue;
+        }
+        expect(memcmp(report, refused, sizeof report) == 0 && memcmp(row, before, sizeof row) == 0, list);
+        expect(all_bytes(row_scratch, sizeof row_scratch, UNTOUCHED) && all_bytes(row_marks, sizeof row_marks, UNTOUCHED), list);
+        expect(counts[0] == UNTOUCHED, list);
+    }
+}
+
+/* The first step moves what has not moved, and no later one changes anything. */
+static void expect_settled(void) {
+    const uint32_t shape[] = {1, 4};
+    const int32_t after[MOVING_ENTRIES] = {2, 1, 0, 2, 1, 0, 4, 1, 1, 4, 1, 1};
+    for (int64_t steps = 1; steps <= 4; steps++) {
+        for (size_t k = 0; k < LIST_RUNS; k++) {
+            int32_t row[MOVING_ENTRIES] = {1, 0, 0, 2, 1, 0, 3, 0, 1, 4, 1, 1}, row_scratch[MOVING_ENTRIES];
+            uint8_t row_marks[4] = {1, 1, 1, 1};
+            expect(list_runs[k]((const uint8_t *)MOVING, strlen(MOVING), LIST, words, CELLANG_WORDS, names, CELLANG_NAME_WORDS, shape, 2,
+                                row, MOVING_ENTRIES, row_scratch, MOVING_ENTRIES, row_marks, 4, NULL, 0, 0, steps, NULL, 0)
+                       == CELLANG_DONE, "a rule that moves a pixel once");
+            expect(memcmp(row, after, sizeof row) == 0, "what moved stays");
+        }
+    }
+}
+
+/* Writes the last of four cells, whose values are 5 for c, 0 for moved and 1 for d, in the order of the fields. */
+static void expect_shown(const char *fields, const int32_t *last, size_t count, int32_t falls, const char *end) {
+    const uint32_t shape[] = {1, 4};
+    int32_t earlier[MOVING_ENTRIES] = {0}, later[MOVING_ENTRIES] = {0};
+    char source[200], text[MOST_ROOM];
+    const size_t entries = 4 * count;
+    memcpy(later + 3 * count, last, count * sizeof *last);
+    earlier[entries - 1] = falls;
+    snprintf(source, sizeof source, "2 dimensions of %s end if cell.moved = 0 then cell.moved := 1 end", fields);
+    snprintf(text, sizeof text, "40\n[0, 3] = %s\n", end);
+    expect_written(end, source, shape, 2, earlier, entries, later, entries, 40, strlen(text), CELLANG_DONE, 0, text);
+    expect_written(end, source, shape, 2, earlier, entries, later, entries, 40, strlen(text) + 2, CELLANG_DONE, 0, text);
+    expect_written(end, source, shape, 2, earlier, entries, later, entries, 40, strlen(text) - 1, CELLANG_ROOM_TOO_SHORT, 0, "");
+    if (!falls) {
+        expect_read_back(source, shape, 2, earlier, later, entries, 4, 40);
+    }
+}
+
+static void one_move(void) {
+    const int32_t middle[] = {5, 0, 1}, first[] = {0, 5}, last[] = {5, 0}, alone[] = {0};
+    profiles();
+    expect_moving(MOVING, "", CELLANG_DONE, 0);
+    expect_moving(MOVING, "3\n[0, 0] = 5\n4\n[0, 1] = , , 1\n5\n[0, 2] = 0, 1, 0\n", CELLANG_DONE, 0);
+    expect_moving(MOVING, "3\n[0, 0] = 5, 0\n", CELLANG_LIST_MOVED_ZERO, 2);
+    expect_moving(MOVING, "3\n[0, 0] = 5, -0, 1\n", CELLANG_LIST_MOVED_ZERO, 2);
+    expect_moving(MOVING, "3\n[0, 1] = , 00\n", CELLANG_LIST_MOVED_ZERO, 2);
+    expect_moving(MOVING, "3\n4\n5\n[0, 1] = , 0\n6\n", CELLANG_LIST_MOVED_ZERO, 4);
+    expect_moving(MOVING, "3\n[0, 0] = 5, 0 x\n", CELLANG_LIST_BAD_LINE, 2);
+    expect_moving(MOVING, "3\n[0, 4] = 5, 0\n", CELLANG_LIST_OUTSIDE_GRID, 2);
+    expect_moving(MOVING, "3\n[0, 0] = 5, 0, 1, 1\n", CELLANG_LIST_TOO_MANY_VALUES, 2);
+    expect_moving(MOVING, "3\n[0, 0] = 5, 0, 2\n", CELLANG_LIST_VALUE_OUT_OF_RANGE, 2);
+    expect_moving(MOVING, "3\n[0, 0] = 10\n[0, 0] = 5, 0\n", CELLANG_LIST_VALUE_OUT_OF_RANGE, 2);
+    expect_moving(MOVING, "3\n[0, 0] = 5, 0\n3\n", CELLANG_LIST_MOVED_ZERO, 2);
+    expect_moving(MOVING " x := 1", "3\n[0, 0] = 5, 0\n", CELLANG_DONE, 0);
+    expect_settled();
+    expect_shown("c of 0..9 moved of 0..1 d of 0..1", middle, 3, 0, "5, , 1");
+    expect_shown("moved of 0..1 c of 0..9", first, 2, 0, ", 5");
+    expect_shown("c of 0..9 moved of 0..1", last, 2, 0, "5, ");
+    expect_shown("c of 0..9 moved of 0..1", last, 2, 1, "5, ");
+    expect_shown("moved of 0..1", alone, 1, 1, "");
+}
+
 /* ---- comparing */
 
 #define MOST_LISTED 3
@@ -995,6 +1147,7 @@ int main(void) {
     pauses();
     row_counts();
     writings();
+    one_move();
     comparisons();
     printf("%d passed, %d failed\n", passed, failed);
     return failed != 0;

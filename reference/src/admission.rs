@@ -3,6 +3,7 @@
 
 use crate::lists::{read_list, Block, Limits};
 use crate::names::MAX_NAMES;
+use crate::one_move::flag;
 use crate::parse::check;
 use crate::spelling::BUILT_IN;
 use crate::tree::Program;
@@ -47,6 +48,18 @@ pub struct Read<'a> {
     pub list: &'a [u8],
     pub words: usize,
     pub names: usize,
+}
+
+impl Read<'_> {
+    /// A source, with all that is lent beside it as it has to be.
+    pub fn of(source: &[u8]) -> Read<'_> {
+        Read {
+            source,
+            list: BUILT_IN,
+            words: WORDS,
+            names: MAX_NAMES,
+        }
+    }
 }
 
 /// The program of a source that is accepted.
@@ -188,6 +201,7 @@ pub fn admit_counted(
     let limits = Limits {
         sizes: lent.shape,
         fields: &program.fields,
+        flag: flag(lent.source, &program),
         start: lent.start,
         steps: lent.steps,
     };

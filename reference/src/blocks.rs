@@ -3,6 +3,7 @@
 
 use crate::case::RunCase;
 use crate::interpret::step;
+use crate::one_move::flag;
 use crate::random::Random;
 use crate::tree::Program;
 
@@ -17,6 +18,8 @@ struct Maker<'a> {
     random: &'a mut Random,
     program: &'a Program,
     shape: &'a [u32],
+    /// The field that no line may give 0.
+    flag: Option<usize>,
     lines: Vec<Line>,
     /// The grid before the last step, and now.
     before: Vec<i32>,
@@ -37,7 +40,10 @@ impl Maker<'_> {
     }
 
     /// Adds a line, and sets it.
-    fn put(&mut self, cell: usize, values: Values) {
+    fn put(&mut self, cell: usize, mut values: Values) {
+        if let Some(value) = self.flag.and_then(|flag| values.get_mut(flag)) {
+            *value = value.filter(|&value| value != 0);
+        }
         let fields = self.program.fields.len();
         for (field, value) in values.iter().enumerate() {
             if let Some(value) = value {
@@ -156,6 +162,7 @@ pub fn lines(random: &mut Random, case: &RunCase, program: &Program) -> Vec<Line
         random,
         program,
         shape: &case.shape,
+        flag: flag(&case.source, program),
         lines: Vec::new(),
         before: case.grid.clone(),
         grid: case.grid.clone(),

@@ -3,6 +3,7 @@
 use crate::admission::{Lent, Report, WORDS};
 use crate::interpret::run_full;
 use crate::names::MAX_NAMES;
+use crate::one_move::{profile, Profile};
 use crate::open::run_quiet;
 use crate::parse::{check, Reply};
 use crate::spelling::{spelling, BUILT_IN};
@@ -132,6 +133,18 @@ pub fn check_line(reply: Reply) -> String {
     }
 }
 
+/// The line that `profile` writes.
+pub fn profile_line(profile: Profile) -> String {
+    match profile.rule {
+        0 => "in the profile\n".to_string(),
+        1 => format!(
+            "misses rule 1: refused {} at {}\n",
+            profile.number, profile.place
+        ),
+        rule => format!("misses rule {rule}\n"),
+    }
+}
+
 /// The reply lines of a run, full and quiet.
 pub fn run_lines(case: &RunCase) -> String {
     run_line(&run_case(case, false)) + &run_line(&run_case(case, true))
@@ -178,17 +191,30 @@ fn sum(words: impl Iterator<Item = u32>) -> u64 {
         .sum()
 }
 
-/// The answer to a check: the line of the reply, and a line with the sums of
-/// the word table and of the name list, which are zero of a refused source.
-pub fn check_answer(source: &[u8]) -> String {
-    let line = check_reply(source);
+/// The sums of the word table and of the name list, which are zero of a refused
+/// source.
+fn sums(source: &[u8]) -> [u64; 2] {
     let Some(program) = check(source).program else {
-        return line + "0 0\n";
+        return [0, 0];
     };
     let table = sum(program.table.into_iter().flatten());
     let names = program.names.iter();
     let names = sum(names.flat_map(|name| [name.start, name.length, name.kind, name.value as u32]));
-    format!("{line}{table} {names}\n")
+    [table, names]
+}
+
+/// The answer to a check: the line of the reply, and a line with the sums of
+/// what is left in memory, and with the numbers that tell whether the source is
+/// in the profile of 6/13.
+pub fn check_answer(source: &[u8]) -> String {
+    let line = check_reply(source);
+    let [table, names] = sums(source);
+    let Profile {
+        rule,
+        number,
+        place,
+    } = profile(source);
+    format!("{line}{table} {names} {rule} {number} {place}\n")
 }
 
 pub fn put_u32(out: &mut Vec<u8>, value: u32) {

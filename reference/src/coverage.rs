@@ -1,5 +1,7 @@
 //! How often generated cases show what they are generated for.
 
+mod moves;
+
 use crate::call_case::{Call, Left};
 use crate::case::{began, row_text, run_case, RunCase};
 use crate::chains::Chain;
@@ -10,6 +12,7 @@ use crate::places::places;
 use crate::rows::row_counts;
 use crate::vectors;
 use crate::write_case::write_case;
+use moves::{see_moving, see_near, see_shown};
 
 /// What was seen, in the order in which it is printed: how often, and whether
 /// it has to be seen or may not be.
@@ -255,7 +258,7 @@ fn see_counted(call: &Call, seen: &mut Seen) -> u32 {
         let bad = bare.made().report.number;
         seen.note("61 for the field alone", no_field && !no_rows);
         seen.note("61 for the number of counts alone", no_rows && !no_field);
-        seen.note("61 where the list is refused too", (50..=56).contains(&bad));
+        seen.note("61 where the list is refused too", (50..=58).contains(&bad));
     }
     if !left.began() {
         return number;
@@ -357,6 +360,21 @@ fn kinds(seed: u64, count: usize, seen: &mut Seen) -> Vec<Kind> {
             "counted",
             vectors::counted(seed, part, false).map(|call| see_counted(&call, seen)),
             &[0..=1, 20..=24, 30..=33, 50..=56, 61..=61],
+        ),
+        Kind::new(
+            "near",
+            vectors::near(seed, part, false).map(|source| see_near(&source, seen)),
+            &[0..=0, 7..=9, 12..=12],
+        ),
+        Kind::new(
+            "moving",
+            vectors::moving(seed, part, false).map(|call| see_moving(&call, seen)),
+            &[0..=1, 20..=24, 30..=33, 50..=56, 58..=58, 61..=61],
+        ),
+        Kind::new(
+            "shown",
+            vectors::shown(seed, part).map(|case| see_shown(&case, seen)),
+            &[0..=1, 20..=24, 57..=57],
         ),
     ]
 }

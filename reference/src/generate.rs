@@ -1,5 +1,9 @@
 //! Programs that are valid by the grammar and the rules for names.
 
+mod moving;
+
+pub use moving::moving;
+
 use crate::random::Random;
 
 /// What kind of program is wanted.
@@ -85,23 +89,29 @@ const POOL: [&str; 40] = [
 
 /// A program as a row of tokens.
 pub fn program(random: &mut Random, wish: Wish) -> Vec<String> {
-    let mut maker = Maker {
-        random,
-        wish,
-        out: Vec::new(),
-        dimensions: 1,
-        named: false,
-        fields: Vec::new(),
-        constants: Vec::new(),
-        arrays: Vec::new(),
-        variables: Vec::new(),
-        indices: Vec::new(),
-        depth: 0,
-        loops: 0,
-        records: 0,
-    };
+    let mut maker = Maker::new(random, wish);
     maker.all();
     maker.out
+}
+
+impl<'r> Maker<'r> {
+    fn new(random: &'r mut Random, wish: Wish) -> Maker<'r> {
+        Maker {
+            random,
+            wish,
+            out: Vec::new(),
+            dimensions: 1,
+            named: false,
+            fields: Vec::new(),
+            constants: Vec::new(),
+            arrays: Vec::new(),
+            variables: Vec::new(),
+            indices: Vec::new(),
+            depth: 0,
+            loops: 0,
+            records: 0,
+        }
+    }
 }
 
 impl Maker<'_> {
@@ -299,35 +309,49 @@ impl Maker<'_> {
         self.named = true;
         let wanted = [1, 1, 2, 2, 2, 3, 3, 4, 6, 8][self.random.below(10)];
         while self.fields.len() < wanted {
-            let constant = self.random.chance(20);
-            if constant {
-                self.put("const");
-            }
-            let group = (1 + self.random.below(3)).min(wanted - self.fields.len());
-            let (low, high) = self.range();
-            for number in 0..group {
-                let mut name = self.random.pick(&POOL).to_string();
-                while self.fields.iter().any(|field| field.name == name) {
-                    name = format!("f{}", self.random.below(99));
-                }
-                if number > 0 {
-                    self.put(",");
-                }
-                self.out.push(name.clone());
-                self.records += 1;
-                self.fields.push(MadeField {
-                    name,
-                    constant,
-                    low,
-                    high,
-                });
-            }
-            self.put("of");
-            self.signed(low);
-            self.put("..");
-            self.signed(high);
+            self.field_group(wanted);
         }
         self.put("end");
+    }
+
+    /// Some fields with a range in common, up to so many fields in all.
+    fn field_group(&mut self, wanted: usize) {
+        let constant = self.random.chance(20);
+        if constant {
+            self.put("const");
+        }
+        let group = (1 + self.random.below(3)).min(wanted - self.fields.len());
+        let (low, high) = self.range();
+        for number in 0..group {
+            if number > 0 {
+                self.put(",");
+            }
+            let name = self.field_name();
+            self.field(name, constant, low, high);
+        }
+        self.put("of");
+        self.signed(low);
+        self.put("..");
+        self.signed(high);
+    }
+
+    fn field_name(&mut self) -> String {
+        let mut name = self.random.pick(&POOL).to_string();
+        while self.fields.iter().any(|field| field.name == name) {
+            name = format!("f{}", self.random.below(99));
+        }
+        name
+    }
+
+    fn field(&mut self, name: String, constant: bool, low: i64, high: i64) {
+        self.out.push(name.clone());
+        self.records += 1;
+        self.fields.push(MadeField {
+            name,
+            constant,
+            low,
+            high,
+        });
     }
 
     // Statements.

@@ -11,6 +11,8 @@ use crate::tree::Field;
 pub struct Around<'a> {
     pub case: &'a RunCase,
     pub fields: &'a [Field],
+    /// The flag of a rule that moves a pixel once.
+    pub flag: Option<usize>,
 }
 
 type Cell<'a> = (&'a mut Vec<i64>, &'a mut Vec<Option<i64>>);
@@ -75,6 +77,14 @@ fn past_range(random: &mut Random, cell: &mut Cell, around: &Around) {
     cell.1[at] = Some(*random.pick(&near));
 }
 
+/// The flag is 0.
+fn not_moved(cell: &mut Cell, flag: usize) {
+    while cell.1.len() <= flag {
+        cell.1.push(None);
+    }
+    cell.1[flag] = Some(0);
+}
+
 /// A number on both sides of the greatest literal.
 fn greatest(random: &mut Random) -> i64 {
     GREATEST + random.between(-1, 2)
@@ -121,6 +131,12 @@ fn times(random: &mut Random, lines: &mut Vec<Line>, around: &Around) {
 
 /// Puts some line at a limit or past it.
 pub fn put_at_limit(random: &mut Random, lines: &mut Vec<Line>, around: &Around) {
+    if let Some(flag) = around.flag.filter(|_| random.chance(45)) {
+        not_moved(&mut some_cell(random, lines, around), flag);
+        if random.chance(60) {
+            return;
+        }
+    }
     let kind = random.below(18);
     if kind < 7 {
         return times(random, lines, around);

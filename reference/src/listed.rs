@@ -5,6 +5,7 @@ use crate::blocks::{blind_lines, lines, Line};
 use crate::case::{cells_of, RunCase};
 use crate::list_limits::{put_at_limit, Around};
 use crate::list_text::{write, Damage};
+use crate::one_move::flag;
 use crate::parse::check;
 use crate::random::Random;
 use crate::runs;
@@ -81,7 +82,10 @@ pub fn give_list(random: &mut Random, case: &mut RunCase, part: usize) {
             1 => damage = Damage::Lines,
             2 => damage = Damage::Bytes,
             _ => {
-                let around = Around { case, fields };
+                let flag = program
+                    .as_ref()
+                    .and_then(|program| flag(&case.source, program));
+                let around = Around { case, fields, flag };
                 put_at_limit(random, &mut row, &around);
                 while random.chance(15) {
                     put_at_limit(random, &mut row, &around);

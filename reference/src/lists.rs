@@ -37,11 +37,13 @@ impl Block {
 pub struct Limits<'a> {
     pub sizes: &'a [u32],
     pub fields: &'a [Field],
+    /// The field `moved` of a rule that moves a pixel once.
+    pub flag: Option<usize>,
     pub start: i64,
     pub steps: i64,
 }
 
-/// A refusal 50 to 56, with its line from 1.
+/// A refusal 50 to 56 or 58, with its line from 1.
 #[derive(Clone, Copy, PartialEq, Eq, Debug)]
 pub struct BadLine {
     pub number: u32,
@@ -172,6 +174,8 @@ fn refuse_cell(index: &[u32], values: &[Option<i32>], limits: &Limits) -> Option
         Some(52)
     } else if values.iter().zip(limits.fields).any(outside) {
         Some(53)
+    } else if limits.flag.and_then(|flag| *values.get(flag)?) == Some(0) {
+        Some(58)
     } else {
         None
     }

@@ -1,9 +1,11 @@
 //! The program: `reference SUBCOMMAND ...`; see `USAGE`.
 
 use reference::call_case::{call_line, put_call, Call};
-use reference::case::{check_answer, check_line, put_check, put_run, run_case, run_lines, RunCase};
+use reference::case::{check_answer, check_line, profile_line, put_check, put_run};
+use reference::case::{run_case, run_lines, RunCase};
 use reference::coverage::coverage;
-use reference::write_case::{put_writing, writing_line};
+use reference::one_move::profile;
+use reference::write_case::{put_writing, writing_line, WriteCase};
 use reference::{check, json, vectors, Report};
 use std::io::{self, BufWriter, Read, Write};
 use std::path::Path;
@@ -11,19 +13,23 @@ use std::process::ExitCode;
 
 const USAGE: &str = "\
 usage: reference check                        one source on standard input
+       reference profile                      one source on standard input
        reference names                        one source on standard input
        reference answer                       sources on standard input, as in the vectors of checks
        reference run FILE                     one run, as JSON
        reference cases checks|runs|lists SEED COUNT [--small]
-       reference stream checks|runs|lists|writings|chains|resumed|counted SEED COUNT [--small] [--replies]
+       reference stream KIND SEED COUNT [--small] [--replies]
+                                              checks, runs, lists, writings, chains, resumed, counted, near,
+                                              moving or shown
        reference vectors DIR
        reference verify ROOT
        reference count SEED COUNT
 ";
 
 /// The kinds of cases that are streamed.
-const STREAMS: [&str; 7] = [
-    "checks", "runs", "lists", "writings", "chains", "resumed", "counted",
+const STREAMS: [&str; 10] = [
+    "checks", "runs", "lists", "writings", "chains", "resumed", "counted", "near", "moving",
+    "shown",
 ];
 
 fn main() -> ExitCode {
@@ -38,6 +44,7 @@ fn main() -> ExitCode {
     let words: Vec<&str> = words.iter().map(String::as_str).collect();
     let done = match words.as_slice() {
         ["check"] => check_input(),
+        ["profile"] => profile_input(),
         ["names"] => names_input(),
         ["answer"] => answer_input(),
         ["run", file] => run_file(file),
@@ -85,6 +92,12 @@ fn read_source() -> io::Result<Vec<u8>> {
 
 fn check_input() -> io::Result<ExitCode> {
     let line = check_line(check(&read_source()?).reply);
+    io::stdout().write_all(line.as_bytes())?;
+    Ok(ExitCode::SUCCESS)
+}
+
+fn profile_input() -> io::Result<ExitCode> {
+    let line = profile_line(profile(&read_source()?));
     io::stdout().write_all(line.as_bytes())?;
     Ok(ExitCode::SUCCESS)
 }
@@ -149,12 +162,36 @@ fn runs_of(what: &str, seed: u64, count: usize, small: bool) -> Box<dyn Iterator
     }
 }
 
-/// Generated runs in a manner; those of `counted` are lent counts.
+/// Generated runs in a manner; those of `counted` are lent counts, those of
+/// `moving` are of rules that move a pixel once.
 fn calls_of(what: &str, seed: u64, count: usize, small: bool) -> Box<dyn Iterator<Item = Call>> {
-    if what == "counted" {
-        Box::new(vectors::counted(seed, count, small))
+    match what {
+        "counted" => Box::new(vectors::counted(seed, count, small)),
+        "moving" => Box::new(vectors::moving(seed, count, small)),
+        _ => Box::new(vectors::resumed(seed, count, small)),
+    }
+}
+
+/// Generated sources; those of `near` are near the profile of 6/13.
+fn sources_of(
+    what: &str,
+    seed: u64,
+    count: usize,
+    small: bool,
+) -> Box<dyn Iterator<Item = Vec<u8>>> {
+    if what == "near" {
+        Box::new(vectors::near(seed, count, small))
     } else {
-        Box::new(vectors::resumed(seed, count, small))
+        Box::new(vectors::checks(seed, count, small))
+    }
+}
+
+/// Generated writings; those of `shown` are of rules that move a pixel once.
+fn writings_of(what: &str, seed: u64, count: usize) -> Box<dyn Iterator<Item = WriteCase>> {
+    if what == "shown" {
+        Box::new(vectors::shown(seed, count))
+    } else {
+        Box::new(vectors::writings(seed, count))
     }
 }
 
@@ -187,15 +224,15 @@ fn stream(what: &str, seed: u64, count: usize, small: bool, replies: bool) -> io
         out.write_all(&bytes)
     };
     match what {
-        "checks" => {
-            for source in vectors::checks(seed, count, small) {
+        "checks" | "near" => {
+            for source in sources_of(what, seed, count, small) {
                 put(&|bytes| put_check(bytes, &source), &|| {
                     check_answer(&source)
                 })?;
             }
         }
-        "writings" => {
-            for case in vectors::writings(seed, count) {
+        "writings" | "shown" => {
+            for case in writings_of(what, seed, count) {
                 put(&|bytes| put_writing(bytes, &case), &|| writing_line(&case))?;
             }
         }
@@ -209,7 +246,7 @@ fn stream(what: &str, seed: u64, count: usize, small: bool, replies: bool) -> io
                 }
             }
         }
-        "resumed" | "counted" => {
+        "resumed" | "counted" | "moving" => {
             for call in calls_of(what, seed, count, small) {
                 put(&|bytes| put_call(bytes, &call), &|| call_line(&call.made()))?;
             }

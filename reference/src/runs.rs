@@ -297,34 +297,46 @@ pub fn any(random: &mut Random, small: bool, most: usize) -> RunCase {
         if small && (source.len() > 600 || crate::lex::lex(&source).len() > 121) {
             continue;
         }
-        let limit = if small { 6 } else { 12 };
-        let steps = if random.chance(6) {
-            0
-        } else {
-            random.between(1, limit)
-        };
-        let start = match random.below(20) {
-            0 => GREATEST - steps,
-            1 => random.between(0, GREATEST - steps),
-            2..=7 => random.between(1, 9),
-            _ => 0,
-        };
-        let Some(program) = check(&source).program else {
-            return RunCase::new(source, &[3], vec![0; 3], start, steps);
-        };
-        let shape = sizes(random, &program, most);
-        let cells = cells_of(&shape);
-        if small && cells > 24 {
-            continue;
+        if let Some(case) = of_source(random, source, small, most) {
+            return case;
         }
-        let grid = entries(random, &program, cells);
-        let mut case = RunCase::new(source, &shape, grid, start, steps);
-        if random.chance(9) {
-            disturb(random, &mut case);
-            if random.chance(25) && !case.shape.is_empty() {
-                disturb(random, &mut case);
-            }
-        }
-        return case;
     }
+}
+
+/// A run of a source, unless it needs more cells than a small one has.
+pub fn of_source(
+    random: &mut Random,
+    source: Vec<u8>,
+    small: bool,
+    most: usize,
+) -> Option<RunCase> {
+    let limit = if small { 6 } else { 12 };
+    let steps = if random.chance(6) {
+        0
+    } else {
+        random.between(1, limit)
+    };
+    let start = match random.below(20) {
+        0 => GREATEST - steps,
+        1 => random.between(0, GREATEST - steps),
+        2..=7 => random.between(1, 9),
+        _ => 0,
+    };
+    let Some(program) = check(&source).program else {
+        return Some(RunCase::new(source, &[3], vec![0; 3], start, steps));
+    };
+    let shape = sizes(random, &program, most);
+    let cells = cells_of(&shape);
+    if small && cells > 24 {
+        return None;
+    }
+    let grid = entries(random, &program, cells);
+    let mut case = RunCase::new(source, &shape, grid, start, steps);
+    if random.chance(9) {
+        disturb(random, &mut case);
+        if random.chance(25) && !case.shape.is_empty() {
+            disturb(random, &mut case);
+        }
+    }
+    Some(case)
 }

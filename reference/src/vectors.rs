@@ -8,6 +8,8 @@ use crate::damage::{damage_bytes, damage_tokens, VOCABULARY};
 use crate::generate::{program, Wish};
 use crate::limits;
 use crate::listed;
+use crate::moving;
+use crate::near;
 use crate::random::Random;
 use crate::resumed;
 use crate::runs;
@@ -20,6 +22,7 @@ use crate::written;
 use crate::written_calls;
 use crate::written_counts;
 use crate::written_lists;
+use crate::written_moves;
 
 /// A generated source. In `small` ones there are at most about 120 tokens.
 pub fn any_check(random: &mut Random, small: bool) -> Vec<u8> {
@@ -134,6 +137,30 @@ pub fn questions(seed: u64, count: usize) -> impl Iterator<Item = Question> {
     (0..count).map(move |_| counted::question(&mut random))
 }
 
+/// Generated sources near the profile of 6/13, in order.
+pub fn near(seed: u64, count: usize, small: bool) -> impl Iterator<Item = Vec<u8>> {
+    let mut random = Random::new(seed.wrapping_add(1 << 49));
+    let mut source = move || loop {
+        let source = near::any(&mut random);
+        if !small || source.len() <= 700 {
+            return source;
+        }
+    };
+    (0..count).map(move |_| source())
+}
+
+/// Generated runs of rules that move a pixel once, in order.
+pub fn moving(seed: u64, count: usize, small: bool) -> impl Iterator<Item = Call> {
+    let mut random = Random::new(seed.wrapping_add(1 << 50));
+    (0..count).map(move |_| moving::any(&mut random, small))
+}
+
+/// Generated writings of such rules, in order.
+pub fn shown(seed: u64, count: usize) -> impl Iterator<Item = WriteCase> {
+    let mut random = Random::new(seed.wrapping_add(1 << 51));
+    (0..count).map(move |_| moving::writing(&mut random))
+}
+
 /// Sources from the papers' own examples.
 const EXAMPLES: [&str; 40] = [
     "",
@@ -199,6 +226,8 @@ pub fn stored_checks() -> Vec<Vec<u8>> {
         }
     }
     row.extend(spelled::sources());
+    row.extend(written_moves::sources());
+    row.extend(near(34, 300, true));
     row.extend(limits::small());
     row.extend(limits::name_counts());
     row.extend(limits::token_counts());
@@ -228,6 +257,7 @@ pub fn stored_runs() -> Vec<RunCase> {
     row.extend(written_lists::runs());
     row.extend(lists(8, 300, true));
     row.extend(runs(9, 240, true).filter(|case| !case.values.is_empty()));
+    row.extend(written_moves::runs());
     row
 }
 
@@ -235,6 +265,8 @@ pub fn stored_runs() -> Vec<RunCase> {
 pub fn stored_writings() -> Vec<WriteCase> {
     let mut row = written_lists::writings();
     row.extend(writings(10, 130));
+    row.extend(written_moves::writings());
+    row.extend(shown(35, 60));
     row
 }
 
@@ -245,11 +277,14 @@ struct Stored {
     calls: bool,
     /// Runs that count, which are of the same kind with counts lent.
     counted: bool,
+    /// Runs of rules that move a pixel once, also of this kind.
+    moving: bool,
 }
 
 const STORED: Stored = Stored {
     calls: true,
     counted: true,
+    moving: true,
 };
 
 /// The stored runs that are paused and resumed.
@@ -266,6 +301,13 @@ pub fn stored_calls() -> Vec<Call> {
 pub fn stored_counted() -> Vec<Call> {
     let mut row = written_counts::calls();
     row.extend(counted(33, 80, true));
+    row
+}
+
+/// The stored runs of rules that move a pixel once.
+pub fn stored_moving() -> Vec<Call> {
+    let mut row = written_moves::calls();
+    row.extend(moving(36, 120, true));
     row
 }
 
@@ -291,6 +333,9 @@ pub fn files() -> Files {
     }
     if STORED.counted {
         calls.extend(stored_counted());
+    }
+    if STORED.moving {
+        calls.extend(stored_moving());
     }
     let mut files = Files {
         check_in: Vec::new(),

@@ -3,6 +3,8 @@
 use crate::admission::{Read, WORDS};
 use crate::case::{put_grid, put_read, put_u32};
 use crate::names::MAX_NAMES;
+use crate::one_move::flag;
+use crate::parse::check;
 use crate::spelling::BUILT_IN;
 use crate::writing::{write_list, Wanted, Written};
 
@@ -55,6 +57,18 @@ impl WriteCase {
             later: &self.later,
             time: self.time,
         }
+    }
+
+    /// Whether the flag of some cell, in a rule that moves a pixel once, falls
+    /// from 1 to 0: then reading back is not claimed.
+    pub fn flag_falls(&self) -> bool {
+        let Some(program) = check(&self.source).program else {
+            return false;
+        };
+        let fields = program.fields.len();
+        let mut cells = self.earlier.chunks(fields).zip(self.later.chunks(fields));
+        flag(&self.source, &program)
+            .is_some_and(|flag| cells.any(|(old, new)| old[flag] > new[flag]))
     }
 }
 

@@ -1,6 +1,7 @@
 //! The writer: the cells that differ in two grids as a block of a list.
 
 use crate::admission::{admit_grid, program_of, Asked, Read, Refusal};
+use crate::one_move::flag;
 use crate::tree::Program;
 
 /// What the writer is lent beside its room.
@@ -61,14 +62,24 @@ fn index_of(shape: &[u32], cell: usize) -> Vec<usize> {
     index
 }
 
-/// The time's line, then a line for each cell that differs, with all fields.
-pub fn text_of(fields: usize, wanted: &Wanted) -> String {
+/// The time's line, then a line for each cell that differs, with all fields. The
+/// flag of a rule that moves a pixel once is left missing where it is 0.
+pub fn text_of(program: &Program, wanted: &Wanted) -> String {
+    let fields = program.fields.len();
+    let flag = flag(wanted.read.source, program);
+    let shown = |(field, value): (usize, &i32)| match value {
+        0 if flag == Some(field) => String::new(),
+        _ => value.to_string(),
+    };
     let mut text = format!("{}\n", wanted.time);
     let earlier = wanted.earlier.chunks(fields);
     for (cell, (old, new)) in earlier.zip(wanted.later.chunks(fields)).enumerate() {
         if old != new {
             let index = joined(index_of(wanted.shape, cell).into_iter());
-            text += &format!("[{index}] = {}\n", joined(new.iter()));
+            text += &format!(
+                "[{index}] = {}\n",
+                joined(new.iter().enumerate().map(shown))
+            );
         }
     }
     text
@@ -90,7 +101,7 @@ pub fn write_list(wanted: &Wanted, room: &mut [u8]) -> Written {
             }
         }
     };
-    let text = text_of(program.fields.len(), wanted);
+    let text = text_of(&program, wanted);
     let Some(front) = room.get_mut(..text.len()) else {
         return Written {
             number: 57,

@@ -4,6 +4,7 @@
 use crate::admission::GREATEST;
 use crate::case::cells_of;
 use crate::damage::damage_bytes;
+use crate::one_move::flag;
 use crate::parse::check;
 use crate::random::Random;
 use crate::runs;
@@ -138,14 +139,32 @@ pub fn any(random: &mut Random) -> WriteCase {
     if random.chance(10) {
         source = runs::any(random, true, 24).source;
     }
+    of_source(random, source, time)
+}
+
+/// In half of the cases no flag falls from 1 to 0.
+fn keep_flags(random: &mut Random, fields: usize, flag: usize, earlier: &[i32], later: &mut [i32]) {
+    if random.chance(50) {
+        let cells = earlier.chunks(fields).zip(later.chunks_mut(fields));
+        for (old, new) in cells {
+            new[flag] = new[flag].max(old[flag]);
+        }
+    }
+}
+
+/// A writing of a source at a time.
+pub fn of_source(random: &mut Random, source: Vec<u8>, time: i64) -> WriteCase {
     let Some(program) = check(&source).program else {
         return WriteCase::new(source, &[2], vec![0, 1], vec![0, 1], time, 9);
     };
     let shape = shape(random, program.dimensions);
     let earlier = runs::entries(random, &program, cells_of(&shape));
-    let later = changed(random, &program, &earlier);
+    let mut later = changed(random, &program, &earlier);
+    if let Some(flag) = flag(&source, &program) {
+        keep_flags(random, program.fields.len(), flag, &earlier, &mut later);
+    }
     let mut case = WriteCase::new(source, &shape, earlier, later, time, 0);
-    let length = text_of(program.fields.len(), &case.wanted()).len();
+    let length = text_of(&program, &case.wanted()).len();
     case.room = match random.below(8) {
         0..=2 => length,
         3 | 4 => length - 1,

@@ -4,6 +4,7 @@
 use reference::admission::{admit_grid, Asked};
 use reference::case::{run_case, Outcome, RunCase};
 use reference::lists::{read_list, Limits};
+use reference::one_move::flag;
 use reference::open::open_cells;
 use reference::places::reach;
 use reference::tree::Field;
@@ -16,6 +17,7 @@ fn reply(list: &str) -> (u32, u64) {
     let limits = Limits {
         sizes: &[2, 4],
         fields: &fields,
+        flag: None,
         start: 3,
         steps: 5,
     };
@@ -278,6 +280,7 @@ fn in_parts(case: &RunCase) -> Option<Vec<i32>> {
     let limits = Limits {
         sizes: &case.shape,
         fields: &program.fields,
+        flag: flag(&case.source, &program),
         start: case.start,
         steps: case.steps,
     };

@@ -2,6 +2,7 @@
 
 use reference::check;
 use reference::lists::{read_list, Limits};
+use reference::one_move::flag;
 use reference::vectors;
 use reference::write_case::{room_on_entry, write_case, WriteCase};
 
@@ -87,6 +88,7 @@ fn read_back() {
             let limits = Limits {
                 sizes: &case.shape,
                 fields: &program.fields,
+                flag: flag(&case.source, &program),
                 start,
                 steps,
             };
@@ -99,7 +101,7 @@ fn read_back() {
                 .windows(2)
                 .all(|two| two[0].cell < two[1].cell));
             blocks[0].set(fields, &mut grid);
-            assert_eq!(grid, case.later);
+            assert_eq!(grid == case.later, !case.flag_falls());
             let cells = case.earlier.len() / fields;
             all += usize::from(blocks[0].lines.len() == cells);
             same += usize::from(blocks[0].lines.is_empty());

@@ -4,6 +4,10 @@
 /// stands, its first byte and its length.
 pub const REPLY: usize = 5;
 
+/// How many entries tell whether a source is in the profile: rule, number and
+/// place.
+pub const PROFILE: usize = 3;
+
 /// How many entries tell a run: number, place, cell, steps, count, the
 /// spelling's three, and the line of a value list.
 pub const REPORT: usize = 9;
@@ -115,6 +119,19 @@ extern "C" {
         names_length: usize,
         reply: *mut u32,
         reply_length: usize,
+    ) -> u32;
+
+    pub fn cellang_check_one_move(
+        source: *const u8,
+        source_length: usize,
+        list: *const u8,
+        list_length: usize,
+        words: *mut u32,
+        words_length: usize,
+        names: *mut u32,
+        names_length: usize,
+        told: *mut u32,
+        told_length: usize,
     ) -> u32;
 
     pub fn cellang_run_full(
@@ -428,7 +445,7 @@ extern "C" {
 
 #[cfg(test)]
 mod tests {
-    use super::{COMPARISON, IN_LIST, IN_SOURCE, REPLY, REPORT, ROWS, WRITTEN};
+    use super::{COMPARISON, IN_LIST, IN_SOURCE, PROFILE, REPLY, REPORT, ROWS, WRITTEN};
 
     #[test]
     fn the_header_says_the_same() {
@@ -442,6 +459,9 @@ mod tests {
         assert_eq!(named("CELLANG_REPLY_SPELLING"), Some(2));
         assert_eq!(named("CELLANG_REPLY_SPELLING_START"), Some(3));
         assert_eq!(named("CELLANG_REPLY_SPELLING_LENGTH"), Some(4));
+        assert_eq!(named("CELLANG_PROFILE_LENGTH"), Some(PROFILE));
+        assert_eq!(named("CELLANG_PROFILE_NUMBER"), Some(1));
+        assert_eq!(named("CELLANG_PROFILE_PLACE"), Some(2));
         assert_eq!(named("CELLANG_REPORT_LENGTH"), Some(REPORT));
         assert_eq!(named("CELLANG_REPORT_SPELLING"), Some(5));
         assert_eq!(named("CELLANG_REPORT_SPELLING_START"), Some(6));

@@ -1,7 +1,7 @@
 //! Checks sources written in Cellang, a small language for cellular automata,
 //! runs them on grids, also with timed value lists, in slices and with row
-//! counts, writes such lists, and compares grids, by a library that is proved to
-//! do what the rules say.
+//! counts, writes such lists, tells rules that move a pixel once, and compares
+//! grids, by a library that is proved to do what the rules say.
 //!
 //! ```
 //! use cellang::{check, run, Cell, Fault, FaultKind, Mode, Place, Rooms, Stop};
@@ -51,6 +51,7 @@ mod comparing;
 mod counting;
 mod foreign;
 mod names;
+mod one_move;
 mod pausing;
 mod replies;
 mod rooms;
@@ -63,6 +64,7 @@ pub use counting::{
     Counts, NotCounted,
 };
 pub use names::{Kind, Name, Names};
+pub use one_move::{check_one_move, check_one_move_in, Missed};
 pub use pausing::{run_pausing_in, run_resuming_in, NotBegun, NotResumed, Paused};
 pub use replies::{
     Cell, Done, Entry, Fault, FaultKind, Line, ListReason, ListRefusal, NotWritten, Objection,

@@ -116,7 +116,7 @@ pub enum Reason {
 }
 
 impl Reason {
-    fn of(number: u32) -> Option<Reason> {
+    pub(crate) fn of(number: u32) -> Option<Reason> {
         Some(match number {
             1 => Reason::RoomLength,
             2 => Reason::SourceTooLong,
@@ -275,7 +275,7 @@ impl fmt::Display for Objection {
 
 impl Error for Objection {}
 
-/// Why a line of a value list is refused: replies 50 to 56.
+/// Why a line of a value list is refused: replies 50 to 56 and 58.
 #[derive(Clone, Copy, PartialEq, Eq, Hash, Debug)]
 pub enum ListReason {
     /// The line is no time and no cell with values, or has no end; it is a
@@ -294,6 +294,9 @@ pub enum ListReason {
     TimeBeforeStart = 55,
     /// The time is above start plus steps.
     TimePastEnd = 56,
+    /// A value for the field `moved` is 0, in a rule that moves a pixel once: see
+    /// [`check_one_move`](crate::check_one_move).
+    MovedZero = 58,
 }
 
 impl ListReason {
@@ -306,6 +309,7 @@ impl ListReason {
             54 => ListReason::TimeNotRising,
             55 => ListReason::TimeBeforeStart,
             56 => ListReason::TimePastEnd,
+            58 => ListReason::MovedZero,
             _ => return None,
         })
     }
@@ -323,6 +327,7 @@ impl fmt::Display for ListReason {
             ListReason::TimeNotRising => "time not above the time before it",
             ListReason::TimeBeforeStart => "time before the start",
             ListReason::TimePastEnd => "time past start plus steps",
+            ListReason::MovedZero => "value 0 for `moved` in a rule that moves a pixel once",
         })
     }
 }

@@ -22,7 +22,10 @@ pub struct WriterLent<'a> {
 ///
 /// Both grids are checked as for a run of 0 steps that starts at the time.
 /// Such a run on the earlier grid, with the text as its list, leaves the later
-/// one. The room for the text is allocated, as long as the text can be; see
+/// one. In a rule that moves a pixel once (see
+/// [`check_one_move`](crate::check_one_move)) a `moved` that is 0 in the later
+/// grid is left missing; there this holds if no cell has 1 for `moved` in the
+/// earlier grid and 0 in the later. The room for the text is allocated, as long as the text can be; see
 /// [`write_list_in`].
 ///
 /// ```

@@ -1,8 +1,8 @@
 //! The C header names the same replies and kinds.
 
 use cellang::{
-    Difference, Entry, FaultKind, Kind, ListReason, NotCompared, NotCounted, NotWritten, Objection,
-    Place, Reason, BUILT_IN, NAME_WORDS, WORDS,
+    Difference, Entry, FaultKind, Kind, ListReason, Missed, NotCompared, NotCounted, NotWritten,
+    Objection, Place, Reason, BUILT_IN, NAME_WORDS, WORDS,
 };
 use std::fmt::Debug;
 use std::mem::size_of;
@@ -92,8 +92,9 @@ fn replies() {
         ListReason::TimeNotRising,
         ListReason::TimeBeforeStart,
         ListReason::TimePastEnd,
+        ListReason::MovedZero,
     ];
-    for (reason, number) in lists.into_iter().zip(50..) {
+    for (reason, number) in lists.into_iter().zip((50..=56).chain([58])) {
         assert_eq!(reason as u32, number);
         let name = name_of(reason).replacen("CELLANG", "CELLANG_LIST", 1);
         assert_eq!(named(&name), Some(number), "{reason:?}");
@@ -128,6 +129,23 @@ fn kinds_and_lengths() {
     assert!(HEADER.lines().any(|line| line == list));
     let length = named("CELLANG_BUILT_IN_LENGTH");
     assert_eq!(length, Some(BUILT_IN.len() as u32));
+}
+
+#[test]
+fn profile() {
+    let reason = Reason::NotAllowed;
+    let place = Place(0);
+    for (missed, name) in [
+        (
+            Missed::Refused { reason, place },
+            "CELLANG_MISSES_ACCEPTANCE",
+        ),
+        (Missed::Flag, "CELLANG_MISSES_FLAG"),
+        (Missed::Statement, "CELLANG_MISSES_STATEMENT"),
+    ] {
+        assert_eq!(named(name), Some(missed.rule()));
+    }
+    assert_eq!(named("CELLANG_MOVES_ONCE"), Some(0));
 }
 
 #[test]

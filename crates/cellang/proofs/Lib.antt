@@ -2,6 +2,7 @@
 pub mod StoreLaws
 pub mod AnswerRow
 pub mod MannerRow
+pub mod ProfileAnswerRow
 pub mod RunAnswerRow
 pub mod WriteAnswerRow
 pub mod Telling

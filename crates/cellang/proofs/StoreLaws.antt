@@ -17,6 +17,9 @@ use Rattle.grammar.specs.Reader.{Result, ok, fail}
 use Rattle.grammar.specs.Complaint.{complaint}
 use Rattle.grammar.specs.Source.{Accepted, parse}
 use Rattle.grammar.specs.Checking.{most-bytes, Outcome, turned-away, outcome-of, rooms-fit, lent-fit, read-source, room-left, names-after, check, words-after}
+use Rattle.one_move.specs.Profile.{missed, one-move}
+use Rattle.profile.specs.declared.Profile.{Profile}
+use Rattle.profile.specs.Contracts.Flags.{CheckOneMove}
 use Rattle.stepper.specs.Report.{Manner}
 use Rattle.services.specs.Services.{run-source, room-after, marks-after, counts-after}
 use Rattle.services.specs.Calls.{flat-names, memory, Lent, lent, asked, names-left, run-left}
@@ -36,7 +39,7 @@ use Rattle.cellang.specs.declared.running.RunAnswer.{RunAnswer}
 use Rattle.cellang.specs.declared.writing.WriteAnswer.{WriteAnswer}
 use Rattle.records.specs.Rows.{no-name, rows-of}
 use Rattle.cellang.specs.Left.{rows-fit, lent-rows-fit, row-fits, row-names, stored-of}
-use Rattle.cellang.specs.Promises.{ChecksOver, RunsOver, TurnedAway, WritesOver, NothingWritten}
+use Rattle.cellang.specs.Promises.{ChecksOver, ProfilesOver, RunsOver, TurnedAway, WritesOver, NothingWritten}
 use Rattle.records.proofs.RowLaws.{filled-all, length-rows, rows-of-zeros}
 
 -- ---- how many records are stored
@@ -205,6 +208,36 @@ row-check list source ws ws′ flat names reply rows count n m c r =
 
     few : count ≤ 256
     few = subst (λ (k : ℕ). k ≤ 256) (sym m) (stored-few (length source) (length ws))
+
+-- ---- the profile of sources that move a pixel once
+
+pub turned-profile : (source : List ℕ) → missed 1 1 0 ≡ one-move false source
+unfolding one-move read-source
+turned-profile source = refl
+
+pub no-row-profile : (list source ws : List ℕ) (names : ℕ) (rows : List Name) → not (row-fits list names) ≡ true
+    → ProfilesOver (lent-rows-fit list (length ws) names) source ws names (record { profile = record { rule = 1; number = 1; place = 0 }; rows = rows; count = 0 }) ws
+no-row-profile list source ws names rows n =
+    let c = no-row-check list source ws names rows n in
+    record {
+      answer = turned-profile source ∙ ap (λ (t : Bool). one-move t source) (sym (no-row list (length ws) names n));
+      words = c .words;
+      few = c .few;
+      stores = c .stores;
+    }
+
+pub row-profile : (list source ws ws′ flat : List ℕ) (names : ℕ) (answer : Profile) (rows : List Name) (count : ℕ) → not (row-fits list names) ≡ false → count ≡ stored-of (length source) (length ws)
+    → CheckOneMove (lent-fit list (length ws) (length zeros)) source ws zeros answer ws′ flat → rows ≡ rows-of flat
+    → ProfilesOver (lent-rows-fit list (length ws) names) source ws names (record { profile = answer; rows = rows; count = count }) ws′
+row-profile list source ws ws′ flat names answer rows count n m h r =
+    let said = check (lent-fit list (length ws) (length zeros)) source in
+    let c = row-check list source ws ws′ flat names (record { number = said .number; place = said .place }) rows count n m (record { reply = refl; words = h .words; names = h .names }) r in
+    record {
+      answer = h .answer ∙ ap (λ (t : Bool). one-move t source) (fits-flat list ws names (row-there list names n));
+      words = c .words;
+      few = c .few;
+      stores = c .stores;
+    }
 
 -- ---- a run
 

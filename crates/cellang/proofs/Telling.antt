@@ -11,6 +11,9 @@ use Rattle.spelling.specs.declared.Told.{Told}
 use Rattle.spelling.specs.Spelling.{part-at, part-entries, told-entries}
 use Rattle.grammar.specs.Complaint.{Complaint}
 use Rattle.checker.specs.Promises.{Checks}
+use Rattle.one_move.specs.Profile.{Answer}
+use Rattle.profile.specs.declared.Profile.{Profile}
+use Rattle.profile.specs.Contracts.Flags.{CheckOneMove}
 use Rattle.stepper.specs.Report as report
 use Rattle.stepper.specs.Report.{Manner, full}
 use Rattle.services.specs.Calls.{flat-names, Memory, memory, Lent, lent, fits, asked, read-lent, run-report, run-left}
@@ -29,7 +32,7 @@ use Rattle.list_writer.specs.Contracts.Writing.{WriterLeaves}
 use Rattle.entries.specs.Over.{over}
 use Rattle.comparison.specs.declared.Comparison.{Comparison}
 use Rattle.comparison.specs.Contracts.Comparing.{Compares}
-use Rattle.cellang.specs.Told.{reply-entries, TellsCheck, report-entries, TellsRun, written-entries, TellsWritten, comparison-entries, TellsComparison, row-entries, TellsRows}
+use Rattle.cellang.specs.Told.{reply-entries, TellsCheck, profile-entries, TellsProfile, report-entries, TellsRun, written-entries, TellsWritten, comparison-entries, TellsComparison, row-entries, TellsRows}
 
 -- ---- a check
 
@@ -41,6 +44,13 @@ tells-check {fit} {source} {ws} {ns} {reply} {number} {place} {ws′} {ns′} h 
       entries = e ∙ ap (λ (l : List ℕ). over (number ∷ place ∷ l) reply) p ∙ ap (λ (c : Complaint). over (reply-entries source c) reply) (h .reply);
       checks = subst (λ (p : ℕ). Checks fit source ws ns number p ws′ ns′) (ap (λ (c : Complaint). c .place) (h .reply)) h;
     }
+
+-- ---- the profile of sources that move a pixel once
+
+pub tells-profile : {fit : Bool} {source ws ns reply : List ℕ} {p : Profile} {ws′ ns′ reply′ : List ℕ} → CheckOneMove fit source ws ns p ws′ ns′ → reply′ ≡ over (p .rule ∷ p .number ∷ p .place ∷ []) reply
+    → TellsProfile fit source ws ns reply (p .rule) ws′ ns′ reply′
+tells-profile {reply = reply} h e =
+    record { rule = ap (λ (a : Answer). a .rule) (h .answer); entries = e ∙ ap (λ (a : Answer). over (profile-entries a) reply) (h .answer); words = h .words; names = h .names }
 
 -- ---- a run
 
@@ -65,9 +75,9 @@ told-on {manner} {source} {list} {sizes} {values} {m} {start} {steps} {counted} 
     subst₂ (λ (s n : ℤ). TellsRun manner (lent source list sizes m values s n counted field) entries r m′ entries′) (toZ-ofZ a) (toZ-ofZ b)
 
 -- the grid that it leaves has each field in its range
-pub tells-ranges : {manner : Manner} {l : Lent ℕ} {entries entries′ : List ℕ} {r : ℕ} {m : Memory ℕ} → TellsRun manner l entries r m entries′ → RangesKept (read-lent flat-names l) (asked l) (m .grid)
+pub tells-ranges : {manner : Manner} {l : Lent ℕ} {entries entries′ : List ℕ} {r : ℕ} {m : Memory ℕ} → TellsRun manner l entries r m entries′ → RangesKept (l .source) (read-lent flat-names l) (asked l) (m .grid)
 unfolding run-left
-tells-ranges {manner} {l} h = subst (RangesKept (read-lent flat-names l) (asked l)) (sym (ap (λ x. x .grid) (h .memory))) (grid-in-ranges manner (fits flat-names l) (l .source) (asked l))
+tells-ranges {manner} {l} h = subst (RangesKept (l .source) (read-lent flat-names l) (asked l)) (sym (ap (λ x. x .grid) (h .memory))) (grid-in-ranges manner (fits flat-names l) (l .source) (asked l))
 
 -- and what it tells agrees with the full run, unless it began from lent marks
 pub tells-agrees : {manner : Manner} {l : Lent ℕ} {entries entries′ : List ℕ} {r : ℕ} {m : Memory ℕ} (way : Way) → TellsRun manner l entries r m entries′

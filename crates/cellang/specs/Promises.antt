@@ -7,14 +7,17 @@ use lib.ListN.{length, take, drop}
 use Rattle.names.specs.Names.{most-names}
 use Rattle.grammar.specs.Complaint.{complaint}
 use Rattle.grammar.specs.Checking.{check, words-after}
+use Rattle.one_move.specs.Profile.{missed, one-move}
 use Rattle.stepper.specs.Report.{Manner}
 use Rattle.services.specs.Calls.{Memory, Lent, names-left}
 use Rattle.checker.specs.declared.checking.Reply.{Reply}
+use Rattle.profile.specs.declared.Profile.{Profile}
 use Rattle.runner.specs.Sourcewise.{RunLeaves}
 use Rattle.list_writer.specs.WriterCalls.{WriterLent}
 use Rattle.list_writer.specs.Contracts.Writing.{WriterLeaves}
 use Rattle.records.specs.declared.Name.{Name}
 use Rattle.cellang.specs.declared.checking.Answer.{Answer}
+use Rattle.cellang.specs.declared.profiling.ProfileAnswer.{ProfileAnswer}
 use Rattle.cellang.specs.declared.running.RunAnswer.{RunAnswer}
 use Rattle.cellang.specs.declared.writing.WriteAnswer.{WriteAnswer}
 use Rattle.cellang.specs.Left.{row-names}
@@ -30,6 +33,21 @@ pub record ChecksRows (fit : Bool) (source ws : List ℕ) (ns : List Name) (r : 
 -- the same, where the records are given and not yet stored
 pub record ChecksOver (fit : Bool) (source ws : List ℕ) (names : ℕ) (r : Answer) (ws′ : List ℕ) : Type 0 where
   pub reply : complaint (r .reply .number) (r .reply .place) ≡ check fit source
+  pub words : ws′ ≡ words-after fit source ws
+  pub few : (r .count ≤ most-names) × (r .count ≤ names)
+  pub stores : (ns : List Name) → length ns ≡ names → take (r .count) (r .rows) ++ drop (r .count) ns ≡ names-left row-names fit source ns
+
+-- ---- the profile of sources that move a pixel once
+
+-- the answer, and the words of the table and the row of records, which are left as a check leaves them
+pub record ProfilesRows (fit : Bool) (source ws : List ℕ) (ns : List Name) (r : Profile) (ws′ : List ℕ) (ns′ : List Name) : Type 0 where
+  pub answer : missed (r .rule) (r .number) (r .place) ≡ one-move fit source
+  pub words : ws′ ≡ words-after fit source ws
+  pub names : ns′ ≡ names-left row-names fit source ns
+
+-- the same, where the records are given and not yet stored
+pub record ProfilesOver (fit : Bool) (source ws : List ℕ) (names : ℕ) (r : ProfileAnswer) (ws′ : List ℕ) : Type 0 where
+  pub answer : missed (r .profile .rule) (r .profile .number) (r .profile .place) ≡ one-move fit source
   pub words : ws′ ≡ words-after fit source ws
   pub few : (r .count ≤ most-names) × (r .count ≤ names)
   pub stores : (ns : List Name) → length ns ≡ names → take (r .count) (r .rows) ++ drop (r .count) ns ≡ names-left row-names fit source ns

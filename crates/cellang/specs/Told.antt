@@ -6,7 +6,8 @@ use Prim.Native.Nat.{ℕ}
 use lib.IntN.{ℤ}
 use Rattle.spelling.specs.Spelling.{part-at, part-entries}
 use Rattle.grammar.specs.Complaint.{Complaint}
-use Rattle.grammar.specs.Checking.{check}
+use Rattle.grammar.specs.Checking.{check, words-after, names-after}
+use Rattle.one_move.specs.Profile.{Answer, one-move}
 use Rattle.stepper.specs.Report.{Manner, Report}
 use Rattle.services.specs.Calls.{flat-names, Memory, Lent, run-report, run-left}
 use Rattle.checker.specs.Promises.{Checks}
@@ -27,6 +28,18 @@ pub record TellsCheck (fit : Bool) (source ws ns reply : List ℕ) (r : ℕ) (ws
   pub number : r ≡ check fit source .number
   pub entries : reply′ ≡ over (reply-entries source (check fit source)) reply
   pub checks : Checks fit source ws ns r (check fit source .place) ws′ ns′
+
+-- ---- the profile of sources that move a pixel once
+
+-- the entries that tell whether a source is in it
+abbrev pub profile-entries : Answer → List ℕ
+profile-entries a = a .rule ∷ a .number ∷ a .place ∷ []
+
+pub record TellsProfile (fit : Bool) (source ws ns reply : List ℕ) (r : ℕ) (ws′ ns′ reply′ : List ℕ) : Type 0 where
+  pub rule : r ≡ one-move fit source .rule
+  pub entries : reply′ ≡ over (profile-entries (one-move fit source)) reply
+  pub words : ws′ ≡ words-after fit source ws
+  pub names : ns′ ≡ names-after fit source ns
 
 -- ---- a run
 

@@ -1,8 +1,9 @@
-// Rules in Cellang, checked and run, and value lists written: with the names of a source as a row of records, and for programs in other languages.
+// Rules in Cellang, checked and run, and value lists written, and whether a rule moves a pixel once: with the names of a source as a row of records, and for programs in other languages.
 // And two grids compared.
 
 mod checking;
 mod exports;
+mod profiling;
 mod rows;
 mod running;
 mod writing;
@@ -11,6 +12,7 @@ pub use checking::check;
 pub use comparison::Comparison;
 pub use comparison::compare;
 pub use exports::cellang_check;
+pub use exports::cellang_check_one_move;
 pub use exports::cellang_compare;
 pub use exports::cellang_first_zero_row;
 pub use exports::cellang_run_full;
@@ -27,6 +29,8 @@ pub use exports::cellang_write_list;
 pub use exports::cellang_zeros_in_rows;
 pub use iteration::Manner;
 pub use list_writer::Written;
+pub use profile::Profile;
+pub use profiling::check_one_move;
 pub use records::Name;
 pub use records::lookup::count;
 pub use records::lookup::find_by_place;

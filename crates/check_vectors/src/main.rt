@@ -1,5 +1,6 @@
-// Checks one source after another, and writes two lines for each: the reply with the numbers of its spelling, and the sums of the word table and of the
-// name list that are left. On standard input each source stands behind its length, in four bytes, the lowest first.
+// Checks one source after another, and writes two lines for each: the reply with the numbers of its spelling; and the sums of the word table and of the
+// name list that are left, with the first rule of the profile of one move that it misses, and the number and place told with that. On standard input each
+// source stands behind its length, in four bytes, the lowest first.
 ghost use Prim.Native.Nat.{_<_, _≤_};
 ghost use lib.ListN.{length};
 ghost use Rattle.io.specs.Counts.{Counts};
@@ -82,6 +83,12 @@ fn total(words: &[u32], mark: usize) -> u64
     sum(words, used(words, mark))
 }
 
+// Puts a number behind a space, from a position on; the position behind it.
+fn put_next(lines: &mut [u8], at: usize, number: u64) -> usize {
+    let next = text::put_byte(lines, at, b' ');
+    text::put_number(lines, next, number)
+}
+
 // Writes so many bytes of the lines, and answers whether it could.
 fn write_front(lines: &[u8], end: usize) -> bool {
     if lines.len() < end {
@@ -103,7 +110,8 @@ fn answer(length: u32) -> bool {
     let list = spelling::BUILT_IN;
     let reply = checker::check(&source[..n], &list, &mut words, &mut names);
     let part = spelling::told_part(&source[..n], reply.number, reply.place);
-    let mut lines = [0u8; 113];
+    let fit = profile::check_one_move(&source[..n], &list, &mut words, &mut names);
+    let mut lines = [0u8; 146];
     let a = reply_line::write_spelled(
         reply.number,
         reply.place,
@@ -113,9 +121,11 @@ fn answer(length: u32) -> bool {
         &mut lines,
     );
     let b = text::put_number(&mut lines, a, total(&words, 0));
-    let c = text::put_byte(&mut lines, b, b' ');
-    let d = text::put_number(&mut lines, c, total(&names, 2));
-    let end = text::put_byte(&mut lines, d, b'\n');
+    let c = put_next(&mut lines, b, total(&names, 2));
+    let d = put_next(&mut lines, c, fit.rule as u64);
+    let e = put_next(&mut lines, d, fit.number as u64);
+    let f = put_next(&mut lines, e, fit.place as u64);
+    let end = text::put_byte(&mut lines, f, b'\n');
     write_front(&lines, end)
 }
 

@@ -60,6 +60,7 @@ fn say_list(number: u32) {
         54 => say(b"the time does not rise"),
         55 => say(b"the time is before the start"),
         56 => say(b"the time is past start plus steps"),
+        58 => say(b"the rule moves a pixel once, and the line gives moved 0"),
         _ => say(b"a reply without a meaning"),
     }
 }

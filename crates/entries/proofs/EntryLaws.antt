@@ -30,6 +30,9 @@ then i n e f = f ∙ ap (λ (x : List ℕ). set x i n) e
 pub put-two : (s₀ : List ℕ) {s₁ s₂ : List ℕ} (a b : ℕ) → s₁ ≡ set s₀ 0 a → s₂ ≡ set s₁ 1 b → s₂ ≡ over (a ∷ b ∷ []) s₀
 put-two s₀ a b p₁ p₂ = then 1 b p₁ p₂ ∙ set-over (a ∷ b ∷ []) s₀
 
+pub put-three : (s₀ : List ℕ) {s₁ s₂ s₃ : List ℕ} (a b c : ℕ) → s₁ ≡ set s₀ 0 a → s₂ ≡ set s₁ 1 b → s₃ ≡ set s₂ 2 c → s₃ ≡ over (a ∷ b ∷ c ∷ []) s₀
+put-three s₀ a b c p₁ p₂ p₃ = then 2 c (then 1 b p₁ p₂) p₃ ∙ set-over (a ∷ b ∷ c ∷ []) s₀
+
 module _ (s₀ : List ℕ) {s₁ s₂ s₃ s₄ s₅ : List ℕ} (a b c d e : ℕ) (p₁ : s₁ ≡ set s₀ 0 a) (p₂ : s₂ ≡ set s₁ 1 b) (p₃ : s₃ ≡ set s₂ 2 c) (p₄ : s₄ ≡ set s₃ 3 d) (p₅ : s₅ ≡ set s₄ 4 e) where
   five : s₅ ≡ setting 0 (a ∷ b ∷ c ∷ d ∷ e ∷ []) s₀
   five = then 4 e (then 3 d (then 2 c (then 1 b p₁ p₂) p₃) p₄) p₅

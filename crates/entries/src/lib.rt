@@ -79,6 +79,15 @@ pub fn put_written(
     put_number(entries, 5, len as u64);
 }
 
+// Tells in the first entries whether a source is in the profile.
+pub fn put_profile(entries: &mut [u32], rule: u32, number: u32, place: u32)
+    ensures { λ _. ⌜ now (entries .exit) ≡ over (rule ∷ number ∷ place ∷ []) (now (entries .entry)) ⌝ }
+{
+    put_word(entries, 0, rule);
+    put_word(entries, 1, number);
+    put_word(entries, 2, place);
+}
+
 // Tells a comparison in the first entries.
 pub fn put_comparison(entries: &mut [u32], number: u32, total: u32)
     ensures { λ _. ⌜ now (entries .exit) ≡ over (number ∷ total ∷ []) (now (entries .entry)) ⌝ }

@@ -21,7 +21,7 @@ use token::kind;
 use value::Value;
 
 // Whether a token of this kind begins a statement.
-fn begins(kind: u32) -> bool
+pub fn begins(kind: u32) -> bool
     ensures { λ r. ⌜ r ≡ begins kind ⌝ }
 {
     if kind == kind::NAME {

@@ -4,6 +4,8 @@ mod assignment;
 mod blocks;
 pub mod cell;
 
+pub use blocks::begins;
+
 // How statements go on: with the next one; by leaving the innermost loop; or not at all, after a fault, by its number and place.
 pub enum Going {
     On,

@@ -74,10 +74,10 @@ passes-more : (q : Limits) (before : Option ℕ) (n : ℕ) (s : Said) (ss : List
 unfolding check-lines
 passes-more q before n s ss e p = record { is = rw e (p .is) }
 
-module _ (q q′ : Limits) (sizes : q′ .sizes ≡ q .sizes) (fields : q′ .fields ≡ q .fields) (low : q′ .first ≤ q .first) (high : q .last ≤ q′ .last) where
+module _ (q q′ : Limits) (sizes : q′ .sizes ≡ q .sizes) (fields : q′ .fields ≡ q .fields) (flag : q′ .flag ≡ q .flag) (low : q′ .first ≤ q .first) (high : q .last ≤ q′ .last) where
   right-cell : (is : List ℕ) (vs : List (Option ℤ)) → cell-number q is vs ≡ 0 → cell-number q′ is vs ≡ 0
   unfolding cell-number
-  right-cell is vs h = rw (sizes, fields) h
+  right-cell is vs h = rw (sizes, fields, flag) h
 
   right-line : (before : Option ℕ) (s : Said) → line-number q before s ≡ 0 → line-number q′ before s ≡ 0
   right-line before bad h = h

@@ -175,7 +175,7 @@ module _ (p : Program) where
   unfolding good-times
   right-times start n s l = rw (s, le-leb 0 (natAbs start) (omega arith), le-leb 0 n (omega arith)) (le-leb (natAbs start + n) 2147483647 l)
 
-  module _ (q r : Asked) (a : admitted p q .number ≡ 0) (b : admitted p r .number ≡ 0) (sizes : r .request .sizes ≡ q .request .sizes)
+  module _ (flag : Option ℕ) (q r : Asked) (a : admitted p flag q .number ≡ 0) (b : admitted p flag r .number ≡ 0) (sizes : r .request .sizes ≡ q .request .sizes)
       (start : natAbs (r .request .start) ≡ natAbs (q .request .start) + natAbs (q .request .steps)) (times : joined-rise (q .values) (r .values) ≡ true) where
     abbrev n : ℕ
     n = natAbs (q .request .steps)
@@ -187,30 +187,30 @@ module _ (p : Program) where
     t = natAbs (q .request .start)
 
     abbrev both : Limits
-    both = limits-of p (at-once q r .request)
+    both = limits-of p flag (at-once q r .request)
 
     -- the joined list
-    first : Passes (limits-of p (q .request)) none 1 (said (q .values))
-    first = list-passes p q a
+    first : Passes (limits-of p flag (q .request)) none 1 (said (q .values))
+    first = list-passes p flag q a
 
-    second : Passes (limits-of p (r .request)) none 1 (said (r .values))
-    second = list-passes p r b
+    second : Passes (limits-of p flag (r .request)) none 1 (said (r .values))
+    second = list-passes p flag r b
 
     said-both : said (q .values ++ r .values) ≡ said (q .values) ++ said (r .values)
     unfolding check-list
-    said-both = said-joined (limits-of p (q .request)) (q .values) (r .values) (verdict-zero (limits-of p (q .request)) none 1 (said (q .values)) first)
+    said-both = said-joined (limits-of p flag (q .request)) (q .values) (r .values) (verdict-zero (limits-of p flag (q .request)) none 1 (said (q .values)) first)
 
     rise : first-rises (last-time none (said (q .values))) (said (r .values)) ≡ true
     rise = behind-rises none (said (q .values)) (said (r .values)) times
 
-    pub at-once-admitted : admitted p (at-once q r) .number ≡ 0
-    at-once-admitted = all-admit p (at-once q r) (longer (q .request) (pos (n + m)) (request-admitted p q a) (right-times (q .request .start) (n + m) (Tq .start-is) few)) (counts-admitted p q a) (rw said-both pass)
+    pub at-once-admitted : admitted p flag (at-once q r) .number ≡ 0
+    at-once-admitted = all-admit p flag (at-once q r) (longer (q .request) (pos (n + m)) (request-admitted p flag q a) (right-times (q .request .start) (n + m) (Tq .start-is) few)) (counts-admitted p flag q a) (rw said-both pass)
       where
         Tq : Times (q .request .start) (q .request .steps)
-        Tq = times-of (q .request .start) (q .request .steps) (times-pass (q .request) (request-admitted p q a))
+        Tq = times-of (q .request .start) (q .request .steps) (times-pass (q .request) (request-admitted p flag q a))
 
         Tr : Times (r .request .start) (r .request .steps)
-        Tr = times-of (r .request .start) (r .request .steps) (times-pass (r .request) (request-admitted p r b))
+        Tr = times-of (r .request .start) (r .request .steps) (times-pass (r .request) (request-admitted p flag r b))
 
         few : natAbs (q .request .start) + (n + m) ≤ 2147483647
         few = let f = Tr .few in let e = start in omega arith
@@ -218,16 +218,16 @@ module _ (p : Program) where
         pass : Passes both none 1 (said (q .values) ++ said (r .values))
         pass =
             passes-joined both (said (q .values)) (said (r .values)) none 1
-            (passes-wider (limits-of p (q .request)) both refl refl (le-refl t) (omega arith) none 1 1 (said (q .values)) first)
+            (passes-wider (limits-of p flag (q .request)) both refl refl refl (le-refl t) (omega arith) none 1 1 (said (q .values)) first)
             (passes-after both (last-time none (said (q .values))) (1 + length (said (q .values))) (said (r .values))
-            (passes-wider (limits-of p (r .request)) both (sym sizes) refl (let e = start in omega arith) (let e = start in omega arith) none 1 (1 + length (said (q .values))) (said (r .values)) second) rise)
+            (passes-wider (limits-of p flag (r .request)) both (sym sizes) refl refl (let e = start in omega arith) (let e = start in omega arith) none 1 (1 + length (said (q .values))) (said (r .values)) second) rise)
 
     -- what it sets is what the two lists set
     blocks-join : Joined (blocks p q) (set-block (q .request .sizes) (length (p .fields)) (r .values)) (blocks p (at-once q r)) (t + n)
     unfolding set-block
     blocks-join =
         subst (λ (ss : List Said). Joined (blocks p q) (set-block (q .request .sizes) (length (p .fields)) (r .values)) (λ u g. set-lines (q .request .sizes) (length (p .fields)) u false g ss) (t + n)) (sym said-both)
-        (lines-join (limits-of p (q .request)) (limits-of p (r .request)) (q .request .sizes) (length (p .fields)) (said (q .values)) (said (r .values)) first second (t + n) refl start rise)
+        (lines-join (limits-of p flag (q .request)) (limits-of p flag (r .request)) (q .request .sizes) (length (p .fields)) (said (q .values)) (said (r .values)) first second (t + n) refl start rise)
 
     -- ---- both calls
 

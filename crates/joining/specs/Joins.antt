@@ -40,8 +40,8 @@ Pauses (resuming marks) = Unit {0}
 -- A call goes on where another one stopped: both are admitted; the earlier one did all its steps, so that it has no fault; the sizes are the same, the grid is
 -- as left, the start has moved on by the steps, and the times of the two lists, joined, rise strictly.
 pub record GoesOn (manner : Manner) (fit : Bool) (source : List ℕ) (q r : Asked) : Type 0 where
-  pub earlier : run-begins q (read-source fit source) ≡ true
-  pub later : run-begins r (read-source fit source) ≡ true
+  pub earlier : run-begins source q (read-source fit source) ≡ true
+  pub later : run-begins source r (read-source fit source) ≡ true
   pub done : run-source manner fit source q .steps ≡ natAbs (q .request .steps)
   pub sizes : r .request .sizes ≡ q .request .sizes
   pub grid : r .request .grid ≡ run-source manner fit source q .grid
@@ -100,7 +100,7 @@ last-marks manner fit source q (r ∷ rs) marks = last-marks (behind manner fit 
 
 -- each goes on where the one before stopped, and the times of all lists, joined, rise strictly
 abbrev pub Chain : Manner → Bool → List ℕ → Asked → List Asked → List ℕ → Type 0
-Chain manner fit source q [] marks = run-begins q (read-source fit source) ≡ true
+Chain manner fit source q [] marks = run-begins source q (read-source fit source) ≡ true
 Chain manner fit source q (r ∷ rs) marks =
     GoesOn manner fit source q r × (joined-rise (q .values) (all-at-once r rs .values) ≡ true)
     × Chain (behind manner fit source q marks) fit source r rs (marks-after manner fit source q marks)

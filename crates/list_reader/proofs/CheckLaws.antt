@@ -19,7 +19,7 @@ use Rattle.lists.specs.Text.{Piece, literal, sign, with-piece, pieces}
 use Rattle.lists.specs.Lines.{Said, bad, time, cell, Indexed, indices, values, assigned, cell-with, cell-of-index, said-by, said-in, said}
 use Rattle.lists.specs.Text as text
 use Rattle.lists.specs.ListChecking.{Limits, inside, all-fit, cell-number, rises, time-number, line-number, time-behind, Verdict, verdict, check-lines, check-list}
-use Rattle.lists.specs.Walking.{to-end, said-cut, said-last, Placed, wrong, placed, place-from, placed-by, place-is, place-none, values-number, values-last}
+use Rattle.lists.specs.Walking.{to-end, said-cut, said-last, Placed, wrong, placed, place-from, placed-by, place-is, place-none, all-keep, values-number, values-last}
 use Rattle.list_reader.specs.declared.Lexed.{Lexed}
 use Rattle.list_reader.specs.declared.Lexed.the-variants.{Literal, Sign, End, Unreadable}
 use Rattle.list_reader.specs.Promises.{Ends, tokens-of, Lexes}
@@ -65,14 +65,14 @@ pub ruleset TimeNumbers = (time-falls, time-early, time-late, time-right)
 -- ---- a cell's line
 
 -- its number, by its values
-abbrev valued-number : List Range → Bool → Option (List (Option ℤ)) → ℕ
-valued-number fs outside none = 50
-valued-number fs outside (some vs) = if outside then 51 else values-number fs false true (some vs)
+abbrev valued-number : List Range → ℕ → Bool → Option (List (Option ℤ)) → ℕ
+valued-number fs fl outside none = 50
+valued-number fs fl outside (some vs) = if outside then 51 else values-number fs fl 0 false true true (some vs)
 
 -- its number, by what a walk over its index gives
-abbrev place-number : List Range → Placed → ℕ
-place-number fs wrong = 50
-place-number fs (placed outside c ps) = valued-number fs outside (assigned ps)
+abbrev place-number : List Range → ℕ → Placed → ℕ
+place-number fs fl wrong = 50
+place-number fs fl (placed outside c ps) = valued-number fs fl outside (assigned ps)
 
 cell-outside : (q : Limits) (is : List ℕ) (vs : List (Option ℤ)) → eqb (length is) (length (q .sizes)) ≡ true → inside (q .sizes) is ≡ false → cell-number q is vs ≡ 51
 unfolding cell-number
@@ -82,113 +82,114 @@ cell-miscounted : (q : Limits) (is : List ℕ) (vs : List (Option ℤ)) → eqb 
 unfolding cell-number
 cell-miscounted q is vs e = rw e
 
-module _ (q : Limits) (t : ℕ) where
+module _ (q : Limits) (fl : ℕ) (flag-is : q .flag ≡ some fl) (t : ℕ) where
   with-values : (i : Indexed) (o : Option (List (Option ℤ))) → assigned (i .rest) ≡ o
-      → place-number (q .fields) (placed-by (q .sizes) false 0 (some i)) ≡ line-number q (some t) (cell-with (i .index) o)
+      → place-number (q .fields) fl (placed-by (q .sizes) false 0 (some i)) ≡ line-number q (some t) (cell-with (i .index) o)
   with-values i none e = by (eqb (length (i .index)) (length (q .sizes)))
     where
-      by : (a : Bool) → place-number (q .fields) (if a then placed (false || not (inside (q .sizes) (i .index))) (0 * product (q .sizes) + shape.cell-number (q .sizes) (i .index)) (i .rest) else wrong) ≡ 50
-      by true = ap (valued-number (q .fields) (not (inside (q .sizes) (i .index)))) e
+      by : (a : Bool) → place-number (q .fields) fl (if a then placed (false || not (inside (q .sizes) (i .index))) (0 * product (q .sizes) + shape.cell-number (q .sizes) (i .index)) (i .rest) else wrong) ≡ 50
+      by true = ap (valued-number (q .fields) fl (not (inside (q .sizes) (i .index)))) e
       by false = refl
   with-values i (some vs) e = by (eqb (length (i .index)) (length (q .sizes))) refl (inside (q .sizes) (i .index)) refl
     where
       by : (a : Bool) → eqb (length (i .index)) (length (q .sizes)) ≡ a → (b : Bool) → inside (q .sizes) (i .index) ≡ b
-          → place-number (q .fields) (if a then placed (false || not b) (0 * product (q .sizes) + shape.cell-number (q .sizes) (i .index)) (i .rest) else wrong) ≡ cell-number q (i .index) vs
-      by true ea true eb = ap (valued-number (q .fields) false) e ∙ sym (values-last q (i .index) vs ea eb)
-      by true ea false eb = ap (valued-number (q .fields) true) e ∙ sym (cell-outside q (i .index) vs ea eb)
+          → place-number (q .fields) fl (if a then placed (false || not b) (0 * product (q .sizes) + shape.cell-number (q .sizes) (i .index)) (i .rest) else wrong) ≡ cell-number q (i .index) vs
+      by true ea true eb = ap (valued-number (q .fields) fl false) e ∙ sym (values-last q fl (i .index) vs flag-is ea eb)
+      by true ea false eb = ap (valued-number (q .fields) fl true) e ∙ sym (cell-outside q (i .index) vs ea eb)
       by false ea b eb = sym (cell-miscounted q (i .index) vs ea)
 
-  by-index : (o : Option Indexed) → place-number (q .fields) (placed-by (q .sizes) false 0 o) ≡ line-number q (some t) (cell-of-index o)
+  by-index : (o : Option Indexed) → place-number (q .fields) fl (placed-by (q .sizes) false 0 o) ≡ line-number q (some t) (cell-of-index o)
   by-index none = refl
   by-index (some i) = with-values i (assigned (i .rest)) refl
 
-  by-sizes : (ns : List ℕ) → q .sizes ≡ ns → (ps : List Piece) → place-number (q .fields) (place-from ns false 0 ps) ≡ line-number q (some t) (cell-of-index (indices ps))
+  by-sizes : (ns : List ℕ) → q .sizes ≡ ns → (ps : List Piece) → place-number (q .fields) fl (place-from ns false 0 ps) ≡ line-number q (some t) (cell-of-index (indices ps))
   by-sizes [] e ps =
-      ap (place-number (q .fields)) (place-none false 0 ps) ∙ ap (λ (ns : List ℕ). place-number (q .fields) (placed-by ns false 0 (indices ps))) (sym e) ∙ by-index (indices ps)
+      ap (place-number (q .fields) fl) (place-none false 0 ps) ∙ ap (λ (ns : List ℕ). place-number (q .fields) fl (placed-by ns false 0 (indices ps))) (sym e) ∙ by-index (indices ps)
   by-sizes (n ∷ ns) e ps =
-      ap (place-number (q .fields)) (place-is n ns false 0 ps) ∙ ap (λ (ms : List ℕ). place-number (q .fields) (placed-by ms false 0 (indices ps))) (sym e) ∙ by-index (indices ps)
+      ap (place-number (q .fields) fl) (place-is n ns false 0 ps) ∙ ap (λ (ms : List ℕ). place-number (q .fields) fl (placed-by ms false 0 (indices ps))) (sym e) ∙ by-index (indices ps)
 
   -- the number of a cell's line is that of its walk
-  by-walk : (ns : List ℕ) (fs : List Range) → q .sizes ≡ ns → q .fields ≡ fs → (o : Option (List Piece)) → place-number fs (place-in ns false 0 o) ≡ line-number q (some t) (cell-said o)
+  by-walk : (ns : List ℕ) (fs : List Range) → q .sizes ≡ ns → q .fields ≡ fs → (o : Option (List Piece)) → place-number fs fl (place-in ns false 0 o) ≡ line-number q (some t) (cell-said o)
   by-walk ns fs e f none = refl
-  by-walk ns fs e f (some ps) = ap (λ (rs : List Range). place-number rs (place-from ns false 0 ps)) (sym f) ∙ by-sizes ns e ps
+  by-walk ns fs e f (some ps) = ap (λ (rs : List Range). place-number rs fl (place-from ns false 0 ps)) (sym f) ∙ by-sizes ns e ps
 
 -- ---- behind the index
 
-not-fifty : (fs : List Range) (vs : List (Option ℤ)) → eqb (values-number fs false true (some vs)) 50 ≡ false
-not-fifty fs vs = by (ltb (length fs) (length vs)) (all-fit fs vs)
+not-fifty : (fs : List Range) (fl : ℕ) (vs : List (Option ℤ)) → eqb (values-number fs fl 0 false true true (some vs)) 50 ≡ false
+not-fifty fs fl vs = by (ltb (length fs) (length vs)) (all-fit fs vs) (all-keep fl 0 vs)
   where
-    by : (a b : Bool) → eqb (if a then 52 else if not b then 53 else 0) 50 ≡ false
-    by true b = refl
-    by false true = refl
-    by false false = refl
+    by : (a b c : Bool) → eqb (if a then 52 else if not b then 53 else if not c then 58 else 0) 50 ≡ false
+    by true b c = refl
+    by false true true = refl
+    by false true false = refl
+    by false false c = refl
 
 -- one number for what the values are, and what the index is
 abbrev joined-number : Bool → ℕ → ℕ
 joined-number outside n = if eqb n 50 then 50 else if outside then 51 else n
 
-by-values : (fs : List Range) (outside : Bool) (o : Option (List (Option ℤ))) → valued-number fs outside o ≡ joined-number outside (values-number fs false true o)
-by-values fs outside none = refl
-by-values fs outside (some vs) = rw (not-fifty fs vs)
+by-values : (fs : List Range) (fl : ℕ) (outside : Bool) (o : Option (List (Option ℤ))) → valued-number fs fl outside o ≡ joined-number outside (values-number fs fl 0 false true true o)
+by-values fs fl outside none = refl
+by-values fs fl outside (some vs) = rw (not-fifty fs fl vs)
 
-assigned-equal : (fs : List Range) (outside : Bool) (c : ℕ) (o : Option (List Piece)) → place-number fs (placed-with outside c (with-piece (sign 61) o)) ≡ joined-number outside (values-number fs false true (values-in o))
+assigned-equal : (fs : List Range) (fl : ℕ) (outside : Bool) (c : ℕ) (o : Option (List Piece)) → place-number fs fl (placed-with outside c (with-piece (sign 61) o)) ≡ joined-number outside (values-number fs fl 0 false true true (values-in o))
 unfolding assigned
-assigned-equal fs outside c none = refl
-assigned-equal fs outside c (some ps) = by-values fs outside (values ps)
+assigned-equal fs fl outside c none = refl
+assigned-equal fs fl outside c (some ps) = by-values fs fl outside (values ps)
 
-assigned-other : (fs : List Range) (outside : Bool) (c b : ℕ) (o : Option (List Piece)) → (b ≡ 61 → ⊥) → place-number fs (placed-with outside c (with-piece (sign b) o)) ≡ 50
+assigned-other : (fs : List Range) (fl : ℕ) (outside : Bool) (c b : ℕ) (o : Option (List Piece)) → (b ≡ 61 → ⊥) → place-number fs fl (placed-with outside c (with-piece (sign b) o)) ≡ 50
 unfolding assigned
-assigned-other fs outside c b none d = refl
-assigned-other fs outside c b (some ps) d = rw (ne-eqb b 61 d)
+assigned-other fs fl outside c b none d = refl
+assigned-other fs fl outside c b (some ps) d = rw (ne-eqb b 61 d)
 
-assigned-literal : (fs : List Range) (outside : Bool) (c n : ℕ) (o : Option (List Piece)) → place-number fs (placed-with outside c (with-piece (literal n) o)) ≡ 50
+assigned-literal : (fs : List Range) (fl : ℕ) (outside : Bool) (c n : ℕ) (o : Option (List Piece)) → place-number fs fl (placed-with outside c (with-piece (literal n) o)) ≡ 50
 unfolding assigned
-assigned-literal fs outside c n none = refl
-assigned-literal fs outside c n (some ps) = refl
+assigned-literal fs fl outside c n none = refl
+assigned-literal fs fl outside c n (some ps) = refl
 
-assigned-none : (fs : List Range) (outside : Bool) (c : ℕ) → place-number fs (placed outside c []) ≡ 50
+assigned-none : (fs : List Range) (fl : ℕ) (outside : Bool) (c : ℕ) → place-number fs fl (placed outside c []) ≡ 50
 unfolding assigned
-assigned-none fs outside c = refl
+assigned-none fs fl outside c = refl
 
-module _ (sizes : List ℕ) (fs : List Range) (line : List ℕ) (at : ℕ) {x : Place} (w : ReadsPlace sizes line at x) where
-  numbered : {y : Place} {r : ℕ} → x ≡ y → r ≡ place-number fs (placed-of line y) → NumbersCell sizes fs line at r
-  numbered e h = record { is = λ q t a b. h ∙ ap (place-number fs) (sym (w .is ∙ ap (placed-of line) e)) ∙ by-walk q t sizes fs a b (pieces 0 (drop at line)) }
+module _ (sizes : List ℕ) (fs : List Range) (fl : ℕ) (line : List ℕ) (at : ℕ) {x : Place} (w : ReadsPlace sizes line at x) where
+  numbered : {y : Place} {r : ℕ} → x ≡ y → r ≡ place-number fs fl (placed-of line y) → NumbersCell sizes fs fl line at r
+  numbered e h = record { is = λ q t a b d. h ∙ ap (place-number fs fl) (sym (w .is ∙ ap (placed-of line) e)) ∙ by-walk q fl d t sizes fs a b (pieces 0 (drop at line)) }
 
-  pub cell-wrong : x ≡ place.Wrong → NumbersCell sizes fs line at 50
+  pub cell-wrong : x ≡ place.Wrong → NumbersCell sizes fs fl line at 50
   cell-wrong e = numbered e refl
 
   module _ {outside : Bool} {c next : ℕ} (e : x ≡ place.At outside c next) where
     module _ {y : Lexed} (v : Lexes line next y) where
-      token : {z : Lexed} {r : ℕ} → y ≡ z → r ≡ place-number fs (placed-with outside c (tokens-of line z)) → NumbersCell sizes fs line at r
-      token f h = numbered e (h ∙ ap (λ (o : Option (List Piece)). place-number fs (placed-with outside c o)) (sym (v .is ∙ ap (tokens-of line) f)))
+      token : {z : Lexed} {r : ℕ} → y ≡ z → r ≡ place-number fs fl (placed-with outside c (tokens-of line z)) → NumbersCell sizes fs fl line at r
+      token f h = numbered e (h ∙ ap (λ (o : Option (List Piece)). place-number fs fl (placed-with outside c o)) (sym (v .is ∙ ap (tokens-of line) f)))
 
-      pub cell-literal : {n past : ℕ} → y ≡ Literal n past → NumbersCell sizes fs line at 50
-      cell-literal {n} {past} f = token f (sym (assigned-literal fs outside c n (pieces 0 (drop past line))))
+      pub cell-literal : {n past : ℕ} → y ≡ Literal n past → NumbersCell sizes fs fl line at 50
+      cell-literal {n} {past} f = token f (sym (assigned-literal fs fl outside c n (pieces 0 (drop past line))))
 
-      pub cell-end : y ≡ End → NumbersCell sizes fs line at 50
-      cell-end f = token f (sym (assigned-none fs outside c))
+      pub cell-end : y ≡ End → NumbersCell sizes fs fl line at 50
+      cell-end f = token f (sym (assigned-none fs fl outside c))
 
-      pub cell-unreadable : y ≡ Unreadable → NumbersCell sizes fs line at 50
+      pub cell-unreadable : y ≡ Unreadable → NumbersCell sizes fs fl line at 50
       cell-unreadable f = token f refl
 
       module _ {b past : ℕ} (f : y ≡ Sign b past) where
-        pub cell-other : (b ≡ 61 → ⊥) → NumbersCell sizes fs line at 50
-        cell-other d = token f (sym (assigned-other fs outside c b (pieces 0 (drop past line)) d))
+        pub cell-other : (b ≡ 61 → ⊥) → NumbersCell sizes fs fl line at 50
+        cell-other d = token f (sym (assigned-other fs fl outside c b (pieces 0 (drop past line)) d))
 
-        module _ (d : b ≡ 61) {m : ℕ} (n : NumbersValues fs line past m) where
-          by-number : {r : ℕ} → r ≡ joined-number outside m → NumbersCell sizes fs line at r
+        module _ (d : b ≡ 61) {m : ℕ} (n : NumbersValues fs fl line past m) where
+          by-number : {r : ℕ} → r ≡ joined-number outside m → NumbersCell sizes fs fl line at r
           by-number h =
               token f
-              (h ∙ ap (joined-number outside) (n .is) ∙ sym (assigned-equal fs outside c (pieces 0 (drop past line)))
-              ∙ ap (λ (k : ℕ). place-number fs (placed-with outside c (with-piece (sign k) (pieces 0 (drop past line))))) (sym d))
+              (h ∙ ap (joined-number outside) (n .is) ∙ sym (assigned-equal fs fl outside c (pieces 0 (drop past line)))
+              ∙ ap (λ (k : ℕ). place-number fs fl (placed-with outside c (with-piece (sign k) (pieces 0 (drop past line))))) (sym d))
 
-          pub cell-bad : m ≡ 50 → NumbersCell sizes fs line at 50
+          pub cell-bad : m ≡ 50 → NumbersCell sizes fs fl line at 50
           cell-bad g = by-number (rw g)
 
-          pub cell-outward : (m ≡ 50 → ⊥) → outside ≡ true → NumbersCell sizes fs line at 51
+          pub cell-outward : (m ≡ 50 → ⊥) → outside ≡ true → NumbersCell sizes fs fl line at 51
           cell-outward g h = by-number (rw (ne-eqb m 50 g, h))
 
-          pub cell-inward : (m ≡ 50 → ⊥) → outside ≡ false → NumbersCell sizes fs line at m
+          pub cell-inward : (m ≡ 50 → ⊥) → outside ≡ false → NumbersCell sizes fs fl line at m
           cell-inward g h = by-number (rw (ne-eqb m 50 g, h))
 
 pub ruleset CellNumbers = (cell-wrong, cell-literal, cell-end, cell-unreadable, cell-other, cell-bad, cell-outward, cell-inward)
@@ -283,54 +284,54 @@ time-stays before bad h = refl
 time-stays before (time t) h = absurd h
 time-stays before (cell is vs) h = refl
 
-module _ (sizes : List ℕ) (fs : List Range) (first last least : ℕ) (line : List ℕ) {x : Lexed} (w : Lexes line 0 x) where
+module _ (sizes : List ℕ) (fs : List Range) (fl first last least : ℕ) (line : List ℕ) {x : Lexed} (w : Lexes line 0 x) where
   first-says : {y : Lexed} → x ≡ y → said-in (pieces 0 line) ≡ said-in (tokens-of line y)
   first-says e = ap said-in (w .is ∙ ap (tokens-of line) e)
 
-  pub line-blank : x ≡ End → JudgesLine (limits sizes fs first last) least line (Refused 50)
-  line-blank e = record { is = judged-bad (limits sizes fs first last) least (first-says e ∙ blank-bad) }
+  pub line-blank : x ≡ End → JudgesLine (limits sizes fs fl first last) least line (Refused 50)
+  line-blank e = record { is = judged-bad (limits sizes fs fl first last) least (first-says e ∙ blank-bad) }
 
-  pub line-unreadable : x ≡ Unreadable → JudgesLine (limits sizes fs first last) least line (Refused 50)
-  line-unreadable e = record { is = judged-bad (limits sizes fs first last) least (first-says e) }
+  pub line-unreadable : x ≡ Unreadable → JudgesLine (limits sizes fs fl first last) least line (Refused 50)
+  line-unreadable e = record { is = judged-bad (limits sizes fs fl first last) least (first-says e) }
 
-  pub line-time : {t next : ℕ} {r : LineRead} → x ≡ Literal t next → JudgesTime first last least t line next r → JudgesLine (limits sizes fs first last) least line r
-  line-time {t} {next} {r} e h = record { is = subst (λ (s : Said). Judged (limits sizes fs first last) least s r) (sym (first-says e)) (h .is (limits sizes fs first last) refl refl) }
+  pub line-time : {t next : ℕ} {r : LineRead} → x ≡ Literal t next → JudgesTime first last least t line next r → JudgesLine (limits sizes fs fl first last) least line r
+  line-time {t} {next} {r} e h = record { is = subst (λ (s : Said). Judged (limits sizes fs fl first last) least s r) (sym (first-says e)) (h .is (limits sizes fs fl first last) refl refl) }
 
   module _ {b next : ℕ} (e : x ≡ Sign b next) where
-    pub line-sign : (b ≡ 91 → ⊥) → JudgesLine (limits sizes fs first last) least line (Refused 50)
-    line-sign d = record { is = judged-bad (limits sizes fs first last) least (first-says e ∙ sign-bad b (pieces 0 (drop next line)) d) }
+    pub line-sign : (b ≡ 91 → ⊥) → JudgesLine (limits sizes fs fl first last) least line (Refused 50)
+    line-sign d = record { is = judged-bad (limits sizes fs fl first last) least (first-says e ∙ sign-bad b (pieces 0 (drop next line)) d) }
 
     module _ (d : b ≡ 91) where
       says-cell : said-in (pieces 0 line) ≡ cell-said (pieces 0 (drop next line))
       says-cell = first-says e ∙ ap (λ (k : ℕ). said-in (with-piece (sign k) (pieces 0 (drop next line)))) d ∙ bracket-cell (pieces 0 (drop next line))
 
-      pub line-early : least < 1 → JudgesLine (limits sizes fs first last) least line (Refused 50)
+      pub line-early : least < 1 → JudgesLine (limits sizes fs fl first last) least line (Refused 50)
       line-early l =
           let z : least ≡ 0 = omega arith in
           record {
             is = (
-              ap₂ (λ (m : ℕ) (s : Said). line-number (limits sizes fs first last) (time-before m) s) z says-cell
-                  ∙ before-any (limits sizes fs first last) (cell-said (pieces 0 (drop next line))) (cell-timeless (pieces 0 (drop next line))),
+              ap₂ (λ (m : ℕ) (s : Said). line-number (limits sizes fs fl first last) (time-before m) s) z says-cell
+                  ∙ before-any (limits sizes fs fl first last) (cell-said (pieces 0 (drop next line))) (cell-timeless (pieces 0 (drop next line))),
               omega arith,
             );
           }
 
-      module _ (l : 1 ≤ least) {n : ℕ} (k : NumbersCell sizes fs line next n) where
-        numbers : line-number (limits sizes fs first last) (time-before least) (said-in (pieces 0 line)) ≡ n
+      module _ (l : 1 ≤ least) {n : ℕ} (k : NumbersCell sizes fs fl line next n) where
+        numbers : line-number (limits sizes fs fl first last) (time-before least) (said-in (pieces 0 line)) ≡ n
         numbers = by least l
           where
-            by : (m : ℕ) → 1 ≤ m → line-number (limits sizes fs first last) (time-before m) (said-in (pieces 0 line)) ≡ n
+            by : (m : ℕ) → 1 ≤ m → line-number (limits sizes fs fl first last) (time-before m) (said-in (pieces 0 line)) ≡ n
             by zero h = absurd (omega arith)
-            by (suc t) h = ap (line-number (limits sizes fs first last) (some t)) says-cell ∙ sym (k .is (limits sizes fs first last) t refl refl)
+            by (suc t) h = ap (line-number (limits sizes fs fl first last) (some t)) says-cell ∙ sym (k .is (limits sizes fs fl first last) t refl refl refl)
 
-        pub line-right : n ≡ 0 → JudgesLine (limits sizes fs first last) least line (Right least)
+        pub line-right : n ≡ 0 → JudgesLine (limits sizes fs fl first last) least line (Right least)
         line-right z =
             record {
               is =
                   (numbers ∙ z, ap (time-behind (time-before least)) says-cell ∙ time-stays (time-before least) (cell-said (pieces 0 (drop next line))) (cell-timeless (pieces 0 (drop next line))));
             }
 
-        pub line-refused : (n ≡ 0 → ⊥) → JudgesLine (limits sizes fs first last) least line (Refused n)
+        pub line-refused : (n ≡ 0 → ⊥) → JudgesLine (limits sizes fs fl first last) least line (Refused n)
         line-refused z = record { is = (numbers, positive n z) }
 
 pub ruleset LineWays = (line-blank, line-unreadable, line-time, line-sign, line-early, line-right, line-refused)

@@ -17,9 +17,12 @@ use Rattle.program.specs.Syntax.{Program}
 use Rattle.semantics.specs.declared.Rule.{Rule}
 use Rattle.semantics.specs.Stands.{Holds}
 use Rattle.stepper.specs.Admission.{Request, Refusal, refusal, all-between, good-sizes, admission}
+use Rattle.stepper.specs.Fitting.{held-fields}
+use Rattle.one_move.specs.Profile.{flag-told}
 use Rattle.lists.specs.Lines.{Said, bad, time, cell, said}
 use Rattle.lists.specs.ListChecking.{Limits, limits-of, Verdict, check-list}
 use Rattle.lists.specs.Setting.{set-lines, set-block}
+use Rattle.lists.specs.Told.{told-check}
 use Rattle.lists.specs.Passing.{Passes, passes-first, rises-told, starts-told, not-yet}
 use Rattle.list_reader.specs.Places.{Dimensions}
 use Rattle.list_reader.specs.Values.{fields-in}
@@ -32,11 +35,15 @@ use Rattle.list_reader.proofs.SettingLaws.{set-nothing}
 
 -- ---- the verdict
 
--- the limits that the code checks against are those of the program that stands in the table
-pub limits-are : (words : List ℕ) (rule : Rule) (p : Program) (q : Request) {first last : ℕ} → Holds words rule p → natAbs (q .start) ≡ first → natAbs (q .start) + natAbs (q .steps) ≡ last
-    → limits (q .sizes) (fields-in words rule) first last ≡ limits-of p q
+-- the check by the limits that the code has is that of the program that stands in the table, with the flag that its number tells
+pub verdict-is : (words : List ℕ) (rule : Rule) (p : Program) (flag : Option ℕ) (q : Request) (text : List ℕ) {told first last : ℕ} → Holds words rule p
+    → told ≡ flag-told (rule .fields) flag → natAbs (q .start) ≡ first → natAbs (q .start) + natAbs (q .steps) ≡ last
+    → check-list (limits (q .sizes) (fields-in words rule) told first last) text ≡ check-list (limits-of p flag q) text
 unfolding fields-in
-limits-are words rule p q h a b = λ i. record { sizes = q .sizes; fields = sym (h .fields) i; first = sym a i; last = sym b i }
+verdict-is words rule p flag q text h e a b =
+    let told-is = e ∙ ap (λ (n : ℕ). flag-told n flag) (sym (held-fields p h)) in
+    (λ i. check-list (record { sizes = q .sizes; fields = sym (h .fields) i; flag = some (told-is i); first = sym a i; last = sym b i }) text)
+    ∙ told-check flag (limits-of p flag q) text
 
 -- and the sizes of an admitted run are as the check asks
 first-holds : (t : Bool) (r : Refusal) → (if not t then refusal 20 0 else r) .number ≡ 0 → t ≡ true

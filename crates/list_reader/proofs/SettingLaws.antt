@@ -13,7 +13,7 @@ use lib.IntN.{ℤ}
 use lib.Dec.{eqb, ltb}
 use mir.Syntax.{w64}
 use mir.Val.{Fits}
-use borrow.Author.Tests.{eq-eqb, eqb-true}
+use borrow.Author.Tests.{eq-eqb}
 use Rattle.value.specs.Choice.{if_then_else_}
 use Rattle.value.specs.Laws.{never}
 use Rattle.value.specs.declared.Value.{Value}
@@ -21,10 +21,11 @@ use Rattle.automaton.specs.Shape as shape
 use Rattle.automaton.specs.Shape.{product}
 use Rattle.lists.specs.Text.{Piece, literal, sign, with-piece, pieces}
 use Rattle.lists.specs.Lines.{Said, bad, time, cell, Indexed, indices, with-value, values, assigned, cell-with, cell-of-index, said-by, said-in, said}
-use Rattle.lists.specs.ListChecking.{Limits, inside, all-fit, cell-number}
+use Rattle.lists.specs.ListChecking.{Limits, inside}
 use Rattle.lists.specs.Setting.{store-values, set-lines}
 use Rattle.lists.specs.Walking.{Placed, wrong, placed, place-from, placed-by, place-is, place-none, store-one, one-stored}
 use Rattle.lists.specs.Passing.{Passes, passes-first, block-ends}
+use Rattle.lists.specs.Kept.{right-cell}
 use Rattle.list_reader.specs.declared.Lexed.{Lexed}
 use Rattle.list_reader.specs.declared.Lexed.the-variants.{Literal, Sign, End, Unreadable}
 use Rattle.list_reader.specs.Promises.{Ends, tokens-of, Lexes}
@@ -329,14 +330,6 @@ pub ruleset TimeTells = (tells-literal, tells-sign, tells-end, tells-unreadable)
 
 -- ---- the lines of a block
 
-count-told : (q : Limits) (is : List ℕ) (vs : List (Option ℤ)) → cell-number q is vs ≡ 0 → length is ≡ length (q .sizes)
-unfolding cell-number
-count-told q is vs e = by (eqb (length is) (length (q .sizes))) refl e
-  where
-    by : (t : Bool) → eqb (length is) (length (q .sizes)) ≡ t → _≡_ {A = ℕ} (if not t then 50 else if not (inside (q .sizes) is) then 51 else if ltb (length (q .fields)) (length vs) then 52 else if not (all-fit (q .fields) vs) then 53 else 0) 0 → length is ≡ length (q .sizes)
-    by true f h = eqb-true (length is) (length (q .sizes)) f
-    by false f h = absurd (omega arith)
-
 pub set-nothing : (sizes : List ℕ) (fields t : ℕ) (b : Bool) (g : List ℤ) → set-lines sizes fields t b g [] ≡ g
 unfolding set-lines
 set-nothing sizes fields t b g = refl
@@ -371,7 +364,7 @@ cell-set q sizes fields t text from at next g₀ g h z k bad e p f =
 cell-set q sizes fields t text from at next g₀ g h z k (time u) e p f = absurd (p u refl)
 cell-set q sizes fields t text from at next g₀ g h z k (cell is vs) e p f =
     let w = passes-first q (some t) (k .number) (cell is vs) (said (drop next text)) (subst (Passes q (some t) (k .number)) e (k .passes)) in
-    let s = f is vs refl (count-told q is vs (w .0) ∙ ap length z) in
+    let s = f is vs refl (right-cell q is vs (w .0) .counted ∙ ap length z) in
     record {
       sets = k .sets ∙ ap (set-lines sizes fields t true g) e ∙ set-cell sizes fields t g is vs (said (drop next text)) ∙ ap (λ (y : List ℤ). set-lines sizes fields t true y (said (drop next text))) (sym s);
       skips = λ u y. k .skips u y ∙ ap (set-lines sizes fields u false y) e ∙ skip-cell sizes fields u y is vs (said (drop next text));

@@ -10,9 +10,9 @@ use lib.ListN.{length, drop, getD, drop-of-length-le}
 use lib.Seq.{drop-cons}
 use lib.IntN.{ℤ, pos, negsuc}
 use lib.Dec.{eqb, ltb}
-use borrow.Author.Tests.{ne-eqb, lt-ltb, le-ltb, ltb-true, ltb-false}
+use borrow.Author.Tests.{eq-eqb, ne-eqb, lt-ltb, le-ltb, ltb-true, ltb-false}
 use Rattle.value.specs.Choice.{if_then_else_}
-use Rattle.value.specs.Number.{within}
+use Rattle.value.specs.Number.{within, eqZ}
 use Rattle.value.specs.Laws.{never}
 use Rattle.value.specs.Worked.{value, decode-of}
 use Rattle.value.specs.declared.Value.{Value}
@@ -25,7 +25,7 @@ use Rattle.token.specs.Promises.{too-large}
 use Rattle.lists.specs.Text.{Piece, literal, sign, with-piece, pieces}
 use Rattle.lists.specs.Lines.{with-value, plus-or-minus, signed, values, under-sign, behind}
 use Rattle.lists.specs.ListChecking.{value-fits, all-fit}
-use Rattle.lists.specs.Walking.{head-fits, none-left, rest-of, values-number, one-value}
+use Rattle.lists.specs.Walking.{head-fits, none-left, rest-of, keeps-flag, values-number, one-value}
 use Rattle.list_reader.specs.declared.Lexed.{Lexed}
 use Rattle.list_reader.specs.declared.Lexed.the-variants.{Literal, Sign, End, Unreadable}
 use Rattle.list_reader.specs.Promises.{tokens-of, Onward, Lexes}
@@ -35,7 +35,7 @@ use Rattle.list_reader.specs.declared.values.Signed.{Signed}
 use Rattle.list_reader.specs.declared.values.Signed.the-variants as signed
 use Rattle.list_reader.specs.declared.values.Valued.{Valued}
 use Rattle.list_reader.specs.declared.values.Valued.the-variants as valued
-use Rattle.list_reader.specs.Values.{values-in, under-in, behind-in, given-of, signed-of, valued-of, SignedOnward, ValuedOnward, ReadsSigned, ReadsBehind, ReadsValue, fields-in, count-number, StillFits, NumbersValues}
+use Rattle.list_reader.specs.Values.{values-in, under-in, behind-in, given-of, signed-of, valued-of, SignedOnward, ValuedOnward, ReadsSigned, ReadsBehind, ReadsValue, fields-in, count-number, StillFits, StillKept, NumbersValues}
 
 -- ---- a sign and a literal under it
 
@@ -283,16 +283,41 @@ module _ (words : List ℕ) (rule : Rule) (k : ℕ) (v : Given) where
 
 pub ruleset Stills = (still-not, still-past, still-missing, still-number)
 
-pub count-over : (n c : ℕ) (fit : Bool) → n < c → 52 ≡ count-number n c fit
-count-over n c fit l = rw (lt-ltb n c l)
+-- ---- a value against the flag
 
-pub count-right : (n c : ℕ) (fit : Bool) → c ≤ n → fit ≡ true → 0 ≡ count-number n c fit
-count-right n c fit l e = rw (le-ltb n c l, e)
+module _ (flag k : ℕ) (v : Given) where
+  pub kept-not : (kept : Bool) → not kept ≡ true → StillKept flag k v kept false
+  kept-not true e = never e
+  kept-not false e = record { is = refl }
 
-pub count-unfit : (n c : ℕ) (fit : Bool) → c ≤ n → fit ≡ false → 53 ≡ count-number n c fit
-count-unfit n c fit l e = rw (le-ltb n c l, e)
+  kept-from : (kept : Bool) (r : Bool) → not kept ≡ false → r ≡ keeps-flag flag k (given-of v) → StillKept flag k v kept r
+  kept-from true r e h = record { is = h }
+  kept-from false r e h = never (sym e)
 
-pub ruleset Countings = (count-over, count-right, count-unfit)
+  pub kept-other : {kept : Bool} → not kept ≡ false → (k ≡ flag → ⊥) → StillKept flag k v kept true
+  kept-other {kept} e d = kept-from kept true e (rw (ne-eqb k flag d))
+
+  pub kept-missing : {kept : Bool} → not kept ≡ false → k ≡ flag → v ≡ given.Missing → StillKept flag k v kept true
+  kept-missing {kept} e d m = kept-from kept true e (rw (eq-eqb k flag d, m))
+
+  pub kept-number : {kept : Bool} {z : Value} {r : Bool} → not kept ≡ false → k ≡ flag → v ≡ given.Number z → r ≡ not (eqZ (z .n) (pos 0)) → StillKept flag k v kept r
+  kept-number {kept} {z} {r} e d m h = kept-from kept r e (h ∙ rw (eq-eqb k flag d, m))
+
+pub ruleset Kepts = (kept-not, kept-other, kept-missing, kept-number)
+
+pub count-over : (n c : ℕ) (fit kept : Bool) → n < c → 52 ≡ count-number n c fit kept
+count-over n c fit kept l = rw (lt-ltb n c l)
+
+pub count-unfit : (n c : ℕ) (fit kept : Bool) → c ≤ n → not fit ≡ true → 53 ≡ count-number n c fit kept
+count-unfit n c fit kept l e = rw (le-ltb n c l, e)
+
+pub count-cleared : (n c : ℕ) (fit kept : Bool) → c ≤ n → not fit ≡ false → kept ≡ false → 58 ≡ count-number n c fit kept
+count-cleared n c fit kept l e h = rw (le-ltb n c l, e, h)
+
+pub count-right : (n c : ℕ) (fit kept : Bool) → c ≤ n → not fit ≡ false → kept ≡ true → 0 ≡ count-number n c fit kept
+count-right n c fit kept l e h = rw (le-ltb n c l, e, h)
+
+pub ruleset Countings = (count-over, count-unfit, count-cleared, count-right)
 
 -- ---- the values of a line
 
@@ -321,46 +346,50 @@ rest-next fs k = by (ltb k (length fs)) refl
         ap rest-of (drop-of-length-le fs l) ∙ sym (drop-of-length-le fs (let m : length fs ≤ k + 1 = omega arith in m))
 
 -- the values go on at `here` with the fields from k on
-pub record Valuing (fs : List Range) (line : List ℕ) (at : ℕ) (fit : Bool) (k here : ℕ) : Type 0 where
-  pub is : values-number fs false true (values-in (pieces 0 (drop at line))) ≡ values-number (drop k fs) (ltb (length fs) k) fit (values-in (pieces 0 (drop here line)))
+pub record Valuing (fs : List Range) (fl : ℕ) (line : List ℕ) (at : ℕ) (fit kept : Bool) (k here : ℕ) : Type 0 where
+  pub is : values-number fs fl 0 false true true (values-in (pieces 0 (drop at line))) ≡ values-number (drop k fs) fl k (ltb (length fs) k) fit kept (values-in (pieces 0 (drop here line)))
   pub within : here ≤ length line
   pub few : k ≤ here
 
-last-number : (rs : List Range) (over fit : Bool) → values-number rs over fit (some []) ≡ (if over then 52 else if not fit then 53 else 0)
+last-number : (rs : List Range) (fl k : ℕ) (over fit kept : Bool) → values-number rs fl k over fit kept (some []) ≡ (if over then 52 else if not fit then 53 else if not kept then 58 else 0)
 unfolding all-fit
-last-number rs over fit = by over fit (le-ltb (length rs) 0 (omega arith))
+last-number rs fl k over fit kept = by over fit kept (le-ltb (length rs) 0 (omega arith))
   where
-    by : (a b : Bool) → ltb (length rs) 0 ≡ false → _≡_ {A = ℕ} (if a || ltb (length rs) 0 then 52 else if not (b && all-fit rs []) then 53 else 0) (if a then 52 else if not b then 53 else 0)
-    by true b e = refl
-    by false true e = rw e
-    by false false e = rw e
+    by : (a b c : Bool) → ltb (length rs) 0 ≡ false
+        → _≡_ {A = ℕ} (if a || ltb (length rs) 0 then 52 else if not (b && all-fit rs []) then 53 else if not (c && true) then 58 else 0) (if a then 52 else if not b then 53 else if not c then 58 else 0)
+    by true b c e = refl
+    by false true true e = rw e
+    by false true false e = rw e
+    by false false c e = rw e
 
-module _ (fs : List Range) (line : List ℕ) (at : ℕ) where
-  pub values-start : at ≤ length line → Valuing fs line at true 0 at
-  values-start l = record { is = ap (λ (o : Bool). values-number fs o true (values-in (pieces 0 (drop at line)))) (sym (le-ltb (length fs) 0 (omega arith))); within = l; few = omega arith }
+module _ (fs : List Range) (fl : ℕ) (line : List ℕ) (at : ℕ) where
+  pub values-start : at ≤ length line → Valuing fs fl line at true true 0 at
+  values-start l = record { is = ap (λ (o : Bool). values-number fs fl 0 o true true (values-in (pieces 0 (drop at line)))) (sym (le-ltb (length fs) 0 (omega arith))); within = l; few = omega arith }
 
-  module _ {fit : Bool} {k here : ℕ} (w : Valuing fs line at fit k here) {x : Valued} (r : ReadsValue line here x) where
-    left : {y : Valued} → x ≡ y → values-number fs false true (values-in (pieces 0 (drop at line))) ≡ values-number (drop k fs) (ltb (length fs) k) fit (valued-of line y)
-    left {y} e = w .is ∙ ap (values-number (drop k fs) (ltb (length fs) k) fit) (r .is ∙ ap (valued-of line) e)
+  module _ {fit kept : Bool} {k here : ℕ} (w : Valuing fs fl line at fit kept k here) {x : Valued} (r : ReadsValue line here x) where
+    left : {y : Valued} → x ≡ y → values-number fs fl 0 false true true (values-in (pieces 0 (drop at line))) ≡ values-number (drop k fs) fl k (ltb (length fs) k) fit kept (valued-of line y)
+    left {y} e = w .is ∙ ap (values-number (drop k fs) fl k (ltb (length fs) k) fit kept) (r .is ∙ ap (valued-of line) e)
 
-    pub values-bad : x ≡ valued.Bad → NumbersValues fs line at 50
+    pub values-bad : x ≡ valued.Bad → NumbersValues fs fl line at 50
     values-bad e = record { is = sym (left e) }
 
-    module _ {v : Given} {fit′ : Bool} (s : StillFits fs k v fit fit′) where
-      stepped : (o : Option (List (Option ℤ))) → values-number (drop k fs) (ltb (length fs) k) fit (with-value (given-of v) o) ≡ values-number (drop (k + 1) fs) (ltb (length fs) (k + 1)) fit′ o
+    module _ {v : Given} {fit′ kept′ : Bool} (s : StillFits fs k v fit fit′) (u : StillKept fl k v kept kept′) where
+      stepped : (o : Option (List (Option ℤ)))
+          → values-number (drop k fs) fl k (ltb (length fs) k) fit kept (with-value (given-of v) o) ≡ values-number (drop (k + 1) fs) fl (k + 1) (ltb (length fs) (k + 1)) fit′ kept′ o
       stepped o =
-          one-value (drop k fs) (ltb (length fs) k) fit (given-of v) o
-          ∙ ap₂ (λ (rs : List Range) (a : Bool). values-number rs a (fit && head-fits (drop k fs) (given-of v)) o) (rest-next fs k) (over-next fs k)
-          ∙ ap (λ (b : Bool). values-number (drop (k + 1) fs) (ltb (length fs) (k + 1)) b o) (sym (s .is))
+          one-value (drop k fs) fl k (ltb (length fs) k) fit kept (given-of v) o
+          ∙ ap₂ (λ (rs : List Range) (a : Bool). values-number rs fl (suc k) a (fit && head-fits (drop k fs) (given-of v)) (kept && keeps-flag fl k (given-of v)) o) (rest-next fs k) (over-next fs k)
+          ∙ ap₂ (λ (b c : Bool). values-number (drop (k + 1) fs) fl (suc k) (ltb (length fs) (k + 1)) b c o) (sym (s .is)) (sym (u .is))
+          ∙ ap (λ (i : ℕ). values-number (drop (k + 1) fs) fl i (ltb (length fs) (k + 1)) fit′ kept′ o) (sym (add-one k))
 
-      pub values-more : {next : ℕ} → x ≡ valued.More v next → Valuing fs line at fit′ (k + 1) next
+      pub values-more : {next : ℕ} → x ≡ valued.More v next → Valuing fs fl line at fit′ kept′ (k + 1) next
       values-more {next} e =
           let o : ValuedOnward line here (valued.More v next) = subst (ValuedOnward line here) e (r .onward) in
           record { is = left e ∙ stepped (values-in (pieces 0 (drop next line))); within = o .1; few = let a = o .0 in let b = w .few in omega arith }
 
-      pub values-done : {n number : ℕ} → x ≡ valued.Last v → length fs ≡ n → number ≡ count-number n (k + 1) fit′ → NumbersValues fs line at number
+      pub values-done : {n number : ℕ} → x ≡ valued.Last v → length fs ≡ n → number ≡ count-number n (k + 1) fit′ kept′ → NumbersValues fs fl line at number
       values-done {n} {number} e f g =
-          record { is = g ∙ ap (λ (m : ℕ). count-number m (k + 1) fit′) (sym f) ∙ sym (left e ∙ stepped (some []) ∙ last-number (drop (k + 1) fs) (ltb (length fs) (k + 1)) fit′) }
+          record { is = g ∙ ap (λ (m : ℕ). count-number m (k + 1) fit′ kept′) (sym f) ∙ sym (left e ∙ stepped (some []) ∙ last-number (drop (k + 1) fs) fl (k + 1) (ltb (length fs) (k + 1)) fit′ kept′) }
 
     pub values-less : {v : Given} {next : ℕ} → x ≡ valued.More v next → length line - next < length line - here
     values-less {v} {next} e =

@@ -12,8 +12,9 @@ use Rattle.list_reader.specs.declared.checking.LineRead.{LineRead}
 use Rattle.list_reader.specs.declared.checking.LineRead.the-variants.{Right, Refused}
 use Rattle.list_reader.specs.declared.checking.Verdict as declared
 
-abbrev pub limits : List ℕ → List Range → ℕ → ℕ → Limits
-limits sizes fields first last = record { sizes = sizes; fields = fields; first = first; last = last }
+-- the limits of a run, with its flag told by a number: a number behind the last field is no flag (`told-check` of the lists)
+abbrev pub limits : List ℕ → List Range → ℕ → ℕ → ℕ → Limits
+limits sizes fields flag first last = record { sizes = sizes; fields = fields; flag = some flag; first = first; last = last }
 
 -- the time before, by the least time that rises: 0 where there is no time yet, else one more than the time before
 abbrev pub time-before : ℕ → Option ℕ
@@ -34,8 +35,8 @@ cell-said none = bad
 cell-said (some ps) = cell-of-index (indices ps)
 
 -- r is the number of a cell's line behind some time, whose tokens behind `[` stand from `at` on
-pub record NumbersCell (sizes : List ℕ) (fields : List Range) (line : List ℕ) (at r : ℕ) : Type 0 where
-  pub is : (q : Limits) (t : ℕ) → q .sizes ≡ sizes → q .fields ≡ fields → r ≡ line-number q (some t) (cell-said (pieces 0 (drop at line)))
+pub record NumbersCell (sizes : List ℕ) (fields : List Range) (flag : ℕ) (line : List ℕ) (at r : ℕ) : Type 0 where
+  pub is : (q : Limits) (t : ℕ) → q .sizes ≡ sizes → q .fields ≡ fields → q .flag ≡ some flag → r ≡ line-number q (some t) (cell-said (pieces 0 (drop at line)))
 
 -- ---- a line
 

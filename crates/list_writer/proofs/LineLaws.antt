@@ -6,7 +6,7 @@ use native.Mathlib.Omega.{arith}
 use mathlib.Core.Path.{_≡_, refl, sym, ap, ap₂, _∙_, subst}
 use mathlib.Core.Bool.{Bool, true, false, not}
 use mathlib.Core.List.{List, [], _∷_, _++_, map, append-assoc, append-nil}
-use mathlib.Core.Option.{some}
+use mathlib.Core.Option.{Option}
 use lib.ListN.{length, getD, take, drop, length-append, length-drop}
 use lib.Seq.{length-take-le, ext-getD, getD-take, getD-drop}
 use lib.IntN.{ℤ, pos}
@@ -17,48 +17,40 @@ use Rattle.automaton.specs.ShapeLaws.{inside-length, coordinates-inside}
 use Rattle.automaton.specs.Grid.{cell-of, differ}
 use Rattle.automaton.specs.GridLaws.{cell-room}
 use Rattle.reply_line.proofs.Lines.{digits-length}
-use Rattle.lists.specs.Writing.{print-number, print-value, print-field, listed, cell-line, cells-text, written-text}
+use Rattle.lists.specs.Writing.{print-number, print-field, listed, cell-line, shown, cells-text, written-text}
+use Rattle.lists.specs.Showing.{length-shown}
 use Rattle.list_writer.specs.Contracts.Printing.{Puts, PutsDigits}
 use Rattle.list_writer.specs.Contracts.Lines.{Grids, changed-line}
-use Rattle.list_writer.proofs.PrintingLaws.{puts-nothing, and-then, number-put, value-length, listed-length}
+use Rattle.list_writer.proofs.PrintingLaws.{puts-nothing, and-then, number-put, field-length, listed-length}
 
 -- ---- a cell's line
-
--- values that are given are printed as they are
-given-fields : (vs : List ℤ) → map print-field (map some vs) ≡ map print-value vs
-given-fields [] = refl
-given-fields (v ∷ vs) = ap (λ (t : List (List ℕ)). print-value v ∷ t) (given-fields vs)
 
 pub numbers-length : (is : List ℕ) → length is ≤ 3 → length (listed (map print-number is)) ≤ 36
 numbers-length is l = omega (arith, listed-length 10 print-number (digits-length 9) is)
 
-pub values-length : (vs : List ℤ) → length vs ≤ 64 → length (listed (map print-value vs)) ≤ 832
-values-length vs l = omega (arith, listed-length 11 print-value value-length vs)
+pub values-length : (flag : Option ℕ) (vs : List ℤ) → length vs ≤ 64 → length (listed (map print-field (shown flag vs))) ≤ 832
+values-length flag vs l = omega (arith, listed-length 11 print-field field-length (shown flag vs), length-shown flag vs)
 
 pub between-put : {old a b c new : List ℕ} {at i j k r : ℕ} → Puts old at (93 ∷ []) a i → Puts a i (32 ∷ []) b j → Puts b j (61 ∷ []) c k → Puts c k (32 ∷ []) new r
     → Puts old at (93 ∷ 32 ∷ 61 ∷ 32 ∷ []) new r
 between-put p q s t = and-then (and-then (and-then p q) s) t
 
 -- its parts, one behind another
-line-text : (is : List ℕ) (vs : List ℤ)
-    → (91 ∷ []) ++ listed (map print-number is) ++ (93 ∷ 32 ∷ 61 ∷ 32 ∷ []) ++ listed (map print-value vs) ++ (10 ∷ []) ≡ cell-line is (map some vs) ++ 10 ∷ []
+line-text : (is : List ℕ) (vs : List (Option ℤ))
+    → (91 ∷ []) ++ listed (map print-number is) ++ (93 ∷ 32 ∷ 61 ∷ 32 ∷ []) ++ listed (map print-field vs) ++ (10 ∷ []) ≡ cell-line is vs ++ 10 ∷ []
 unfolding cell-line
-line-text is vs =
-    ap (λ (t : List ℕ). 91 ∷ t ++ 10 ∷ [])
-    (append-assoc (listed (map print-number is)) (93 ∷ 32 ∷ 61 ∷ 32 ∷ []) (listed (map print-value vs))
-    ∙ ap (λ (t : List (List ℕ)). listed (map print-number is) ++ 93 ∷ 32 ∷ 61 ∷ 32 ∷ listed t) (sym (given-fields vs)))
+line-text is vs = ap (λ (t : List ℕ). 91 ∷ t ++ 10 ∷ []) (append-assoc (listed (map print-number is)) (93 ∷ 32 ∷ 61 ∷ 32 ∷ []) (listed (map print-field vs)))
 
-pub line-put : {old a b c d new : List ℕ} {at i j k l r : ℕ} (is : List ℕ) (vs : List ℤ) → Puts old at (91 ∷ []) a i → Puts a i (listed (map print-number is)) b j
-    → Puts b j (93 ∷ 32 ∷ 61 ∷ 32 ∷ []) c k → Puts c k (listed (map print-value vs)) d l → Puts d l (10 ∷ []) new r → Puts old at (cell-line is (map some vs) ++ 10 ∷ []) new r
+pub line-put : {old a b c d new : List ℕ} {at i j k l r : ℕ} (is : List ℕ) (vs : List (Option ℤ)) → Puts old at (91 ∷ []) a i → Puts a i (listed (map print-number is)) b j
+    → Puts b j (93 ∷ 32 ∷ 61 ∷ 32 ∷ []) c k → Puts c k (listed (map print-field vs)) d l → Puts d l (10 ∷ []) new r → Puts old at (cell-line is vs ++ 10 ∷ []) new r
 line-put {old} {new = new} {at = at} {r = r} is vs p q s t u = subst (λ (y : List ℕ). Puts old at y new r) (line-text is vs) (and-then (and-then (and-then (and-then p q) s) t) u)
 
-line-length : (is : List ℕ) (vs : List ℤ) → length is ≤ 3 → length vs ≤ 64 → length (cell-line is (map some vs) ++ 10 ∷ []) ≤ 1000
+line-length : (is : List ℕ) (flag : Option ℕ) (vs : List ℤ) → length is ≤ 3 → length vs ≤ 64 → length (cell-line is (shown flag vs) ++ 10 ∷ []) ≤ 1000
 unfolding cell-line
-line-length is vs l m =
+line-length is flag vs l m =
     let a = listed (map print-number is) in
-    let b : List ℕ = 93 ∷ 32 ∷ 61 ∷ 32 ∷ listed (map print-field (map some vs)) in
-    omega
-    (arith, length-append (a ++ b) (10 ∷ []), length-append a b, ap (λ (t : List (List ℕ)). length (listed t)) (given-fields vs), numbers-length is l, values-length vs m)
+    let b : List ℕ = 93 ∷ 32 ∷ 61 ∷ 32 ∷ listed (map print-field (shown flag vs)) in
+    omega (arith, length-append (a ++ b) (10 ∷ []), length-append a b, numbers-length is l, values-length flag vs m)
 
 -- ---- a cell that differs
 
@@ -88,26 +80,26 @@ module _ {sizes : List ℕ} {fields : ℕ} {earlier later : List ℤ} (w : Grids
   unfolding cell-of
   fields-few = omega (arith, w .fields-few, length-list-of (λ (k : ℕ). getD later (c * fields + k) (pos 0)) fields)
 
-  pub changed-length : length (changed-line sizes fields earlier later c) ≤ 1000
+  pub changed-length : (flag : Option ℕ) → length (changed-line sizes fields flag earlier later c) ≤ 1000
   unfolding changed-line
-  changed-length = by (differ (cell-of fields earlier c) (cell-of fields later c))
+  changed-length flag = by (differ (cell-of fields earlier c) (cell-of fields later c))
     where
-      by : (t : Bool) → length {A = ℕ} (elim t [ true ↦ cell-line (coordinates sizes c) (map some (cell-of fields later c)) ++ 10 ∷ [] | false ↦ [] ]) ≤ 1000
-      by true = line-length (coordinates sizes c) (cell-of fields later c) dims-few fields-few
+      by : (t : Bool) → length {A = ℕ} (elim t [ true ↦ cell-line (coordinates sizes c) (shown flag (cell-of fields later c)) ++ 10 ∷ [] | false ↦ [] ]) ≤ 1000
+      by true = line-length (coordinates sizes c) flag (cell-of fields later c) dims-few fields-few
       by false = omega arith
 
-  module _ {t : Bool} (e : t ≡ differ (cell-of fields earlier c) (cell-of fields later c)) where
-    pub same-put : not t ≡ true → (old : List ℕ) (at : ℕ) → Puts old at (changed-line sizes fields earlier later c) old at
+  module _ (flag : Option ℕ) {t : Bool} (e : t ≡ differ (cell-of fields earlier c) (cell-of fields later c)) where
+    pub same-put : not t ≡ true → (old : List ℕ) (at : ℕ) → Puts old at (changed-line sizes fields flag earlier later c) old at
     unfolding changed-line
     same-put n old at = rw (sym e ∙ not-true t n, changed-line) (puts-nothing old at)
 
     pub changed-put : not t ≡ false → {old new : List ℕ} {at r : ℕ} {place : List ℕ} → (c < product sizes → place ≡ coordinates sizes c)
-        → Puts old at (cell-line place (map some (take (c * fields + fields - c * fields) (drop (c * fields) later))) ++ 10 ∷ []) new r → Puts old at (changed-line sizes fields earlier later c) new r
+        → Puts old at (cell-line place (shown flag (take (c * fields + fields - c * fields) (drop (c * fields) later))) ++ 10 ∷ []) new r → Puts old at (changed-line sizes fields flag earlier later c) new r
     unfolding changed-line
     changed-put n {old} {new} {at} {r} h x =
         rw (sym e ∙ not-false t n, changed-line)
         (subst (λ (y : List ℕ). Puts old at y new r)
-        (ap₂ (λ (is : List ℕ) (vs : List ℤ). cell-line is (map some vs) ++ 10 ∷ []) (h l) (cell-part fields later c (cell-room c (product sizes) fields (length later) l (w .later-entries)))) x)
+        (ap₂ (λ (is : List ℕ) (vs : List ℤ). cell-line is (shown flag vs) ++ 10 ∷ []) (h l) (cell-part fields later c (cell-room c (product sizes) fields (length later) l (w .later-entries)))) x)
 
 -- ---- all cells
 
@@ -115,54 +107,54 @@ module _ {sizes : List ℕ} {fields : ℕ} {earlier later : List ℤ} (w : Grids
 pub place-fits : {sizes : List ℕ} {fields : ℕ} {earlier later : List ℤ} → Grids sizes fields earlier later → (zs : List ℕ) → length zs ≡ 3 → length (take (length sizes) zs) ≡ length sizes
 place-fits {sizes} w zs e = length-take-le (length sizes) zs (omega (arith, w .dims))
 
-module _ (sizes : List ℕ) (fields : ℕ) (earlier later : List ℤ) where
-  one-cell : (n c : ℕ) → cells-text sizes fields earlier later (suc n) c ≡ changed-line sizes fields earlier later c ++ cells-text sizes fields earlier later n (suc c)
+module _ (sizes : List ℕ) (fields : ℕ) (flag : Option ℕ) (earlier later : List ℤ) where
+  one-cell : (n c : ℕ) → cells-text sizes fields flag earlier later (suc n) c ≡ changed-line sizes fields flag earlier later c ++ cells-text sizes fields flag earlier later n (suc c)
   unfolding cells-text changed-line
   one-cell n c = by (differ (cell-of fields earlier c) (cell-of fields later c))
     where
       rest : List ℕ
-      rest = cells-text sizes fields earlier later n (suc c)
+      rest = cells-text sizes fields flag earlier later n (suc c)
 
       line : List ℕ
-      line = cell-line (coordinates sizes c) (map some (cell-of fields later c))
+      line = cell-line (coordinates sizes c) (shown flag (cell-of fields later c))
 
       by : (t : Bool) → elim t [ true ↦ line ++ 10 ∷ rest | false ↦ rest ] ≡ elim t [ true ↦ line ++ 10 ∷ [] | false ↦ [] ] ++ rest
       by true = sym (append-assoc line (10 ∷ []) rest)
       by false = refl
 
-  no-cell : (c : ℕ) → cells-text sizes fields earlier later 0 c ≡ []
+  no-cell : (c : ℕ) → cells-text sizes fields flag earlier later 0 c ≡ []
   unfolding cells-text
   no-cell c = refl
 
   -- one cell more, at the end
-  last-cell : (n c : ℕ) → cells-text sizes fields earlier later (suc n) c ≡ cells-text sizes fields earlier later n c ++ changed-line sizes fields earlier later (c + n)
+  last-cell : (n c : ℕ) → cells-text sizes fields flag earlier later (suc n) c ≡ cells-text sizes fields flag earlier later n c ++ changed-line sizes fields flag earlier later (c + n)
   last-cell zero c =
-      one-cell 0 c ∙ ap (λ (t : List ℕ). changed-line sizes fields earlier later c ++ t) (no-cell (suc c)) ∙ append-nil (changed-line sizes fields earlier later c)
-      ∙ ap (changed-line sizes fields earlier later) (let e : c ≡ c + 0 = omega arith in e) ∙ ap (λ (t : List ℕ). t ++ changed-line sizes fields earlier later (c + 0)) (sym (no-cell c))
+      one-cell 0 c ∙ ap (λ (t : List ℕ). changed-line sizes fields flag earlier later c ++ t) (no-cell (suc c)) ∙ append-nil (changed-line sizes fields flag earlier later c)
+      ∙ ap (changed-line sizes fields flag earlier later) (let e : c ≡ c + 0 = omega arith in e) ∙ ap (λ (t : List ℕ). t ++ changed-line sizes fields flag earlier later (c + 0)) (sym (no-cell c))
   last-cell (suc n) c =
-      one-cell (suc n) c ∙ ap (λ (t : List ℕ). changed-line sizes fields earlier later c ++ t) (last-cell n (suc c))
-      ∙ sym (append-assoc (changed-line sizes fields earlier later c) (cells-text sizes fields earlier later n (suc c)) (changed-line sizes fields earlier later (suc c + n)))
-      ∙ ap₂ (λ (t : List ℕ) (k : ℕ). t ++ changed-line sizes fields earlier later k) (sym (one-cell n c)) (let e : suc c + n ≡ c + suc n = omega arith in e)
+      one-cell (suc n) c ∙ ap (λ (t : List ℕ). changed-line sizes fields flag earlier later c ++ t) (last-cell n (suc c))
+      ∙ sym (append-assoc (changed-line sizes fields flag earlier later c) (cells-text sizes fields flag earlier later n (suc c)) (changed-line sizes fields flag earlier later (suc c + n)))
+      ∙ ap₂ (λ (t : List ℕ) (k : ℕ). t ++ changed-line sizes fields flag earlier later k) (sym (one-cell n c)) (let e : suc c + n ≡ c + suc n = omega arith in e)
 
-  pub cells-start : (old : List ℕ) (at : ℕ) → Puts old at (cells-text sizes fields earlier later 0 0) old at
+  pub cells-start : (old : List ℕ) (at : ℕ) → Puts old at (cells-text sizes fields flag earlier later 0 0) old at
   cells-start old at = rw (no-cell 0) (puts-nothing old at)
 
-  pub cells-again : {old mid new : List ℕ} {at here r : ℕ} (c : ℕ) → Puts old at (cells-text sizes fields earlier later c 0) mid here → Puts mid here (changed-line sizes fields earlier later c) new r
-      → Puts old at (cells-text sizes fields earlier later (c + 1) 0) new r
+  pub cells-again : {old mid new : List ℕ} {at here r : ℕ} (c : ℕ) → Puts old at (cells-text sizes fields flag earlier later c 0) mid here → Puts mid here (changed-line sizes fields flag earlier later c) new r
+      → Puts old at (cells-text sizes fields flag earlier later (c + 1) 0) new r
   cells-again {old} {mid} {new} {at} {here} {r} c x y =
       subst (λ (t : List ℕ). Puts old at t new r)
-      (ap (λ (k : ℕ). cells-text sizes fields earlier later c 0 ++ changed-line sizes fields earlier later k) (sym (zero-add c)) ∙ sym (last-cell c 0) ∙ ap (λ (n : ℕ). cells-text sizes fields earlier later n 0) (sym (add-one c)))
+      (ap (λ (k : ℕ). cells-text sizes fields flag earlier later c 0 ++ changed-line sizes fields flag earlier later k) (sym (zero-add c)) ∙ sym (last-cell c 0) ∙ ap (λ (n : ℕ). cells-text sizes fields flag earlier later n 0) (sym (add-one c)))
       (and-then x y)
 
-  pub cells-end : {old new : List ℕ} {at r cells : ℕ} (c : ℕ) → c ≤ cells → cells ≤ c → Puts old at (cells-text sizes fields earlier later c 0) new r → Puts old at (cells-text sizes fields earlier later cells 0) new r
-  cells-end {old} {new} {at} {r} {cells} c l m x = subst (λ (n : ℕ). Puts old at (cells-text sizes fields earlier later n 0) new r) (let e : c ≡ cells = omega arith in e) x
+  pub cells-end : {old new : List ℕ} {at r cells : ℕ} (c : ℕ) → c ≤ cells → cells ≤ c → Puts old at (cells-text sizes fields flag earlier later c 0) new r → Puts old at (cells-text sizes fields flag earlier later cells 0) new r
+  cells-end {old} {new} {at} {r} {cells} c l m x = subst (λ (n : ℕ). Puts old at (cells-text sizes fields flag earlier later n 0) new r) (let e : c ≡ cells = omega arith in e) x
 
   -- ---- the text
 
-  pub text-put : {old a b new : List ℕ} {time i j r : ℕ} (cells : ℕ) → cells ≡ product sizes → time < 2 ^ 32 → PutsDigits old 0 time a i → Puts a i (10 ∷ []) b j → Puts b j (cells-text sizes fields earlier later cells 0) new r
-      → Puts old 0 (written-text sizes fields earlier later time) new r
+  pub text-put : {old a b new : List ℕ} {time i j r : ℕ} (cells : ℕ) → cells ≡ product sizes → time < 2 ^ 32 → PutsDigits old 0 time a i → Puts a i (10 ∷ []) b j → Puts b j (cells-text sizes fields flag earlier later cells 0) new r
+      → Puts old 0 (written-text sizes fields flag earlier later time) new r
   unfolding written-text
   text-put {old} {a} {b} {new} {time} {i} {j} {r} cells e l x y z =
       subst (λ (t : List ℕ). Puts old 0 t new r)
-      (append-assoc (print-number time) (10 ∷ []) (cells-text sizes fields earlier later cells 0) ∙ ap (λ (n : ℕ). print-number time ++ 10 ∷ cells-text sizes fields earlier later n 0) e)
+      (append-assoc (print-number time) (10 ∷ []) (cells-text sizes fields flag earlier later cells 0) ∙ ap (λ (n : ℕ). print-number time ++ 10 ∷ cells-text sizes fields flag earlier later n 0) e)
       (and-then (and-then (number-put l x) y) z)

@@ -4,22 +4,24 @@ use native.Mathlib.Nat.{add-zero, pow-suc, mul-suc}
 use native.Mathlib.Numerals.{add-one}
 use native.Mathlib.Omega.{arith}
 use mathlib.Core.Path.{_≡_, refl, sym, ap, ap₂, _∙_, subst}
-use mathlib.Core.Bool.{true}
+use mathlib.Core.Bool.{Bool, true, false, not}
 use mathlib.Core.List.{List, [], _∷_, _++_, map, append-assoc}
+use mathlib.Core.Option.{Option, some, none}
 use lib.ListN.{length, getD, set, take, length-append, length-map}
 use lib.Seq.{sets, set-out, take-all, take-suc, length-take-le}
-use lib.Dec.{ltb}
+use lib.Dec.{eqb, ltb}
 use lib.IntN.{ℤ, pos, negsuc}
 use mir.Syntax.{w32}
 use mir.Val.{SFits, toZ, ofZ}
 use mir.Facts.{toZ-ofZ}
-use borrow.Author.Tests.{lt-ltb, le-ltb, le-leb}
-use Rattle.value.specs.Number.{in-range}
+use borrow.Author.Tests.{lt-ltb, le-ltb, le-leb, not-true, not-false}
+use Rattle.value.specs.Number.{in-range, eqZ}
 use Rattle.value.specs.Worked.{encode-of, decode-of}
 use Rattle.value.specs.Laws.{decode-encode, sub-lt}
 use Rattle.grammar.specs.Answer.{digits-of}
 use Rattle.reply_line.proofs.Lines.{one-digit, more-digits, digits-length}
-use Rattle.lists.specs.Writing.{print-number, print-value, listed}
+use Rattle.lists.specs.Writing.{print-number, print-value, print-field, listed, shown}
+use Rattle.lists.specs.Showing.{length-shown, field-shown, shown-at}
 use Rattle.list_writer.specs.Contracts.Printing.{Puts, PutsDigits, separator}
 
 -- ---- one text behind another
@@ -85,10 +87,28 @@ value-read {old} {new} {at} {r} {z} f = subst (λ (y : ℤ). Puts old at (print-
 pub value-put : {old new : List ℕ} {at e r : ℕ} {z : ℤ} → SFits w32 z → e ≡ encode-of (toZ w32 (ofZ w32 z)) → Puts old at (print-value (decode-of e)) new r → Puts old at (print-value z) new r
 value-put {old} {new} {at} {e} {r} {z} f q = subst (λ (y : ℤ). Puts old at (print-value y) new r) (ap decode-of (q ∙ ap encode-of (toZ-ofZ f)) ∙ decode-encode z (small-range z f))
 
+-- a field's value, by whether it is a flag and 0
+pub field-plain : {old new : List ℕ} {at r : ℕ} (flag : Bool) (z : ℤ) → SFits w32 z → not flag ≡ true → Puts old at (print-value (toZ w32 (ofZ w32 z))) new r → Puts old at (print-field (field-shown flag z)) new r
+field-plain flag z f e x = rw (not-true flag e) (value-read {z = z} f x)
+
+pub field-missing : (flag : Bool) (z : ℤ) → not flag ≡ false → eqZ z (pos 0) ≡ true → (old : List ℕ) (at : ℕ) → Puts old at (print-field (field-shown flag z)) old at
+field-missing flag z e n old at = rw (not-false flag e, n) (puts-nothing old at)
+
+pub field-given : {old new : List ℕ} {at r : ℕ} (flag : Bool) (z : ℤ) → SFits w32 z → not flag ≡ false → eqZ z (pos 0) ≡ false → Puts old at (print-value (toZ w32 (ofZ w32 z))) new r → Puts old at (print-field (field-shown flag z)) new r
+field-given flag z f e n x = rw (not-false flag e, n) (value-read {z = z} f x)
+
+-- as the machine reads it
+pub field-read : {old new : List ℕ} {at r : ℕ} (flag : Bool) (z : ℤ) → SFits w32 z → Puts old at (print-field (field-shown flag (toZ w32 (ofZ w32 z)))) new r → Puts old at (print-field (field-shown flag z)) new r
+field-read {old} {new} {at} {r} flag z f = subst (λ (y : ℤ). Puts old at (print-field (field-shown flag y)) new r) (toZ-ofZ f)
+
 -- at most so many bytes
 pub value-length : (z : ℤ) → length (print-value z) ≤ 11
 value-length (pos n) = omega (arith, digits-length 9 n)
 value-length (negsuc n) = omega (arith, digits-length 9 (suc n))
+
+pub field-length : (v : Option ℤ) → length (print-field v) ≤ 11
+field-length none = omega arith
+field-length (some z) = value-length z
 
 -- ---- texts with separators
 
@@ -149,3 +169,20 @@ module _ {A : Type 0} (f : A → List ℕ) (d : A) (xs : List A) where
 
   pub listed-end : {old new : List ℕ} {at r : ℕ} (k : ℕ) → length xs ≤ k → Puts old at (listed (map f (take k xs))) new r → Puts old at (listed (map f xs)) new r
   listed-end {old} {new} {at} {r} k l x = subst (λ (t : List A). Puts old at (listed (map f t)) new r) (take-all k xs l) x
+
+-- ---- the values of a cell
+
+module _ (flag : ℕ) (vs : List ℤ) where
+  pub fields-start : (old : List ℕ) (at : ℕ) → Puts old at (listed (map print-field (take 0 (shown (some flag) vs)))) old at
+  fields-start = listed-start print-field none (shown (some flag) vs)
+
+  pub fields-bound : {old new : List ℕ} {at r k : ℕ} → k ≤ length vs → Puts old at (listed (map print-field (take k (shown (some flag) vs)))) new r → r ≤ at + 13 * k
+  fields-bound l x = listed-bound print-field none (shown (some flag) vs) 11 field-length (omega (arith, length-shown (some flag) vs)) x
+
+  pub fields-again : {old mid more new : List ℕ} {at here m r : ℕ} (k : ℕ) → k < length vs → Puts old at (listed (map print-field (take k (shown (some flag) vs)))) mid here → Puts mid here (separator k) more m
+      → Puts more m (print-field (field-shown (eqb k flag) (getD vs k (pos 0)))) new r → Puts old at (listed (map print-field (take (k + 1) (shown (some flag) vs)))) new r
+  fields-again {more = more} {new = new} {m = m} {r = r} k l x y z =
+      listed-again print-field none (shown (some flag) vs) k (omega (arith, length-shown (some flag) vs)) x y (subst (λ (v : Option ℤ). Puts more m (print-field v) new r) (sym (shown-at flag vs k l)) z)
+
+  pub fields-end : {old new : List ℕ} {at r : ℕ} (k : ℕ) → length vs ≤ k → Puts old at (listed (map print-field (take k (shown (some flag) vs)))) new r → Puts old at (listed (map print-field (shown (some flag) vs))) new r
+  fields-end k l x = listed-end print-field none (shown (some flag) vs) k (omega (arith, length-shown (some flag) vs)) x

@@ -5,6 +5,7 @@ use native.Mathlib.Omega.{arith}
 use mathlib.Core.Path.{_≡_, refl, sym, ap, ap₂, _∙_, subst}
 use mathlib.Core.Bool.{Bool, true, false, not, _&&_}
 use mathlib.Core.List.{List, _++_}
+use mathlib.Core.Option.{Option, some}
 use lib.ListN.{length, drop}
 use lib.Seq.{sets-eq}
 use lib.Dec.{T, eqb}
@@ -27,13 +28,17 @@ use Rattle.services.specs.Calls.{NameForm, flat-names, names-left}
 use Rattle.checker.specs.declared.checking.Outline.{Outline}
 use Rattle.checker.specs.Promises.{Loads, Checks, is-accepted}
 use Rattle.admission.specs.declared.Refusal as declared
+use Rattle.one_move.specs.Profile.{profile-flag}
+use Rattle.profile.specs.Contracts.Standing.{rule-in}
+use Rattle.profile.specs.Contracts.Flags.{FlagOf}
+use Rattle.lists.specs.Told.{told-text}
 use Rattle.lists.specs.Writing.{written-text, Wanted, Wrote, unwritten, put-text, writing-admission, write, write-read, write-source}
 use Rattle.list_writer.specs.declared.Written.{Written}
 use Rattle.list_writer.specs.WriterCalls.{WriterLent, wanted, writer-fits, writer-left}
 use Rattle.list_writer.specs.Contracts.Printing.{Puts}
 use Rattle.list_writer.specs.Contracts.Admitting.{Timely, AdmitsBoth}
 use Rattle.list_writer.specs.Contracts.Writing.{wrote-of, WritesLoaded, WritesSource, WriterLeaves}
-use Rattle.list_writer.proofs.SourceLaws.{rule-in, Read, source-read}
+use Rattle.list_writer.proofs.SourceLaws.{Read, source-read}
 
 -- ---- the room
 
@@ -51,38 +56,40 @@ fits-room {text} {room} {room′} e l x =
 -- ---- a program that is loaded
 
 -- what is written, by the writer's checks
-write-by : Program → Wanted → List ℕ → Refusal → Wrote
-write-by p q room a =
+write-by : Program → Option ℕ → Wanted → List ℕ → Refusal → Wrote
+write-by p flag q room a =
     elim (eqb (a .number) 0) [
-      | true ↦ put-text (written-text (q .sizes) (length (p .fields)) (q .earlier) (q .later) (natAbs (q .time))) room
+      | true ↦ put-text (written-text (q .sizes) (length (p .fields)) flag (q .earlier) (q .later) (natAbs (q .time))) room
       | false ↦ unwritten (a .number) (a .place) room
     ]
 
-write-is : (p : Program) (q : Wanted) (room : List ℕ) → write p q room ≡ write-by p q room (writing-admission p q)
-unfolding write write-by
-write-is p q room = refl
+module _ (p : Program) (flag : Option ℕ) (q : Wanted) (room : List ℕ) where
+  write-is : write p flag q room ≡ write-by p flag q room (writing-admission p q)
+  unfolding write write-by
+  write-is = refl
 
-refused-is : (p : Program) (q : Wanted) (room : List ℕ) (n i : ℕ) → (n ≡ 0 → ⊥) → unwritten n i room ≡ write-by p q room (refusal n i)
-unfolding write-by
-refused-is p q room n i z = rw (ne-eqb n 0 z, write-by)
+  refused-is : (n i : ℕ) → (n ≡ 0 → ⊥) → unwritten n i room ≡ write-by p flag q room (refusal n i)
+  unfolding write-by
+  refused-is n i z = rw (ne-eqb n 0 z, write-by)
 
-admitted-is : (p : Program) (q : Wanted) (room : List ℕ) (n i : ℕ) → n ≡ 0
-    → put-text (written-text (q .sizes) (length (p .fields)) (q .earlier) (q .later) (natAbs (q .time))) room ≡ write-by p q room (refusal n i)
-unfolding write-by
-admitted-is p q room n i z = rw (eq-eqb n 0 z, write-by)
+  admitted-is : (n i : ℕ) → n ≡ 0 → put-text (written-text (q .sizes) (length (p .fields)) flag (q .earlier) (q .later) (natAbs (q .time))) room ≡ write-by p flag q room (refusal n i)
+  unfolding write-by
+  admitted-is n i z = rw (eq-eqb n 0 z, write-by)
 
-module _ {words : List ℕ} {rule : Rule} {q : Wanted} {count : ℕ} {a : declared.Refusal} (x : AdmitsBoth words rule q count a) (room : List ℕ) where
-  pub loaded-refused : (a .number ≡ 0 → ⊥) → WritesLoaded words rule q room (record { number = a .number; place = a .place; length = 0 }) room
+module _ {words : List ℕ} {rule : Rule} {q : Wanted} {count : ℕ} {a : declared.Refusal} (x : AdmitsBoth words rule q count a) (told : ℕ) (room : List ℕ) where
+  pub loaded-refused : (a .number ≡ 0 → ⊥) → WritesLoaded words rule told q room (record { number = a .number; place = a .place; length = 0 }) room
   loaded-refused z =
-      record { is = λ p h l. refused-is p q room (a .number) (a .place) z ∙ ap (write-by p q room) (x .says p h l) ∙ sym (write-is p q room) }
+      record { is = λ p flag h l e. refused-is p flag q room (a .number) (a .place) z ∙ ap (write-by p flag q room) (x .says p h l) ∙ sym (write-is p flag q room) }
 
   pub loaded-written : a .number ≡ 0 → {r : Written} {room′ : List ℕ}
-      → wrote-of r room′ ≡ put-text (written-text (q .sizes) (rule .fields) (q .earlier) (q .later) (natAbs (q .time))) room → WritesLoaded words rule q room r room′
-  loaded-written z e =
+      → wrote-of r room′ ≡ put-text (written-text (q .sizes) (rule .fields) (some told) (q .earlier) (q .later) (natAbs (q .time))) room → WritesLoaded words rule told q room r room′
+  loaded-written z w =
       record {
-        is = λ p h l.
-            e ∙ ap (λ (f : ℕ). put-text (written-text (q .sizes) f (q .earlier) (q .later) (natAbs (q .time))) room) (sym (held-fields p h))
-            ∙ admitted-is p q room (a .number) (a .place) z ∙ ap (write-by p q room) (x .says p h l) ∙ sym (write-is p q room);
+        is = λ p flag h l e.
+            w ∙ ap (λ (k : ℕ). put-text (written-text (q .sizes) (rule .fields) (some k) (q .earlier) (q .later) (natAbs (q .time))) room) e
+            ∙ ap (λ (text : List ℕ). put-text text room) (told-text flag (q .sizes) (rule .fields) (q .earlier) (q .later) (natAbs (q .time)))
+            ∙ ap (λ (f : ℕ). put-text (written-text (q .sizes) f flag (q .earlier) (q .later) (natAbs (q .time))) room) (sym (held-fields p h))
+            ∙ admitted-is p flag q room (a .number) (a .place) z ∙ ap (write-by p flag q room) (x .says p h l) ∙ sym (write-is p flag q room);
       }
 
 -- the time can be cast
@@ -90,9 +97,9 @@ pub cast-time : (z : ℤ) → Timely z → T (nonNeg z) × Fits w32 (natAbs z)
 cast-time z t = (subst (λ (x : ℤ). T (nonNeg x)) (sym (t .is)) tt, record { fits = omega (arith, t .small) })
 
 -- the time as the machine reads it
-pub read-loaded : {words : List ℕ} {rule : Rule} {sizes : List ℕ} {earlier later : List ℤ} {time : ℤ} {room : List ℕ} {r : Written} {room′ : List ℕ} → SFits w64 time
-    → WritesLoaded words rule (wanted sizes earlier later (toZ w64 (ofZ w64 time))) room r room′ → WritesLoaded words rule (wanted sizes earlier later time) room r room′
-read-loaded {words} {rule} {sizes} {earlier} {later} {time} {room} {r} {room′} f = subst (λ (t : ℤ). WritesLoaded words rule (wanted sizes earlier later t) room r room′) (toZ-ofZ f)
+pub read-loaded : {words : List ℕ} {rule : Rule} {told : ℕ} {sizes : List ℕ} {earlier later : List ℤ} {time : ℤ} {room : List ℕ} {r : Written} {room′ : List ℕ} → SFits w64 time
+    → WritesLoaded words rule told (wanted sizes earlier later (toZ w64 (ofZ w64 time))) room r room′ → WritesLoaded words rule told (wanted sizes earlier later time) room r room′
+read-loaded {words} {rule} {told} {sizes} {earlier} {later} {time} {room} {r} {room′} f = subst (λ (t : ℤ). WritesLoaded words rule told (wanted sizes earlier later t) room r room′) (toZ-ofZ f)
 
 -- ---- a source
 
@@ -101,7 +108,7 @@ module _ (fit : Bool) (source : List ℕ) (q : Wanted) (room : List ℕ) {n i : 
   unfolding write-source check
   not-read e = by (read-source fit source) reply e
     where
-      by : (r : Outcome) → complaint n i ≡ checking.reply-of r → is-accepted r ≡ false → unwritten n i room ≡ write-read q room r
+      by : (r : Outcome) → complaint n i ≡ checking.reply-of r → is-accepted r ≡ false → unwritten n i room ≡ write-read source q room r
       by (turned-away k j) c d = ap (λ (x : Complaint). unwritten (x .number) (x .place) room) c
       by (checking.refused k j) c d = ap (λ (x : Complaint). unwritten (x .number) (x .place) room) c
       by (accepted a) c d = never (sym d)
@@ -116,15 +123,17 @@ module _ {source ws ns : List ℕ} {known : Bool} {o : Outline} {n i : ℕ} {ws�
         names-are = checked .names;
       }
 
-  module _ (sure : not known ≡ false) where
-    source-known : Read (rooms-fit (length ws) (length ns)) source ws′ o
-    source-known = source-read loaded (checked .words) (not-false known sure)
+  module _ (sure : not known ≡ false) {rule : Rule} (rule-is : rule ≡ rule-in o) where
+    source-known : Read (rooms-fit (length ws) (length ns)) source ws′ ns′ rule
+    source-known = source-read checked loaded (not-false known sure) rule-is
 
-    pub source-written : {r : Written} {room′ : List ℕ} → WritesLoaded ws′ (rule-in o) q room r room′ → WritesSource (rooms-fit (length ws) (length ns)) source q ws ns room r ws′ ns′ room′
+    pub source-written : {told : ℕ} {r : Written} {room′ : List ℕ} → FlagOf source ws′ ns′ rule told → WritesLoaded ws′ rule told q room r room′
+        → WritesSource (rooms-fit (length ws) (length ns)) source q ws ns room r ws′ ns′ room′
     unfolding write-source
-    source-written x =
+    source-written f x =
+        let k = source-known in
         record {
-          wrote = x .is (source-known .read .program) (source-known .holds) (source-known .lists) ∙ ap (write-read q room) (sym (source-known .is));
+          wrote = x .is (k .read .program) (profile-flag source (k .read)) (k .stands .holds) (k .lists) (f .is (k .read) (k .stands)) ∙ ap (write-read source q room) (sym (k .is));
           words-are = checked .words;
           names-are = checked .names;
         }

@@ -1,5 +1,6 @@
 // The writer of value lists: the list that leads from one grid to another at a time.
 ghost use mathlib.Core.Path.{_≡_};
+ghost use mathlib.Core.Option.{some};
 ghost use Prim.Native.Nat.{_<_};
 ghost use lib.ListN.{length};
 ghost use Rattle.automaton.specs.Shape.{product};
@@ -20,6 +21,8 @@ use admitting::cell_count;
 use checker::load;
 use lines::put_list;
 use lines::text_length;
+use profile::flag_of;
+use profile::rule_of;
 use semantics::Rule;
 use spelling::is_built_in;
 
@@ -34,6 +37,7 @@ pub struct Written {
 fn write_text(
     sizes: &[u32],
     fields: usize,
+    flag: usize,
     earlier: &[i32],
     later: &[i32],
     count: usize,
@@ -41,9 +45,9 @@ fn write_text(
     room: &mut [u8],
 ) -> Written
     requires { ⌜ Grids (now sizes) fields (now earlier) (now later) × (count ≡ product (now sizes)) ⌝ }
-    ensures { λ r. ⌜ wrote-of r (now (room .exit)) ≡ put-text (written-text (now (sizes .entry)) fields (now (earlier .entry)) (now (later .entry)) time) (now (room .entry)) ⌝ }
+    ensures { λ r. ⌜ wrote-of r (now (room .exit)) ≡ put-text (written-text (now (sizes .entry)) fields (some flag) (now (earlier .entry)) (now (later .entry)) time) (now (room .entry)) ⌝ }
 {
-    let length = text_length(sizes, fields, earlier, later, count, time);
+    let length = text_length(sizes, fields, flag, earlier, later, count, time);
     if room.len() < length {
         return Written {
             number: 57,
@@ -51,7 +55,7 @@ fn write_text(
             length: 0,
         };
     }
-    put_list(room, sizes, fields, earlier, later, count, time);
+    put_list(room, sizes, fields, flag, earlier, later, count, time);
     Written {
         number: 0,
         place: 0,
@@ -59,10 +63,11 @@ fn write_text(
     }
 }
 
-// Checks the grids, and writes the text.
+// Checks the grids, and writes the text. `flag` is the number of the field that serves as flag, or the number of fields for none.
 fn write_loaded(
     words: &[u32],
     rule: Rule,
+    flag: u32,
     sizes: &[u32],
     earlier: &[i32],
     later: &[i32],
@@ -70,7 +75,7 @@ fn write_loaded(
     room: &mut [u8],
 ) -> Written
     requires { ⌜ (Sized (length (now words)) rule) × (0 < rule .fields) ⌝ }
-    ensures { λ r. ⌜ WritesLoaded (now (words .entry)) rule (wanted (now (sizes .entry)) (now (earlier .entry)) (now (later .entry)) time) (now (room .entry)) r (now (room .exit)) ⌝ }
+    ensures { λ r. ⌜ WritesLoaded (now (words .entry)) rule flag (wanted (now (sizes .entry)) (now (earlier .entry)) (now (later .entry)) time) (now (room .entry)) r (now (room .exit)) ⌝ }
 {
     let count = cell_count(sizes);
     let refused = admit_both(words, rule, sizes, earlier, later, count, time);
@@ -84,6 +89,7 @@ fn write_loaded(
     write_text(
         sizes,
         rule.fields as usize,
+        flag as usize,
         earlier,
         later,
         count,
@@ -113,20 +119,14 @@ fn write_listed(
             length: 0,
         };
     }
-    let outline = loaded.outline;
-    let rule = Rule {
-        tokens: outline.tokens,
-        base: outline.base,
-        body: outline.body,
-        dims: outline.dims,
-        fields: outline.fields,
-        slots: outline.slots,
-    };
-    write_loaded(words, rule, sizes, earlier, later, time, room)
+    let rule = rule_of(loaded.outline);
+    let flag = flag_of(source, words, names, rule);
+    write_loaded(words, rule, flag, sizes, earlier, later, time, room)
 }
 
 // Writes the list that leads from the grid at the last block, `earlier`, to the grid now, `later`, at a time: the text at the front of the room, which
-// keeps its rest. After a refusal the room is as it was; 57: it is shorter than the text. Word table and name list are left as after a run.
+// keeps its rest. For a source that moves a pixel once, a flag that is 0 is left missing. After a refusal the room is as it was; 57: it is shorter than
+// the text. Word table and name list are left as after a run.
 pub fn write_list(
     source: &[u8],
     list: &[u8],

@@ -1,11 +1,11 @@
 // The text of a list that leads from one grid to another: the time's line, and a line for each cell that differs.
 ghost use mathlib.Core.Path.{_≡_};
-ghost use mathlib.Core.List.{[], _∷_, _++_, map};
+ghost use mathlib.Core.List.{[], _∷_, _++_};
 ghost use mathlib.Core.Option.{some};
 ghost use Prim.Native.Nat.{_+_, _*_, _<_, _≤_};
 ghost use lib.ListN.{length};
 ghost use Rattle.automaton.specs.Shape.{product};
-ghost use Rattle.lists.specs.Writing.{cell-line, cells-text, written-text};
+ghost use Rattle.lists.specs.Writing.{cell-line, shown, cells-text, written-text};
 ghost use Rattle.list_writer.specs.Contracts.Printing.{Puts};
 ghost use Rattle.list_writer.specs.Contracts.Lines.{Grids, changed-line};
 use crate::printing::put_byte;
@@ -27,14 +27,14 @@ fn put_between(room: &mut [u8], at: usize) -> usize
 }
 
 // Puts the line of a cell with these coordinates and values.
-fn put_line(room: &mut [u8], at: usize, place: &[u32], values: &[i32]) -> usize
+fn put_line(room: &mut [u8], at: usize, place: &[u32], values: &[i32], flag: usize) -> usize
     requires { ⌜ (length (now place) ≤ 3) × (length (now values) ≤ 64) × (at + 1000 ≤ 4294967296) ⌝ }
-    ensures { λ r. ⌜ Puts (now (room .entry)) at (cell-line (now (place .entry)) (map some (now (values .entry))) ++ 10 ∷ []) (now (room .exit)) r ⌝ }
+    ensures { λ r. ⌜ Puts (now (room .entry)) at (cell-line (now (place .entry)) (shown (some flag) (now (values .entry))) ++ 10 ∷ []) (now (room .exit)) r ⌝ }
 {
     let a = put_byte(room, at, b'[');
     let b = put_numbers(room, a, place);
     let c = put_between(room, b);
-    let d = put_values(room, c, values);
+    let d = put_values(room, c, values, flag);
     put_byte(room, d, b'\n')
 }
 
@@ -45,12 +45,13 @@ fn put_changed(
     place: &mut [u32],
     sizes: &[u32],
     fields: usize,
+    flag: usize,
     earlier: &[i32],
     later: &[i32],
     c: usize,
 ) -> usize
     requires { ⌜ Grids (now sizes) fields (now earlier) (now later) × (length (now place) ≡ length (now sizes)) × (c < product (now sizes)) × (at + 1000 ≤ 4294967296) ⌝ }
-    ensures { λ r. ⌜ Puts (now (room .entry)) at (changed-line (now (sizes .entry)) fields (now (earlier .entry)) (now (later .entry)) c) (now (room .exit)) r ⌝ }
+    ensures { λ r. ⌜ Puts (now (room .entry)) at (changed-line (now (sizes .entry)) fields (some flag) (now (earlier .entry)) (now (later .entry)) c) (now (room .exit)) r ⌝ }
 {
     if !differs(earlier, later, fields, c) {
         return at;
@@ -58,7 +59,7 @@ fn put_changed(
     set_place(sizes, c as u32, place);
     let from = c * fields;
     let end = from + fields;
-    put_line(room, at, place, &later[from..end])
+    put_line(room, at, place, &later[from..end], flag)
 }
 
 // Puts the lines of all cells that differ.
@@ -68,17 +69,18 @@ fn put_cells(
     place: &mut [u32],
     sizes: &[u32],
     fields: usize,
+    flag: usize,
     earlier: &[i32],
     later: &[i32],
     cells: usize,
 ) -> usize
     requires { ⌜ Grids (now sizes) fields (now earlier) (now later) × (length (now place) ≡ length (now sizes)) × (cells ≡ product (now sizes)) × (at ≤ 1000) ⌝ }
-    ensures { λ r. ⌜ Puts (now (room .entry)) at (cells-text (now (sizes .entry)) fields (now (earlier .entry)) (now (later .entry)) cells 0) (now (room .exit)) r ⌝ }
+    ensures { λ r. ⌜ Puts (now (room .entry)) at (cells-text (now (sizes .entry)) fields (some flag) (now (earlier .entry)) (now (later .entry)) cells 0) (now (room .exit)) r ⌝ }
 {
     let mut here = at;
     let mut c: usize = 0;
     while c < cells {
-        here = put_changed(room, here, place, sizes, fields, earlier, later, c);
+        here = put_changed(room, here, place, sizes, fields, flag, earlier, later, c);
         c += 1;
     }
     here
@@ -89,13 +91,14 @@ pub fn put_list(
     room: &mut [u8],
     sizes: &[u32],
     fields: usize,
+    flag: usize,
     earlier: &[i32],
     later: &[i32],
     cells: usize,
     time: u32,
 ) -> usize
     requires { ⌜ Grids (now sizes) fields (now earlier) (now later) × (cells ≡ product (now sizes)) ⌝ }
-    ensures { λ r. ⌜ Puts (now (room .entry)) 0 (written-text (now (sizes .entry)) fields (now (earlier .entry)) (now (later .entry)) time) (now (room .exit)) r ⌝ }
+    ensures { λ r. ⌜ Puts (now (room .entry)) 0 (written-text (now (sizes .entry)) fields (some flag) (now (earlier .entry)) (now (later .entry)) time) (now (room .exit)) r ⌝ }
 {
     let mut place = [0u32; 3];
     let dims = sizes.len();
@@ -107,6 +110,7 @@ pub fn put_list(
         &mut place[..dims],
         sizes,
         fields,
+        flag,
         earlier,
         later,
         cells,
@@ -117,15 +121,25 @@ pub fn put_list(
 pub fn text_length(
     sizes: &[u32],
     fields: usize,
+    flag: usize,
     earlier: &[i32],
     later: &[i32],
     cells: usize,
     time: u32,
 ) -> usize
     requires { ⌜ Grids (now sizes) fields (now earlier) (now later) × (cells ≡ product (now sizes)) ⌝ }
-    ensures { λ r. ⌜ r ≡ length (written-text (now (sizes .entry)) fields (now (earlier .entry)) (now (later .entry)) time) ⌝ }
+    ensures { λ r. ⌜ r ≡ length (written-text (now (sizes .entry)) fields (some flag) (now (earlier .entry)) (now (later .entry)) time) ⌝ }
 {
     let mut one = [0u8; 1];
     let none: usize = 0;
-    put_list(&mut one[..none], sizes, fields, earlier, later, cells, time)
+    put_list(
+        &mut one[..none],
+        sizes,
+        fields,
+        flag,
+        earlier,
+        later,
+        cells,
+        time,
+    )
 }

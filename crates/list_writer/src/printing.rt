@@ -1,10 +1,12 @@
 // Numbers put into a room as text. Each function puts its text from a position on and returns the position behind it; a byte behind the room's end is
 // counted and not put.
 ghost use mathlib.Core.List.{[], _∷_, map};
+ghost use mathlib.Core.Option.{some};
 ghost use Prim.Native.Nat.{_+_, _<_, _≤_};
 ghost use lib.ListN.{length};
 ghost use Rattle.value.specs.Worked.{decode-of};
-ghost use Rattle.lists.specs.Writing.{print-number, print-value, listed};
+ghost use Rattle.lists.specs.Writing.{print-number, print-value, print-field, listed, shown};
+ghost use Rattle.lists.specs.Showing.{field-shown};
 ghost use Rattle.list_writer.specs.Contracts.Printing.{Puts, PutsDigits, separator};
 use value::Value;
 
@@ -80,16 +82,30 @@ pub fn put_numbers(room: &mut [u8], at: usize, numbers: &[u32]) -> usize
     here
 }
 
-// Puts the values of a cell.
-pub fn put_values(room: &mut [u8], at: usize, values: &[i32]) -> usize
+// Puts a field's value; a flag that is 0 is missing.
+fn put_field(room: &mut [u8], at: usize, z: i32, flag: bool) -> usize
+    requires { ⌜ at + 11 ≤ 4294967296 ⌝ }
+    ensures { λ r. ⌜ Puts (now (room .entry)) at (print-field (field-shown flag z)) (now (room .exit)) r ⌝ }
+{
+    if !flag {
+        return put_value(room, at, z);
+    }
+    if z == 0 {
+        return at;
+    }
+    put_value(room, at, z)
+}
+
+// Puts the values of a cell. `flag` is the number of the field that serves as flag; behind the last field it is none.
+pub fn put_values(room: &mut [u8], at: usize, values: &[i32], flag: usize) -> usize
     requires { ⌜ (length (now values) ≤ 64) × (at + 832 ≤ 4294967296) ⌝ }
-    ensures { λ r. ⌜ Puts (now (room .entry)) at (listed (map print-value (now (values .entry)))) (now (room .exit)) r ⌝ }
+    ensures { λ r. ⌜ Puts (now (room .entry)) at (listed (map print-field (shown (some flag) (now (values .entry))))) (now (room .exit)) r ⌝ }
 {
     let mut here = at;
     let mut k: usize = 0;
     while k < values.len() {
         here = put_separator(room, here, k);
-        here = put_value(room, here, values[k]);
+        here = put_field(room, here, values[k], k == flag);
         k += 1;
     }
     here

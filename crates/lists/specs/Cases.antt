@@ -1,6 +1,7 @@
 -- Worked cases of value lists: what is asked, what the definitions are to give, and the test of a list of them.
 use mathlib.Core.Bool.{Bool, true, false, not, _&&_}
 use mathlib.Core.List.{List, [], _∷_}
+use mathlib.Core.Option.{Option}
 use Prim.Native.Nat.{ℕ, suc}
 use lib.Dec.{eqb}
 use lib.IntN.{ℤ}
@@ -25,8 +26,8 @@ pub data Case : Type 0 where
   checks : Limits → List ℕ → ℕ → ℕ → Case
   -- a list on a grid of sizes and a number of fields, a time, the grid before its block, and the grid after
   sets : List ℕ → ℕ → List ℕ → ℕ → List ℤ → List ℤ → Case
-  -- two grids and a time, a room, and the number, the length and the room that the writer gives
-  writes : List ℕ → ℕ → List ℤ → List ℤ → ℕ → List ℕ → ℕ → ℕ → List ℕ → Case
+  -- two grids of sizes and a number of fields with their flag, if any, a time, a room, and the number, the length and the room that the writer gives
+  writes : List ℕ → ℕ → Option ℕ → List ℤ → List ℤ → ℕ → List ℕ → ℕ → ℕ → List ℕ → Case
 
 -- a case holds. The line names all that a case computes with
 unfoldable pub holds : Case → Bool
@@ -38,8 +39,8 @@ holds (checks q text number line) =
     let v = check-list q text in
     eqb (v .number) number && eqb (v .line) line
 holds (sets sizes fields text t before after) = not (differ (set-block sizes fields text t before) after)
-holds (writes sizes fields earlier later t room number len after) =
-    let w = put-text (written-text sizes fields earlier later t) room in
+holds (writes sizes fields flag earlier later t room number len after) =
+    let w = put-text (written-text sizes fields flag earlier later t) room in
     eqb (w .number) number && eqb (w .length) len && same (w .room) after
 
 -- the numbers, from n on, of the cases that do not hold

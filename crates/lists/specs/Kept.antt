@@ -11,7 +11,7 @@ use lib.ListN.{length, getD, set, length-set}
 use lib.Seq.{getD-set-same, getD-set-other}
 use lib.Dec.{eqb, ltb}
 use lib.IntN.{ℤ, pos}
-use borrow.Author.Tests.{ltb-false}
+use borrow.Author.Tests.{eqb-true, ltb-false}
 use Rattle.value.specs.Choice.{if_then_else_}
 use Rattle.value.specs.Laws.{and-both}
 use Rattle.automaton.specs.Shape as shape
@@ -19,24 +19,33 @@ use Rattle.program.specs.Syntax.{Range, no-range, Program}
 use Rattle.semantics.specs.Evaluation.{in-field}
 use Rattle.stepper.specs.Ranges.{FieldsInRange, entry-in-range, all-in-range}
 use Rattle.lists.specs.Lines.{Said, bad, time, cell, said}
-use Rattle.lists.specs.ListChecking.{Limits, inside, all-fit, cell-number}
+use Rattle.lists.specs.ListChecking.{Limits, inside, all-fit, clears, cell-number}
 use Rattle.lists.specs.Setting.{store-values, set-lines, set-block}
 use Rattle.lists.specs.Passing.{Passes, passes-first}
 
 -- ---- a cell's line that is right
 
--- its values are no more than the fields, each in the range of its field
-right-values : (q : Limits) (is : List ℕ) (vs : List (Option ℤ)) → cell-number q is vs ≡ 0 → (length vs ≤ length (q .fields)) × (all-fit (q .fields) vs ≡ true)
+-- it has an index for each dimension, and no more values than fields, each in the range of its field and none 0 for the flag
+pub record RightCell (q : Limits) (is : List ℕ) (vs : List (Option ℤ)) : Type 0 where
+  pub counted : length is ≡ length (q .sizes)
+  pub few : length vs ≤ length (q .fields)
+  pub fit : all-fit (q .fields) vs ≡ true
+  pub flag-kept : clears (q .flag) vs ≡ false
+
+pub right-cell : (q : Limits) (is : List ℕ) (vs : List (Option ℤ)) → cell-number q is vs ≡ 0 → RightCell q is vs
 unfolding cell-number
-right-values q is vs h = by (eqb (length is) (length (q .sizes))) (inside (q .sizes) is) (ltb (length (q .fields)) (length vs)) (all-fit (q .fields) vs) refl h
+right-cell q is vs h =
+    by (eqb (length is) (length (q .sizes))) refl (inside (q .sizes) is) (ltb (length (q .fields)) (length vs)) refl (all-fit (q .fields) vs) refl (clears (q .flag) vs) refl h
   where
-    by : (a b c d : Bool) → ltb (length (q .fields)) (length vs) ≡ c → _≡_ {A = ℕ} (if not a then 50 else if not b then 51 else if c then 52 else if not d then 53 else 0) 0
-        → (length vs ≤ length (q .fields)) × (d ≡ true)
-    by true true false true e h = (ltb-false (length (q .fields)) (length vs) e, refl)
-    by true true false false e h = absurd (omega arith)
-    by true true true d e h = absurd (omega arith)
-    by true false c d e h = absurd (omega arith)
-    by false b c d e h = absurd (omega arith)
+    by : (a : Bool) → eqb (length is) (length (q .sizes)) ≡ a → (b c : Bool) → ltb (length (q .fields)) (length vs) ≡ c → (d : Bool) → all-fit (q .fields) vs ≡ d → (e : Bool) → clears (q .flag) vs ≡ e
+        → _≡_ {A = ℕ} (if not a then 50 else if not b then 51 else if c then 52 else if not d then 53 else if e then 58 else 0) 0 → RightCell q is vs
+    by true w true false x true y false z h =
+        record { counted = eqb-true (length is) (length (q .sizes)) w; few = ltb-false (length (q .fields)) (length vs) x; fit = y; flag-kept = z }
+    by true w true false x true y true z h = absurd (omega arith)
+    by true w true false x false y e z h = absurd (omega arith)
+    by true w true true x d y e z h = absurd (omega arith)
+    by true w false c x d y e z h = absurd (omega arith)
+    by false w b c x d y e z h = absurd (omega arith)
 
 -- ---- a store
 
@@ -78,9 +87,9 @@ module _ (p : Program) (sizes : List ℕ) where
     cell-keeps : (is : List ℕ) (vs : List (Option ℤ)) (c : ℕ) (g : List ℤ) → cell-number q is vs ≡ 0 → FieldsInRange p sizes g
         → FieldsInRange p sizes (store-values g (c * length (p .fields)) vs)
     cell-keeps is vs c g r h =
-        let right = right-values q is vs r in
-        let few : length vs ≤ length (p .fields) = subst (λ (rs : List Range). length vs ≤ length rs) same (right .0) in
-        store-keeps (p .fields) vs (c * length (p .fields)) g few (ap (λ (rs : List Range). all-fit rs vs) (sym same) ∙ right .1)
+        let right = right-cell q is vs r in
+        let few : length vs ≤ length (p .fields) = subst (λ (rs : List Range). length vs ≤ length rs) same (right .few) in
+        store-keeps (p .fields) vs (c * length (p .fields)) g few (ap (λ (rs : List Range). all-fit rs vs) (sym same) ∙ right .fit)
         (λ j l. ap (λ (i : ℕ). getD (p .fields) i no-range) (mul-add-mod-self-right c (length (p .fields)) j ∙ mod-eq-of-lt l)) h
 
     lines-keep : (ss : List Said) (before : Option ℕ) (n t : ℕ) (within : Bool) (g : List ℤ) → Passes q before n ss → FieldsInRange p sizes g

@@ -8,8 +8,10 @@ pub mod Cases
 pub mod Examples
 pub mod Printing
 pub mod Rereading
+pub mod Showing
 pub mod RoundTrip
 pub mod Sources
 pub mod Passing
 pub mod Kept
 pub mod Walking
+pub mod Told

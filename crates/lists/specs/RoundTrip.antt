@@ -22,22 +22,24 @@ use Rattle.automaton.specs.Shape.{product, coordinates}
 use Rattle.automaton.specs.ShapeLaws.{Inside, inside-length, Positive, coordinates-inside, number-coordinates}
 use Rattle.automaton.specs.Grid.{cell-of, differ}
 use Rattle.automaton.specs.GridLaws.{differ-false, cell-room}
-use Rattle.program.specs.Syntax.{Range, no-range, Program}
+use Rattle.program.specs.Syntax.{Range, range, no-range, Program}
 use Rattle.semantics.specs.Evaluation.{in-field}
 use Rattle.stepper.specs.Admission.{Request, Refusal, refusal, all-between, good-sizes, good-rooms, good-times, too-far, out-of-field, admission}
 use Rattle.semantics.specs.Written.{written-in}
 use Rattle.lists.specs.Lines.{Said, bad, time, cell, said}
 use Rattle.lists.specs.ListChecking.{Limits, limits-of, inside, all-fit, cell-number, time-number, line-number, time-behind, Verdict, verdict, check-lines, check-list}
 use Rattle.lists.specs.Setting.{store-values, set-lines, set-block}
-use Rattle.lists.specs.Writing.{print-number, cell-line, cells-text, written-text, Wanted, as-run, lower, writing-admission}
+use Rattle.lists.specs.Writing.{print-number, cell-line, shown, cells-text, written-text, Wanted, as-run, lower, writing-admission}
 use Rattle.lists.specs.Rereading.{All, all-append, Small, Writable, WritableField, said-time, said-cell, said-nothing}
+use Rattle.lists.specs.Showing.{length-shown, writable-shown, fit-shown, kept-shown, ZeroToo, store-shown}
 
 -- ---- storing the values of a cell
 
-store-length : (vs : List ℤ) (g : List ℤ) (e : ℕ) → length (store-values g e (map some vs)) ≡ length g
+pub store-length : (vs : List (Option ℤ)) (g : List ℤ) (e : ℕ) → length (store-values g e vs) ≡ length g
 unfolding store-values
 store-length [] g e = refl
-store-length (v ∷ vs) g e = store-length vs (set g e v) (suc e) ∙ length-set g e v
+store-length (none ∷ vs) g e = store-length vs g (suc e)
+store-length (some v ∷ vs) g e = store-length vs (set g e v) (suc e) ∙ length-set g e v
 
 store-out : (vs g : List ℤ) (e k : ℕ) → (k < e) ⊎ (e + length vs ≤ k) → getD (store-values g e (map some vs)) k (pos 0) ≡ getD g k (pos 0)
 unfolding store-values
@@ -63,10 +65,6 @@ all-list-of : {A : Type 0} (P : A → Type 0) (f : ℕ → A) (n : ℕ) → ((k 
 unfolding list-of
 all-list-of P f zero h = tt
 all-list-of P f (suc n) h = all-append P (list-of f n) (f n ∷ []) (all-list-of P f n (λ k l. h k (omega arith))) (h n (le-refl (suc n)), tt)
-
-all-given : (vs : List ℤ) → All Writable vs → All WritableField (map some vs)
-all-given [] h = tt
-all-given (v ∷ vs) h = (h .0, all-given vs (h .1))
 
 inside-small : (ns is : List ℕ) → Inside ns is → All (λ n. n ≤ 4096) ns → All Small is
 inside-small [] [] h b = tt
@@ -101,7 +99,7 @@ pub record Fit (sizes : List ℕ) (fields : List Range) (earlier later : List �
   pub in-fields : (e : ℕ) → e < length later → in-field (getD fields (e % length fields) no-range) (getD later e (pos 0)) ≡ true
   pub writable : (e : ℕ) → e < length later → Writable (getD later e (pos 0))
 
-module _ (sizes : List ℕ) (fields : List Range) (earlier later : List ℤ) (fit : Fit sizes fields earlier later) where
+module _ (sizes : List ℕ) (fields : List Range) (flag : Option ℕ) (earlier later : List ℤ) (fit : Fit sizes fields earlier later) where
   module _ (c : ℕ) (l : c < product sizes) where
     there : Inside sizes (coordinates sizes c)
     there = coordinates-inside sizes c (fit .positive) l
@@ -117,28 +115,30 @@ module _ (sizes : List ℕ) (fields : List Range) (earlier later : List ℤ) (fi
     unfolding cell-of
     field-at g k h = getD-list-of _ (length fields) k (pos 0) h
 
-    all-writable : All WritableField (map some (cell-of (length fields) later c))
+    all-writable : All WritableField (shown flag (cell-of (length fields) later c))
     unfolding cell-of
-    all-writable = all-given (cell-of (length fields) later c) (all-list-of Writable _ (length fields) (λ k h. fit .writable (c * length fields + k) (omega (arith, room))))
+    all-writable = writable-shown flag (cell-of (length fields) later c) (all-list-of Writable _ (length fields) (λ k h. fit .writable (c * length fields + k) (omega (arith, room))))
 
     -- the line says the cell's index and its fields
-    line-says : (rest : List ℕ) → said (cell-line (coordinates sizes c) (map some (cell-of (length fields) later c)) ++ 10 ∷ rest)
-        ≡ cell (coordinates sizes c) (map some (cell-of (length fields) later c)) ∷ said rest
+    line-says : (rest : List ℕ) → said (cell-line (coordinates sizes c) (shown flag (cell-of (length fields) later c)) ++ 10 ∷ rest)
+        ≡ cell (coordinates sizes c) (shown flag (cell-of (length fields) later c)) ∷ said rest
     line-says rest =
-        said-cell (coordinates sizes c) (map some (cell-of (length fields) later c)) rest (omega (arith, inside-length sizes (coordinates sizes c) there, fit .dims))
-        (omega (arith, length-map (cell-of (length fields) later c) some, fields-length later, fit .some-fields)) (inside-small sizes (coordinates sizes c) there (fit .bounded)) all-writable
+        said-cell (coordinates sizes c) (shown flag (cell-of (length fields) later c)) rest (omega (arith, inside-length sizes (coordinates sizes c) there, fit .dims))
+        (omega (arith, length-shown flag (cell-of (length fields) later c), fields-length later, fit .some-fields)) (inside-small sizes (coordinates sizes c) there (fit .bounded)) all-writable
 
     -- and it is right
-    line-right : (q : Limits) → q .sizes ≡ sizes → q .fields ≡ fields → cell-number q (coordinates sizes c) (map some (cell-of (length fields) later c)) ≡ 0
+    line-right : (q : Limits) → q .sizes ≡ sizes → q .fields ≡ fields → q .flag ≡ flag → cell-number q (coordinates sizes c) (shown flag (cell-of (length fields) later c)) ≡ 0
     unfolding cell-number
-    line-right q es ef =
+    line-right q es ef eg =
         rw (
           es,
           ef,
+          eg,
           eq-eqb (length (coordinates sizes c)) (length sizes) (inside-length sizes (coordinates sizes c) there),
           inside-true sizes (coordinates sizes c) there,
-          le-ltb (length fields) (length (map some (cell-of (length fields) later c))) (omega (arith, length-map (cell-of (length fields) later c) some, fields-length later)),
-          fit-true fields (cell-of (length fields) later c) (λ k a b. fits k a),
+          le-ltb (length fields) (length (shown flag (cell-of (length fields) later c))) (omega (arith, length-shown flag (cell-of (length fields) later c), fields-length later)),
+          fit-shown flag fields (cell-of (length fields) later c) (fit-true fields (cell-of (length fields) later c) (λ k a b. fits k a)),
+          kept-shown flag (cell-of (length fields) later c),
         )
       where
         fits : (k : ℕ) → k < length fields → in-field (getD fields k no-range) (getD (cell-of (length fields) later c) k (pos 0)) ≡ true
@@ -152,13 +152,13 @@ module _ (sizes : List ℕ) (fields : List Range) (earlier later : List ℤ) (fi
   changed c = differ (cell-of (length fields) earlier c) (cell-of (length fields) later c)
 
   text-from : ℕ → ℕ → List ℕ
-  text-from n c = cells-text sizes (length fields) earlier later n c
+  text-from n c = cells-text sizes (length fields) flag earlier later n c
 
   line-at : ℕ → List ℕ
-  line-at c = cell-line (coordinates sizes c) (map some (cell-of (length fields) later c))
+  line-at c = cell-line (coordinates sizes c) (shown flag (cell-of (length fields) later c))
 
   said-at : ℕ → Said
-  said-at c = cell (coordinates sizes c) (map some (cell-of (length fields) later c))
+  said-at c = cell (coordinates sizes c) (shown flag (cell-of (length fields) later c))
 
   -- what it says begins with the cell's line where the cell differs
   said-changed : (n c : ℕ) → c < product sizes → changed c ≡ true → said (text-from (suc n) c) ≡ said-at c ∷ said (text-from n (suc c))
@@ -176,7 +176,7 @@ module _ (sizes : List ℕ) (fields : List Range) (earlier later : List ℤ) (fi
 
   -- ---- the check
 
-  module _ (q : Limits) (same-sizes : q .sizes ≡ sizes) (same-fields : q .fields ≡ fields) where
+  module _ (q : Limits) (same-sizes : q .sizes ≡ sizes) (same-fields : q .fields ≡ fields) (same-flag : q .flag ≡ flag) where
     check-on : (before : Option ℕ) (k : ℕ) (s : Said) (ss : List Said) → line-number q before s ≡ 0 → check-lines q before k (s ∷ ss) ≡ check-lines q (time-behind before s) (suc k) ss
     unfolding check-lines
     check-on before k s ss e = rw e
@@ -190,10 +190,10 @@ module _ (sizes : List ℕ) (fields : List Range) (earlier later : List ℤ) (fi
             → check-lines q (some t) k (said (text-from (suc n) c)) ≡ verdict 0 0
         by true d h =
             let l : c < product sizes = omega arith in
-            ap (check-lines q (some t) k) (said-changed n c l d) ∙ check-on (some t) k (said-at c) (said (text-from n (suc c))) (line-right c l q same-sizes same-fields) ∙ h t (suc k)
+            ap (check-lines q (some t) k) (said-changed n c l d) ∙ check-on (some t) k (said-at c) (said (text-from n (suc c))) (line-right c l q same-sizes same-fields same-flag) ∙ h t (suc k)
         by false d h = ap (check-lines q (some t) k) (said-same n c d) ∙ h t k
 
-    check-written : (t : ℕ) → Small t → q .first ≤ t → t ≤ q .last → check-list q (written-text sizes (length fields) earlier later t) ≡ verdict 0 0
+    check-written : (t : ℕ) → Small t → q .first ≤ t → t ≤ q .last → check-list q (written-text sizes (length fields) flag earlier later t) ≡ verdict 0 0
     unfolding check-list written-text text-from time-number
     check-written t small a b =
         ap (check-lines q none 1) (said-time t (text-from (product sizes) 0) small)
@@ -229,7 +229,7 @@ module _ (sizes : List ℕ) (fields : List Range) (earlier later : List ℤ) (fi
 
     between-stored : Between stored (suc c)
     unfolding stored
-    between-stored = record { len = store-length (cell-of (length fields) later c) g (c * length fields) ∙ h .len; below = λ e le. low e (either e le); above = high }
+    between-stored = record { len = store-length (map some (cell-of (length fields) later c)) g (c * length fields) ∙ h .len; below = λ e le. low e (either e le); above = high }
       where
         low : (e : ℕ) → (e < c * length fields) ⊎ ((k : ℕ) × (k < length fields) × (e ≡ c * length fields + k)) → getD stored e (pos 0) ≡ getD later e (pos 0)
         low e (inl q) = store-out (cell-of (length fields) later c) g (c * length fields) e (inl q) ∙ h .below e q
@@ -259,17 +259,34 @@ module _ (sizes : List ℕ) (fields : List Range) (earlier later : List ℤ) (fi
       ext-getD (pos 0) g later (h .len)
       (λ i l. h .below i (let p = ap (λ (x : ℕ). x * length fields) e in omega (arith, h .len, fit .later-length)))
 
-  set-cells : (t n c : ℕ) → c + n ≡ product sizes → (g : List ℤ) → Between g c → set-lines sizes (length fields) t true g (said (text-from n c)) ≡ later
+  -- a flag that is 0 in the later grid is 0 in the earlier one
+  abbrev Stays : Type 0
+  Stays = (f c : ℕ) → flag ≡ some f → f < length fields → c < product sizes → getD later (c * length fields + f) (pos 0) ≡ pos 0 → getD earlier (c * length fields + f) (pos 0) ≡ pos 0
+
+  -- then what a line sets is all fields of its cell
+  line-sets : Stays → (g : List ℤ) (c : ℕ) → c < product sizes → Between g c
+      → store-values g (c * length fields) (shown flag (cell-of (length fields) later c)) ≡ store-values g (c * length fields) (map some (cell-of (length fields) later c))
+  line-sets stays g c l h = store-shown flag (cell-of (length fields) later c) g (c * length fields) (by flag refl)
+    where
+      by : (o : Option ℕ) → flag ≡ o → ZeroToo o (cell-of (length fields) later c) g (c * length fields)
+      by none e = tt
+      by (some f) e =
+          λ m z.
+          let k : f < length fields = omega (arith, m, fields-length c l later) in
+          h .above (c * length fields + f) (omega arith) ∙ stays f c e k l (sym (field-at c l later f k) ∙ z)
+
+  set-cells : Stays → (t n c : ℕ) → c + n ≡ product sizes → (g : List ℤ) → Between g c → set-lines sizes (length fields) t true g (said (text-from n c)) ≡ later
   unfolding set-lines said-at stored
-  set-cells t zero c e g h = ap (set-lines sizes (length fields) t true g) (said-none c) ∙ between-end g c (omega arith) h
-  set-cells t (suc n) c e g h = by (changed c) refl (set-cells t n (suc c) (omega arith))
+  set-cells stays t zero c e g h = ap (set-lines sizes (length fields) t true g) (said-none c) ∙ between-end g c (omega arith) h
+  set-cells stays t (suc n) c e g h = by (changed c) refl (set-cells stays t n (suc c) (omega arith))
     where
       by : (b : Bool) → changed c ≡ b → ((g′ : List ℤ) → Between g′ (suc c) → set-lines sizes (length fields) t true g′ (said (text-from n (suc c))) ≡ later)
           → set-lines sizes (length fields) t true g (said (text-from (suc n) c)) ≡ later
       by true d k =
           let l : c < product sizes = omega arith in
           ap (set-lines sizes (length fields) t true g) (said-changed n c l d)
-          ∙ ap (λ (x : ℕ). set-lines sizes (length fields) t true (store-values g (x * length fields) (map some (cell-of (length fields) later c))) (said (text-from n (suc c)))) (number-coordinates sizes c (fit .positive) l)
+          ∙ ap (λ (x : ℕ). set-lines sizes (length fields) t true (store-values g (x * length fields) (shown flag (cell-of (length fields) later c))) (said (text-from n (suc c)))) (number-coordinates sizes c (fit .positive) l)
+          ∙ ap (λ (x : List ℤ). set-lines sizes (length fields) t true x (said (text-from n (suc c)))) (line-sets stays g c l h)
           ∙ k _ (between-stored g c l h)
       by false d k = ap (set-lines sizes (length fields) t true g) (said-same n c d) ∙ k g (between-same g c (omega arith) h d)
 
@@ -284,18 +301,18 @@ module _ (sizes : List ℕ) (fields : List Range) (earlier later : List ℤ) (fi
       by true d k = ap (set-lines sizes (length fields) t false g) (said-changed n c (omega arith) d) ∙ k
       by false d k = ap (set-lines sizes (length fields) t false g) (said-same n c d) ∙ k
 
-  set-written : (t u : ℕ) → Small t → (g : List ℤ) → set-block sizes (length fields) (written-text sizes (length fields) earlier later t) u g
+  set-written : (t u : ℕ) → Small t → (g : List ℤ) → set-block sizes (length fields) (written-text sizes (length fields) flag earlier later t) u g
       ≡ set-lines sizes (length fields) u (eqb t u) g (said (text-from (product sizes) 0))
   unfolding set-block written-text set-lines text-from
   set-written t u small g = ap (set-lines sizes (length fields) u false g) (said-time t (text-from (product sizes) 0) small)
 
-  leads-there : (t : ℕ) → Small t → set-block sizes (length fields) (written-text sizes (length fields) earlier later t) t earlier ≡ later
-  leads-there t small =
+  leads-there : Stays → (t : ℕ) → Small t → set-block sizes (length fields) (written-text sizes (length fields) flag earlier later t) t earlier ≡ later
+  leads-there stays t small =
       set-written t t small earlier
       ∙ ap (λ (b : Bool). set-lines sizes (length fields) t b earlier (said (text-from (product sizes) 0))) (eq-eqb t t refl)
-      ∙ set-cells t (product sizes) 0 (omega arith) earlier between-start
+      ∙ set-cells stays t (product sizes) 0 (omega arith) earlier between-start
 
-  at-no-other-time : (t u : ℕ) → Small t → (t ≡ u → ⊥) → (g : List ℤ) → set-block sizes (length fields) (written-text sizes (length fields) earlier later t) u g ≡ g
+  at-no-other-time : (t u : ℕ) → Small t → (t ≡ u → ⊥) → (g : List ℤ) → set-block sizes (length fields) (written-text sizes (length fields) flag earlier later t) u g ≡ g
   at-no-other-time t u small d g =
       set-written t u small g
       ∙ ap (λ (b : Bool). set-lines sizes (length fields) u b g (said (text-from (product sizes) 0))) (ne-eqb t u d)
@@ -323,7 +340,7 @@ between-writable lo hi (pos n) a b h = below-writable n hi b (and-both (leZ lo (
 between-writable lo hi (negsuc n) a b h = above-writable lo n a (and-both (leZ lo (negsuc n)) (leZ (negsuc n) hi) h .0)
 
 -- what is told by sizes that are right
-sizes-told : (ns : List ℕ) → all-between 1 4096 ns ≡ true → Positive ns × All (λ n. n ≤ 4096) ns
+pub sizes-told : (ns : List ℕ) → all-between 1 4096 ns ≡ true → Positive ns × All (λ n. n ≤ 4096) ns
 unfolding all-between
 sizes-told [] h = (tt, tt)
 sizes-told (n ∷ ns) h =
@@ -355,7 +372,7 @@ pub record Told (p : Program) (q : Request) : Type 0 where
   pub times : good-times (q .start) (q .steps) ≡ true
   pub entries : out-of-field (p .fields) 0 (q .grid) .number ≡ 0
 
-admission-told : (p : Program) (q : Request) → admission p q .number ≡ 0 → Told p q
+pub admission-told : (p : Program) (q : Request) → admission p q .number ≡ 0 → Told p q
 unfolding admission
 admission-told p q h =
     by (good-sizes p (q .sizes)) (good-rooms p q) (good-times (q .start) (q .steps)) (eqb (too-far (q .sizes) (written-in p) .number) 0) refl refl refl refl h
@@ -415,31 +432,76 @@ fit-told p q d a b =
           between-writable (getD (p .fields) (e % length (p .fields)) no-range .low) (getD (p .fields) (e % length (p .fields)) no-range .high) (getD (q .later) e (pos 0)) (k .0) (k .1) (inside-field e l);
     }
 
+-- ---- the flag
+
+-- the field that serves as flag, if any, has the range 0..1
+abbrev pub Flagged : List Range → Option ℕ → Type 0
+Flagged fields none = Unit {0}
+Flagged fields (some f) = getD fields f no-range ≡ range (pos 0) (pos 1)
+
+-- no cell of two grids, of so many cells with so many fields, has a flag that is 1 in the earlier and 0 in the later one
+abbrev pub NoFlagFalls : Option ℕ → ℕ → ℕ → List ℤ → List ℤ → Type 0
+NoFlagFalls none cells fields earlier later = Unit {0}
+NoFlagFalls (some f) cells fields earlier later =
+    (c : ℕ) → c < cells → getD earlier (c * fields + f) (pos 0) ≡ pos 1 → getD later (c * fields + f) (pos 0) ≡ pos 0 → ⊥
+
+-- a value in 0..1 is 0 or 1
+pub zero-or-one : (z : ℤ) → in-field (range (pos 0) (pos 1)) z ≡ true → (z ≡ pos 0) ⊎ (z ≡ pos 1)
+zero-or-one (pos zero) e = inl refl
+zero-or-one (pos (suc zero)) e = inr refl
+zero-or-one (pos (suc (suc n))) e = absurd (let l = leb-true (suc (suc n)) 1 (and-both (leb 0 (suc (suc n))) (leb (suc (suc n)) 1) e .1) in omega arith)
+zero-or-one (negsuc n) e = never e
+
+-- in a grid whose entries are in their fields, every flag is 0 or 1
+pub flag-in-range : (fields : List Range) (f : ℕ) → f < length fields → Flagged fields (some f) → (g : List ℤ) → out-of-field fields 0 g .number ≡ 0
+    → (c : ℕ) → c * length fields + f < length g → (getD g (c * length fields + f) (pos 0) ≡ pos 0) ⊎ (getD g (c * length fields + f) (pos 0) ≡ pos 1)
+flag-in-range fields f has flagged g h c l =
+    zero-or-one (getD g (c * length fields + f) (pos 0))
+    (ap (λ (r : Range). in-field r (getD g (c * length fields + f) (pos 0))) (sym flagged)
+    ∙ ap (λ (i : ℕ). in-field (getD fields i no-range) (getD g (c * length fields + f) (pos 0))) (sym (mod-eq-of-lt has) ∙ sym (mul-add-mod-self-right c (length fields) f) ∙ ap (λ (i : ℕ). i % length fields) (sym (zero-add (c * length fields + f))))
+    ∙ entries-told fields 0 g h (c * length fields + f) l)
+
 -- ---- the theorem
 
 -- the text that the writer gives for a program and what is wanted
-abbrev pub text-of : Program → Wanted → List ℕ
-text-of p q = written-text (q .sizes) (length (p .fields)) (q .earlier) (q .later) (natAbs (q .time))
+abbrev pub text-of : Program → Option ℕ → Wanted → List ℕ
+text-of p flag q = written-text (q .sizes) (length (p .fields)) flag (q .earlier) (q .later) (natAbs (q .time))
 
-pub record RoundTrip (p : Program) (q : Wanted) : Type 0 where
+pub record RoundTrip (p : Program) (flag : Option ℕ) (q : Wanted) : Type 0 where
   -- the text passes the check of every run on these sizes that has its time
   pub passes : (r : Request) → r .sizes ≡ q .sizes → natAbs (r .start) ≤ natAbs (q .time) → natAbs (q .time) ≤ natAbs (r .start) + natAbs (r .steps)
-      → check-list (limits-of p r) (text-of p q) ≡ verdict 0 0
-  -- its block, set on the earlier grid, gives the later one
-  pub leads : set-block (q .sizes) (length (p .fields)) (text-of p q) (natAbs (q .time)) (q .earlier) ≡ q .later
+      → check-list (limits-of p flag r) (text-of p flag q) ≡ verdict 0 0
+  -- its block, set on the earlier grid, gives the later one, where no flag falls
+  pub leads : NoFlagFalls flag (product (q .sizes)) (length (p .fields)) (q .earlier) (q .later)
+      → set-block (q .sizes) (length (p .fields)) (text-of p flag q) (natAbs (q .time)) (q .earlier) ≡ q .later
   -- it has no block of another time
-  pub alone : (u : ℕ) → (natAbs (q .time) ≡ u → ⊥) → (g : List ℤ) → set-block (q .sizes) (length (p .fields)) (text-of p q) u g ≡ g
+  pub alone : (u : ℕ) → (natAbs (q .time) ≡ u → ⊥) → (g : List ℤ) → set-block (q .sizes) (length (p .fields)) (text-of p flag q) u g ≡ g
 
-pub round-trip : (p : Program) (q : Wanted) → Declared p → writing-admission p q .number ≡ 0 → RoundTrip p q
+pub round-trip : (p : Program) (flag : Option ℕ) (q : Wanted) → Declared p → Flagged (p .fields) flag → writing-admission p q .number ≡ 0 → RoundTrip p flag q
 unfolding writing-admission
-round-trip p q d h =
+round-trip p flag q d flagged h =
     let both = lower-told (admission p (as-run q (q .earlier))) (admission p (as-run q (q .later))) h in
     let a = admission-told p (as-run q (q .earlier)) (both .0) in
     let b = admission-told p (as-run q (q .later)) (both .1) in
     let fit = fit-told p q d a b in
     let small = time-told (q .time) (a .times) in
     record {
-      passes = λ r e low high. check-written (q .sizes) (p .fields) (q .earlier) (q .later) fit (limits-of p r) e refl (natAbs (q .time)) small low high;
-      leads = leads-there (q .sizes) (p .fields) (q .earlier) (q .later) fit (natAbs (q .time)) small;
-      alone = λ u n g. at-no-other-time (q .sizes) (p .fields) (q .earlier) (q .later) fit (natAbs (q .time)) u small n g;
+      passes = λ r e low high. check-written (q .sizes) (p .fields) flag (q .earlier) (q .later) fit (limits-of p flag r) e refl refl (natAbs (q .time)) small low high;
+      leads = λ falls. leads-there (q .sizes) (p .fields) flag (q .earlier) (q .later) fit (stays (a .entries) (fit .earlier-length) falls) (natAbs (q .time)) small;
+      alone = λ u n g. at-no-other-time (q .sizes) (p .fields) flag (q .earlier) (q .later) fit (natAbs (q .time)) u small n g;
     }
+  where
+    stays : out-of-field (p .fields) 0 (q .earlier) .number ≡ 0 → length (q .earlier) ≡ product (q .sizes) * length (p .fields)
+        → NoFlagFalls flag (product (q .sizes)) (length (p .fields)) (q .earlier) (q .later)
+        → (f c : ℕ) → flag ≡ some f → f < length (p .fields) → c < product (q .sizes)
+        → getD (q .later) (c * length (p .fields) + f) (pos 0) ≡ pos 0 → getD (q .earlier) (c * length (p .fields) + f) (pos 0) ≡ pos 0
+    stays entries len falls f c e has l late =
+        let known : Flagged (p .fields) (some f) = subst (Flagged (p .fields)) e flagged in
+        let none-falls : NoFlagFalls (some f) (product (q .sizes)) (length (p .fields)) (q .earlier) (q .later) =
+        subst (λ (o : Option ℕ). NoFlagFalls o (product (q .sizes)) (length (p .fields)) (q .earlier) (q .later)) e falls in
+        let room : c * length (p .fields) + length (p .fields) ≤ length (q .earlier) = cell-room c (product (q .sizes)) (length (p .fields)) (length (q .earlier)) l (sym len) in
+        by (flag-in-range (p .fields) f has known (q .earlier) entries c (omega arith)) (none-falls c l)
+      where
+        by : {z : ℤ} → (z ≡ pos 0) ⊎ (z ≡ pos 1) → (z ≡ pos 1 → getD (q .later) (c * length (p .fields) + f) (pos 0) ≡ pos 0 → ⊥) → z ≡ pos 0
+        by (inl x) no-fall = x
+        by (inr x) no-fall = absurd (no-fall x late)

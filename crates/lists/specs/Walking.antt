@@ -1,15 +1,15 @@
 -- A text walked line by line and a line token by token, from a position on: what a loop over them says of the definitions.
 use Prim.Native.Nat.{ℕ, zero, suc, _+_, _-_, _*_, _≤_, _<_}
-use native.Mathlib.Nat.{add-zero, add-assoc, add-mul, mul-assoc, mul-one}
+use native.Mathlib.Nat.{add-zero, zero-add, add-assoc, add-mul, mul-assoc, mul-one}
 use native.Mathlib.Omega.{arith}
 use mathlib.Core.Path.{_≡_, refl, sym, ap, ap₂, _∙_}
 use mathlib.Core.Bool.{Bool, true, false, not, _&&_, _||_}
 use mathlib.Core.List.{List, [], _∷_, _++_, map}
 use mathlib.Core.Option.{Option, some, none}
-use lib.ListN.{length, take, drop, set}
+use lib.ListN.{length, getD, take, drop, set}
 use lib.IntN.{ℤ}
 use lib.Dec.{eqb, leb, ltb, eqb·suc-suc, leb·suc-suc}
-use borrow.Author.Tests.{ne-eqb, eqb-true, lt-ltb}
+use borrow.Author.Tests.{ne-eqb, eq-eqb, eqb-true, lt-ltb}
 use Rattle.value.specs.Choice.{if_then_else_}
 use Rattle.value.specs.Laws.{never}
 use Rattle.automaton.specs.Shape as shape
@@ -19,7 +19,7 @@ use Rattle.token.specs.Kind.{kind}
 use Rattle.program.specs.Syntax.{Range}
 use Rattle.lists.specs.Text.{Line, line, in-front, lines, Piece, literal, sign, pieces}
 use Rattle.lists.specs.Lines.{Said, bad, said-in, say, said, Indexed, indexed, with-index, indices, with-value}
-use Rattle.lists.specs.ListChecking.{Limits, inside, value-fits, all-fit, cell-number}
+use Rattle.lists.specs.ListChecking.{Limits, inside, value-fits, all-fit, is-zero, clears, cell-number}
 use Rattle.lists.specs.Setting.{store-values}
 
 -- ---- lines
@@ -208,39 +208,74 @@ abbrev pub rest-of : List Range → List Range
 rest-of [] = []
 rest-of (r ∷ rs) = rs
 
--- the number of values that are still to be read, for the fields left: `over` says whether there were more than fields, `fit` whether all fit so far
-abbrev pub values-number : List Range → Bool → Bool → Option (List (Option ℤ)) → ℕ
-values-number rs over fit none = 50
-values-number rs over fit (some vs) =
+-- value number k does not give the flag f 0
+abbrev pub keeps-flag : ℕ → ℕ → Option ℤ → Bool
+keeps-flag f k v = not (eqb k f && is-zero v)
+
+-- nor do any from number k on
+abbrev pub all-keep : ℕ → ℕ → List (Option ℤ) → Bool
+all-keep f k [] = true
+all-keep f k (v ∷ vs) = keeps-flag f k v && all-keep f (suc k) vs
+
+-- the number of values that are still to be read, for the fields left, from value number k on: `over` says whether there were more than fields, `fit`
+-- whether all fit so far, `kept` whether none gave the flag f 0
+abbrev pub values-number : List Range → ℕ → ℕ → Bool → Bool → Bool → Option (List (Option ℤ)) → ℕ
+values-number rs f k over fit kept none = 50
+values-number rs f k over fit kept (some vs) =
     if over || ltb (length rs) (length vs) then 52
     else if not (fit && all-fit rs vs) then 53
+    else if not (kept && all-keep f k vs) then 58
     else 0
 
--- it is the number of a cell's line whose index is right
-pub values-last : (q : Limits) (is : List ℕ) (vs : List (Option ℤ)) → eqb (length is) (length (q .sizes)) ≡ true → inside (q .sizes) is ≡ true
-    → cell-number q is vs ≡ values-number (q .fields) false true (some vs)
-unfolding cell-number
-values-last q is vs e i = rw (e, i)
+-- behind the flag none gives it 0
+keep-behind : (f k : ℕ) (vs : List (Option ℤ)) → f < k → all-keep f k vs ≡ true
+keep-behind f k [] l = refl
+keep-behind f k (v ∷ vs) l = rw (ne-eqb k f (λ e. let w = e in omega arith)) (keep-behind f (suc k) vs (omega arith))
 
-choices : (a b c d e : Bool) → _≡_ {A = ℕ} (if a || c then 52 else if not (b && (d && e)) then 53 else 0) (if (a || false) || c then 52 else if not ((b && d) && e) then 53 else 0)
-choices true b c d e = refl
-choices false true c d e = refl
-choices false false true d e = refl
-choices false false false d e = refl
+cleared-from : (f k : ℕ) (vs : List (Option ℤ)) → is-zero (getD vs f none) ≡ not (all-keep (k + f) k vs)
+cleared-from f k [] = refl
+cleared-from zero k (v ∷ vs) = rw (eq-eqb k (k + 0) (sym (add-zero k)), keep-behind (k + 0) (suc k) vs (omega arith)) (twice (is-zero v))
+  where
+    twice : (b : Bool) → b ≡ not (not b && true)
+    twice true = refl
+    twice false = refl
+cleared-from (suc f) k (v ∷ vs) =
+    rw (ne-eqb k (k + suc f) (λ e. let w = e in omega arith))
+    (cleared-from f (suc k) vs ∙ ap (λ (i : ℕ). not (all-keep i (suc k) vs)) (let e : suc k + f ≡ k + suc f = omega arith in e))
+
+-- it is the number of a cell's line whose index is right
+pub values-last : (q : Limits) (f : ℕ) (is : List ℕ) (vs : List (Option ℤ)) → q .flag ≡ some f → eqb (length is) (length (q .sizes)) ≡ true → inside (q .sizes) is ≡ true
+    → cell-number q is vs ≡ values-number (q .fields) f 0 false true true (some vs)
+unfolding cell-number
+values-last q f is vs g e i =
+    let c : clears (q .flag) vs ≡ not (all-keep f 0 vs) =
+    ap (λ (o : Option ℕ). clears o vs) g ∙ cleared-from f 0 vs ∙ ap (λ (j : ℕ). not (all-keep j 0 vs)) (zero-add f) in
+    rw (e, i, c)
+
+choices : (a b c d e g h i : Bool)
+    → _≡_ {A = ℕ} (if a || c then 52 else if not (b && (d && e)) then 53 else if not (g && (h && i)) then 58 else 0)
+    (if (a || false) || c then 52 else if not ((b && d) && e) then 53 else if not ((g && h) && i) then 58 else 0)
+choices true b c d e g h i = refl
+choices false true c d e true h i = refl
+choices false true c d e false h i = refl
+choices false false true d e g h i = refl
+choices false false false d e g h i = refl
 
 -- one value more
-pub one-value : (rs : List Range) (over fit : Bool) (v : Option ℤ) (o : Option (List (Option ℤ)))
-    → values-number rs over fit (with-value v o) ≡ values-number (rest-of rs) (over || none-left rs) (fit && head-fits rs v) o
+pub one-value : (rs : List Range) (f k : ℕ) (over fit kept : Bool) (v : Option ℤ) (o : Option (List (Option ℤ)))
+    → values-number rs f k over fit kept (with-value v o)
+    ≡ values-number (rest-of rs) f (suc k) (over || none-left rs) (fit && head-fits rs v) (kept && keeps-flag f k v) o
 unfolding all-fit
-one-value rs over fit v none = refl
-one-value [] over fit v (some vs) = by over
+one-value rs f k over fit kept v none = refl
+one-value [] f k over fit kept v (some vs) = by over
   where
-    by : (a : Bool) → _≡_ {A = ℕ} (if a || ltb 0 (suc (length vs)) then 52 else if not (fit && true) then 53 else 0) (if (a || true) || ltb 0 (length vs) then 52 else if not ((fit && true) && all-fit [] vs) then 53 else 0)
+    by : (a : Bool) → _≡_ {A = ℕ} (if a || ltb 0 (suc (length vs)) then 52 else if not (fit && true) then 53 else if not (kept && all-keep f k (v ∷ vs)) then 58 else 0)
+        (if (a || true) || ltb 0 (length vs) then 52 else if not ((fit && true) && all-fit [] vs) then 53 else if not ((kept && keeps-flag f k v) && all-keep f (suc k) vs) then 58 else 0)
     by true = refl
     by false = rw (lt-ltb 0 (suc (length vs)) (omega arith))
-one-value (r ∷ rs) over fit v (some vs) =
-    ap (λ (t : Bool). if over || t then 52 else if not (fit && (value-fits r v && all-fit rs vs)) then 53 else 0) (leb·suc-suc (suc (length rs)) (length vs))
-    ∙ choices over fit (ltb (length rs) (length vs)) (value-fits r v) (all-fit rs vs)
+one-value (r ∷ rs) f k over fit kept v (some vs) =
+    ap (λ (t : Bool). if over || t then 52 else if not (fit && (value-fits r v && all-fit rs vs)) then 53 else if not (kept && all-keep f k (v ∷ vs)) then 58 else 0) (leb·suc-suc (suc (length rs)) (length vs))
+    ∙ choices over fit (ltb (length rs) (length vs)) (value-fits r v) (all-fit rs vs) kept (keeps-flag f k v) (all-keep f (suc k) vs)
 
 -- values stored one by one: one value more
 abbrev pub store-one : List ℤ → ℕ → Option ℤ → List ℤ

@@ -35,7 +35,7 @@ fn has_place(number: u32) -> bool {
 
 // Whether a reply has a line of the value list.
 fn has_line(number: u32) -> bool {
-    number >= 50 && number <= 56
+    number >= 50 && number <= 56 || number == 58
 }
 
 // Writes the spelling of a refusal of a source, if it has one.

@@ -14,32 +14,34 @@ use mir.Val.{Fits, SFits, toZ, ofZ}
 use mir.Facts.{toZ-ofZ}
 use borrow.Author.Tests.{not-true, not-false, ne-eqb, le-ltb, lt-ltb}
 use Rattle.value.specs.Laws.{never}
-use Rattle.token.specs.Scanning.{scan, scan-of}
+use Rattle.names.specs.Names.{name-words}
 use Rattle.program.specs.Syntax.{Program}
 use Rattle.grammar.specs.Complaint.{Complaint, complaint}
 use Rattle.grammar.specs.Source.{Accepted}
 use Rattle.grammar.specs.Checking as checking
-use Rattle.grammar.specs.Checking.{Outcome, turned-away, accepted, rooms-fit, read-source, check, room-left, words-after}
+use Rattle.grammar.specs.Checking.{Outcome, turned-away, accepted, rooms-fit, read-source, check}
 use Rattle.semantics.specs.declared.Rule.{Rule}
-use Rattle.semantics.specs.Stands.{Holds}
 use Rattle.semantics.specs.Written.{relatives-in}
-use Rattle.linking.specs.Linking.{Linked, linking}
-use Rattle.linking.specs.Accepted.{Parsed, holds, written, flagged}
+use Rattle.linking.specs.Accepted.{written, flagged}
 use Rattle.stepper.specs.Admission.{Request, Refusal, refusal, admission}
 use Rattle.stepper.specs.Report.{Manner, refused}
 use Rattle.stepper.specs.Locality.{Flagged}
 use Rattle.stepper.specs.Fitting.{Sized, Shaped, held-fields}
+use Rattle.one_move.specs.Profile.{profile-flag}
 use Rattle.lists.specs.ListChecking.{Turned, Verdict, verdict, limits-of, check-list}
 use Rattle.list_reader.specs.declared.checking.Verdict as judged
 use Rattle.list_reader.specs.Places.{Dimensions}
 use Rattle.list_reader.specs.Values.{fields-in}
 use Rattle.list_reader.specs.Checks.{limits, Checks as ChecksList}
-use Rattle.list_reader.proofs.CursorLaws.{limits-are, dimensions-are}
+use Rattle.list_reader.proofs.CursorLaws.{verdict-is, dimensions-are}
 use Rattle.services.specs.Running.{CountsAsked, counts-of, Asked, ask, good-counts, admitted}
 use Rattle.services.specs.RunningLaws.{turned, list-decides, counts-refused, refused-first, list-passes, run-refused}
 use Rattle.services.specs.Services.{run-begins, run-read, run-source}
 use Rattle.checker.specs.declared.checking.Outline.{Outline}
 use Rattle.checker.specs.Promises.{Trace, Outlines, accepted-by, Loads, Checks, is-accepted}
+use Rattle.profile.specs.Contracts.Standing.{rule-in, Stood}
+use Rattle.profile.specs.Contracts.Flags.{FlagOf}
+use Rattle.profile.proofs.StandingLaws.{linked-by, parsed-by, words-by, rule-by, stood-by, sized}
 use Rattle.admission.specs.declared.admitting.Admitted.{Admitted}
 use Rattle.admission.specs.Admitting.{request-of, Lists, Admits}
 use Rattle.runner.specs.declared.opening.Opening.{Opening}
@@ -48,30 +50,11 @@ use Rattle.runner.specs.Timing.{timing}
 
 -- ---- an accepted source
 
-abbrev parsed-by : {source : List ℕ} → length source ≤ 65535 → (t : Trace source) → Parsed source (accepted-by t)
-parsed-by {source} short t =
-    record {
-      s₁ = t .s₁;
-      s₂ = t .s₂;
-      s₃ = t .s₃;
-      declaration = t .declaration;
-      body = t .body;
-      constants = t .constants;
-      cell = t .cell;
-      block = t .block;
-      is = refl;
-      linked = linking source short (t .s₁) (t .s₂) (t .s₃) (t .declaration) (t .body) (t .constants) (t .cell) (t .block) (t .stop) (t .clear);
-    }
-
--- the rule of an outline
-abbrev pub rule-in : Outline → Rule
-rule-in o = record { tokens = o .tokens; base = o .base; body = o .body; dims = o .dims; fields = o .fields; slots = o .slots }
-
 -- what a run needs of a source that is accepted
-pub record Accepts (fit : Bool) (source words : List ℕ) (o : Outline) : Type 0 where
+pub record Accepts (fit : Bool) (source words names : List ℕ) (o : Outline) : Type 0 where
   pub read : Accepted
   pub is : read-source fit source ≡ accepted read
-  pub holds : Holds words (rule-in o) (read .program)
+  pub stood : Stood source words names (rule-in o) read
   pub lists : Lists words (rule-in o) (relatives-in (read .program))
   pub timed : read .program .timed ≡ o .timed
   pub flagged : Flagged (read .program)
@@ -79,54 +62,41 @@ pub record Accepts (fit : Bool) (source words : List ℕ) (o : Outline) : Type 0
   pub some-dims : 0 < o .dims
   pub some-fields : 0 < o .fields
 
-module _ {source ws ns : List ℕ} {known : Bool} {o : Outline} {ws′ : List ℕ} (x : Loads source ws ns known o) (left : ws′ ≡ words-after (rooms-fit (length ws) (length ns)) source ws) (sure : known ≡ true) where
-  accepts-by : (t : Trace source) → Outlines source t o → Accepts (rooms-fit (length ws) (length ns)) source ws′ o
-  unfolding words-after
+module _ {source ws ns : List ℕ} {known : Bool} {o : Outline} {n place : ℕ} {ws′ ns′ : List ℕ}
+    (checked : Checks (rooms-fit (length ws) (length ns)) source ws ns n place ws′ ns′) (loaded : Loads source ws ns known o) (sure : known ≡ true) where
+  accepts-by : (t : Trace source) → Outlines source t o → Accepts (rooms-fit (length ws) (length ns)) source ws′ ns′ o
   accepts-by t y =
-      rw (table)
-      (record {
+      let linked = linked-by checked loaded sure t in
+      let p = parsed-by checked loaded sure t in
+      record {
         read = accepted-by t;
-        is = x .reads sure t;
-        holds = subst (λ (r : Rule). Holds (accepted-by t .words) r (accepted-by t .program)) (sym rule) (holds source (accepted-by t) p);
-        lists = subst (λ (r : Rule). Lists (accepted-by t .words) r (relatives-in (accepted-by t .program))) (sym rule) (written source (accepted-by t) p);
+        is = loaded .reads sure t;
+        stood = stood-by checked loaded sure t y;
+        lists =
+            subst₂ (λ (words : List ℕ) (r : Rule). Lists words r (relatives-in (accepted-by t .program))) (sym (words-by checked loaded sure t)) (sym (rule-by checked loaded sure t y))
+            (written source (accepted-by t) p);
         timed = sym (y .timed);
         flagged = flagged timing source (accepted-by t) p;
-        sized = record {
-          table = omega (arith, y .tokens, linked .few-tokens, linked .size);
-          tokens = omega (arith, y .tokens, linked .few-tokens);
-          base = omega (arith, y .base, linked .fields-inside, linked .inside, linked .few-tokens);
-          body = omega (arith, y .body, y .tokens, linked .inside);
-          slots = omega (arith, y .slots, linked .few-names);
-          fields = omega (arith, y .fields, linked .few-fields);
-          dims = omega (arith, y .dims, linked .few-dims);
-        };
+        sized = sized checked loaded sure;
         some-dims = omega (arith, y .dims, linked .some-dims);
         some-fields = omega (arith, y .fields, linked .some-fields);
-      })
-    where
-      p : Parsed source (accepted-by t)
-      p = parsed-by (x .short sure) t
+      }
 
-      linked : Linked source (t .s₁) (t .s₂) (t .s₃) (t .declaration) (t .body)
-      linked = linking source (x .short sure) (t .s₁) (t .s₂) (t .s₃) (t .declaration) (t .body) (t .constants) (t .cell) (t .block) (t .stop) (t .clear)
+  pub accepts : Accepts (rooms-fit (length ws) (length ns)) source ws′ ns′ o
+  accepts = let g = loaded .given sure in accepts-by (g .0) (g .1)
 
-      table : ws′ ≡ accepted-by t .words
-      table = left ∙ ap (room-left 0 ws (λ (a : Accepted). a .words)) (x .reads sure t)
-
-      rule : rule-in o ≡ record { tokens = scan-of (scan source) .count; base = t .s₁ .at + 2; body = t .s₂ .at; dims = t .declaration .cell .dims; fields = length (t .declaration .fields); slots = t .s₃ .count }
-      rule = rw (y .tokens, y .base, y .body, y .dims, y .fields, y .slots)
-
-  pub accepts : Accepts (rooms-fit (length ws) (length ns)) source ws′ o
-  accepts = let g = x .given sure in accepts-by (g .0) (g .1)
+  -- the flag can be found
+  pub flag-ready : length ns′ ≡ length ns → (Sized (length ws′) (rule-in o)) × (length ns′ ≡ name-words)
+  flag-ready e = (sized checked loaded sure, e ∙ loaded .list sure)
 
 -- ---- a source that is not accepted
 
 module _ (fit : Bool) (source : List ℕ) (q : Asked) {n place : ℕ} (reply : complaint n place ≡ check fit source) where
-  not-read : is-accepted (read-source fit source) ≡ false → (run-begins q (read-source fit source) ≡ false) × ((manner : Manner) → run-source manner fit source q ≡ refused n place 0 (q .request .grid))
+  not-read : is-accepted (read-source fit source) ≡ false → (run-begins source q (read-source fit source) ≡ false) × ((manner : Manner) → run-source manner fit source q ≡ refused n place 0 (q .request .grid))
   unfolding run-source check
   not-read e = by (read-source fit source) reply e
     where
-      by : (r : Outcome) → complaint n place ≡ checking.reply-of r → is-accepted r ≡ false → (run-begins q r ≡ false) × ((manner : Manner) → run-read manner q r ≡ refused n place 0 (q .request .grid))
+      by : (r : Outcome) → complaint n place ≡ checking.reply-of r → is-accepted r ≡ false → (run-begins source q r ≡ false) × ((manner : Manner) → run-read manner source q r ≡ refused n place 0 (q .request .grid))
       by (turned-away k p) c d = (refl, λ manner. ap (λ (x : Complaint). refused (x .number) (x .place) 0 (q .request .grid)) (sym c))
       by (checking.refused k p) c d = (refl, λ manner. ap (λ (x : Complaint). refused (x .number) (x .place) 0 (q .request .grid)) (sym c))
       by (accepted a) c d = never (sym d)
@@ -180,33 +150,37 @@ module _ {source ws ns sizes : List ℕ} {grid : List ℤ} {scratch marks : ℕ}
       }
 
   module _ (sure : not known ≡ false) {a : Admitted} (admits : Admits ws′ (rule-in o) sizes grid scratch marks start steps a) where
-    is : Accepts (rooms-fit (length ws) (length ns)) source ws′ o
-    is = accepts loaded (checked .words) (not-false known sure)
+    is : Accepts (rooms-fit (length ws) (length ns)) source ws′ ns′ o
+    is = accepts checked loaded (not-false known sure)
+
+    -- the field of its flag, if it is in the profile
+    abbrev flag : Option ℕ
+    flag = profile-flag source (is .read)
 
     says : refusal (a .number) (a .place) ≡ admission (is .read .program) (request-of sizes grid scratch marks start steps)
-    says = admits .says (is .read .program) (is .holds) (is .lists)
+    says = admits .says (is .read .program) (is .stood .holds) (is .lists)
 
-    turned-down : {values : List ℕ} {counts : Option CountsAsked} {number where-at line : ℕ} → admitted (is .read .program) (ask (request-of sizes grid scratch marks start steps) values counts) ≡ turned number where-at line → (number ≡ 0 → ⊥) → {r : Opening} → Closed r number where-at line
+    turned-down : {values : List ℕ} {counts : Option CountsAsked} {number where-at line : ℕ} → admitted (is .read .program) flag (ask (request-of sizes grid scratch marks start steps) values counts) ≡ turned number where-at line → (number ≡ 0 → ⊥) → {r : Opening} → Closed r number where-at line
         → Opens (rooms-fit (length ws) (length ns)) source ws ns (ask (request-of sizes grid scratch marks start steps) values counts) r ws′ ns′
     unfolding run-source
     turned-down {values} {counts} {number} {where-at} {line} t z {r} e =
         record {
           words = checked .words;
           names = checked .names;
-          closed = λ _. ap (run-begins (ask (request-of sizes grid scratch marks start steps) values counts)) (is .is) ∙ ne-eqb _ 0 refused-by;
+          closed = λ _. ap (run-begins source (ask (request-of sizes grid scratch marks start steps) values counts)) (is .is) ∙ ne-eqb _ 0 refused-by;
           refuses = λ _ manner.
-              ap (run-read manner (ask (request-of sizes grid scratch marks start steps) values counts)) (is .is) ∙ run-refused (is .read .program) (ask (request-of sizes grid scratch marks start steps) values counts) manner refused-by ∙ ap (λ (x : Turned). refused (x .number) (x .place) (x .line) grid) t
+              ap (run-read manner source (ask (request-of sizes grid scratch marks start steps) values counts)) (is .is) ∙ run-refused (is .read .program) flag (ask (request-of sizes grid scratch marks start steps) values counts) manner refused-by ∙ ap (λ (x : Turned). refused (x .number) (x .place) (x .line) grid) t
               ∙ (λ i. refused (sym (e .1) i) (sym (e .2) i) (sym (e .3) i) grid);
           opened = λ y. never (sym (e .0) ∙ y);
         }
       where
-        refused-by : admitted (is .read .program) (ask (request-of sizes grid scratch marks start steps) values counts) .number ≡ 0 → ⊥
+        refused-by : admitted (is .read .program) flag (ask (request-of sizes grid scratch marks start steps) values counts) .number ≡ 0 → ⊥
         refused-by k = z (ap (λ (x : Turned). x .number) (sym t) ∙ k)
 
     pub not-admitted : (a .number ≡ 0 → ⊥) → {values : List ℕ} {counts : Option CountsAsked} {r : Opening} → Closed r (a .number) (a .place) 0 → Opens (rooms-fit (length ws) (length ns)) source ws ns (ask (request-of sizes grid scratch marks start steps) values counts) r ws′ ns′
     not-admitted z {values} {counts} {r} e =
         turned-down
-        (refused-first (is .read .program) (ask (request-of sizes grid scratch marks start steps) values counts) (λ k. z (ap (λ (x : Refusal). x .number) says ∙ k)) ∙ ap (λ (x : Refusal). turned (x .number) (x .place) 0) (sym says)) z e
+        (refused-first (is .read .program) flag (ask (request-of sizes grid scratch marks start steps) values counts) (λ k. z (ap (λ (x : Refusal). x .number) says ∙ k)) ∙ ap (λ (x : Refusal). turned (x .number) (x .place) 0) (sym says)) z e
 
     module _ (z : a .number ≡ 0) where
       admission-is : admission (is .read .program) (request-of sizes grid scratch marks start steps) .number ≡ 0
@@ -214,7 +188,7 @@ module _ {source ws ns sizes : List ℕ} {grid : List ℤ} {scratch marks : ℕ}
 
       -- the list can be checked
       pub dimensions-of : Dimensions sizes
-      dimensions-of = dimensions-are (is .read .program) (request-of sizes grid scratch marks start steps) (omega (arith, is .holds .dims, is .sized .dims)) admission-is
+      dimensions-of = dimensions-are (is .read .program) (request-of sizes grid scratch marks start steps) (omega (arith, is .stood .holds .dims, is .sized .dims)) admission-is
 
       -- there is a first dimension
       pub some-sizes : 0 < length sizes
@@ -225,22 +199,23 @@ module _ {source ws ns sizes : List ℕ} {grid : List ℤ} {scratch marks : ℕ}
 
       -- they are told by the numbers of the rule
       fits-are : (counted : Bool) (field rows : ℕ) → good-counts (is .read .program) sizes (counts-of counted field rows) ≡ counts-right counted field rows (o .fields) sizes
-      fits-are true field rows = ap (λ (n : ℕ). ltb field n && eqb rows (getD sizes 0 0)) (held-fields (is .read .program) (is .holds))
+      fits-are true field rows = ap (λ (n : ℕ). ltb field n && eqb rows (getD sizes 0 0)) (held-fields (is .read .program) (is .stood .holds))
       fits-are false field rows = refl
 
       -- the counts are not right
       pub not-counted : (counted : Bool) (field rows : ℕ) → counts-right counted field rows (o .fields) sizes ≡ false → {values : List ℕ} {r : Opening} → Closed r 61 0 0
           → Opens (rooms-fit (length ws) (length ns)) source ws ns (ask (request-of sizes grid scratch marks start steps) values (counts-of counted field rows)) r ws′ ns′
       not-counted counted field rows c {values} e =
-          turned-down (counts-refused (is .read .program) (ask (request-of sizes grid scratch marks start steps) values (counts-of counted field rows)) admission-is (fits-are counted field rows ∙ c)) (λ k. omega (arith, k)) e
+          turned-down (counts-refused (is .read .program) flag (ask (request-of sizes grid scratch marks start steps) values (counts-of counted field rows)) admission-is (fits-are counted field rows ∙ c)) (λ k. omega (arith, k)) e
 
-      module _ (counted : Bool) (field rows : ℕ) (right : counts-right counted field rows (o .fields) sizes ≡ true) {values : List ℕ} {v : judged.Verdict} {first last : ℕ} (first-is : natAbs start ≡ first) (last-is : natAbs start + natAbs steps ≡ last)
-          (judges : ChecksList (limits sizes (fields-in ws′ (rule-in o)) first last) values v) where
-        list-says : admitted (is .read .program) (ask (request-of sizes grid scratch marks start steps) values (counts-of counted field rows)) ≡ turned (v .number) 0 (v .line)
+      module _ (counted : Bool) (field rows : ℕ) (right : counts-right counted field rows (o .fields) sizes ≡ true) {values : List ℕ} {v : judged.Verdict} {told first last : ℕ} (found : FlagOf source ws′ ns′ (rule-in o) told) (first-is : natAbs start ≡ first)
+          (last-is : natAbs start + natAbs steps ≡ last) (judges : ChecksList (limits sizes (fields-in ws′ (rule-in o)) told first last) values v) where
+        list-says : admitted (is .read .program) flag (ask (request-of sizes grid scratch marks start steps) values (counts-of counted field rows)) ≡ turned (v .number) 0 (v .line)
         list-says =
-            list-decides (is .read .program) (ask (request-of sizes grid scratch marks start steps) values (counts-of counted field rows)) admission-is (fits-are counted field rows ∙ right)
+            list-decides (is .read .program) flag (ask (request-of sizes grid scratch marks start steps) values (counts-of counted field rows)) admission-is (fits-are counted field rows ∙ right)
             ∙ ap (λ (x : Verdict). turned (x .number) 0 (x .line))
-            (ap (λ (q : _). check-list q values) (sym (limits-are ws′ (rule-in o) (is .read .program) (request-of sizes grid scratch marks start steps) (is .holds) first-is last-is)) ∙ sym (judges .is))
+            (sym (verdict-is ws′ (rule-in o) (is .read .program) flag (request-of sizes grid scratch marks start steps) values (is .stood .holds) (found .is (is .read) (is .stood)) first-is last-is)
+            ∙ sym (judges .is))
 
         pub not-listed : (v .number ≡ 0 → ⊥) → {r : Opening} → Closed r (v .number) 0 (v .line) → Opens (rooms-fit (length ws) (length ns)) source ws ns (ask (request-of sizes grid scratch marks start steps) values (counts-of counted field rows)) r ws′ ns′
         not-listed d e = turned-down list-says d e
@@ -248,7 +223,7 @@ module _ {source ws ns sizes : List ℕ} {grid : List ℤ} {scratch marks : ℕ}
         pub begun : v .number ≡ 0 → {t : Bool} → t ≡ o .timed
             → Opens (rooms-fit (length ws) (length ns)) source ws ns (ask (request-of sizes grid scratch marks start steps) values (counts-of counted field rows)) (record { begun = true; number = 0; place = 0; line = 0; rule = rule-in o; reach = a .reach; timed = t }) ws′ ns′
         begun l {t} e =
-            let passed : admitted (is .read .program) (ask (request-of sizes grid scratch marks start steps) values (counts-of counted field rows)) .number ≡ 0 = ap (λ (x : Turned). x .number) list-says ∙ l in
+            let passed : admitted (is .read .program) flag (ask (request-of sizes grid scratch marks start steps) values (counts-of counted field rows)) .number ≡ 0 = ap (λ (x : Turned). x .number) list-says ∙ l in
             record {
               words = checked .words;
               names = checked .names;
@@ -259,7 +234,7 @@ module _ {source ws ns sizes : List ℕ} {grid : List ℤ} {scratch marks : ℕ}
                     read = is .read;
                     is = is .is;
                     admits = passed;
-                    runs = record { holds = is .holds; reaches = admits .reaches z (is .read .program) (is .holds) (is .lists); lists = admits .lists z (is .read .program) (is .holds) (is .lists); timed = is .timed ∙ sym e; flagged = is .flagged };
+                    runs = record { holds = is .stood .holds; reaches = admits .reaches z (is .read .program) (is .stood .holds) (is .lists); lists = admits .lists z (is .read .program) (is .stood .holds) (is .lists); timed = is .timed ∙ sym e; flagged = is .flagged };
                     rule-fits = is .sized;
                     some-dims = is .some-dims;
                     shaped = admits .shaped z;
@@ -271,10 +246,10 @@ module _ {source ws ns sizes : List ℕ} {grid : List ℤ} {scratch marks : ℕ}
                     times = admits .times z;
                     dimensions = dimensions-of;
                     listed = record {
-                      limits = limits-of (is .read .program) (request-of sizes grid scratch marks start steps);
+                      limits = limits-of (is .read .program) flag (request-of sizes grid scratch marks start steps);
                       sizes-are = refl;
                       first-is = refl;
-                      passes = list-passes (is .read .program) (ask (request-of sizes grid scratch marks start steps) values (counts-of counted field rows)) passed;
+                      passes = list-passes (is .read .program) flag (ask (request-of sizes grid scratch marks start steps) values (counts-of counted field rows)) passed;
                     };
                   };
             }

@@ -36,6 +36,7 @@ use Rattle.stepper.specs.Report as report
 use Rattle.stepper.specs.Report.{Manner, full, quiet, ended}
 use Rattle.stepper.specs.Fitting.{held-fields}
 use Rattle.lists.specs.Setting.{set-block}
+use Rattle.one_move.specs.Profile.{profile-flag}
 use Rattle.services.specs.Running.{counts-of, Asked, good-counts, admitted, blocks, report-of, standing}
 use Rattle.services.specs.RunningLaws.{run-admitted, counts-admitted as counts-admits}
 use Rattle.services.specs.Services.{run-begins, run-read, run-source, room-after, marks-admitted, marks-read, marks-after, counts-admitted, counts-read, counts-after}
@@ -156,7 +157,7 @@ module _ {fit : Bool} {source : List ℕ} {q : Asked} {words : List ℕ} {rule :
 
     source-report : (way : Way) → RanBy (every-step way timed) (pending-in (is-resumed way) marks) said grid′ marks′ → told said grid′ ≡ run-source (manner-of way marks) fit source q
     unfolding run-source
-    source-report way ran = report-is way ran ∙ sym (run-admitted (b .read .program) q (manner-of way marks) (b .admits)) ∙ ap (run-read (manner-of way marks) q) (sym (b .is))
+    source-report way ran = report-is way ran ∙ sym (run-admitted (b .read .program) (profile-flag source (b .read)) q (manner-of way marks) (b .admits)) ∙ ap (run-read (manner-of way marks) source q) (sym (b .is))
 
   -- the row counts
 
@@ -169,7 +170,7 @@ module _ {fit : Bool} {source : List ℕ} {q : Asked} {words : List ℕ} {rule :
           and-both (ltb field (rule .fields)) (eqb rows (getD (q .request .sizes) 0 0))
           (sym (ap (λ (n : ℕ). ltb field n && eqb rows (getD (q .request .sizes) 0 0)) (held-fields (b .read .program) (b .runs .holds)))
           ∙ sym (ap (λ (t : Bool). good-counts (b .read .program) (q .request .sizes) (counts-of t field rows)) c) ∙ sym (ap (good-counts (b .read .program) (q .request .sizes)) e)
-          ∙ counts-admits (b .read .program) q (b .admits))
+          ∙ counts-admits (b .read .program) (profile-flag source (b .read)) q (b .admits))
 
   module _ {grid′ : List ℤ} {counts counts′ : List ℕ} {counted : Bool} {field : ℕ} where
     filled-by : (way : Way) → Tallied words rule (q .request .sizes) r (every-step way timed) counted field grid′ counts counts′ → Filled counted (q .request .sizes) (rule .fields) field grid′ counts counts′
@@ -193,31 +194,31 @@ module _ {fit : Bool} {source : List ℕ} {q : Asked} {words : List ℕ} {rule :
   counts-began : (manner : Manner) (old : List ℕ) → counts-admitted manner (b .read .program) q old (q .counts) ≡ counts-after manner fit source q old
   unfolding counts-after
   counts-began manner old =
-      sym (ap (counts-read manner q old) (b .is) ∙ ap (λ (t : Bool). if t then counts-admitted manner (b .read .program) q old (q .counts) else old) (eq-eqb _ 0 (b .admits)))
+      sym (ap (counts-read manner source q old) (b .is) ∙ ap (λ (t : Bool). if t then counts-admitted manner (b .read .program) q old (q .counts) else old) (eq-eqb _ 0 (b .admits)))
 
-  began : run-begins q (read-source fit source) ≡ true
-  began = ap (run-begins q) (b .is) ∙ eq-eqb _ 0 (b .admits)
+  began : run-begins source q (read-source fit source) ≡ true
+  began = ap (run-begins source q) (b .is) ∙ eq-eqb _ 0 (b .admits)
 
   marks-began : (manner : Manner) (old : List ℕ) → marks-admitted manner (b .read .program) q old ≡ marks-after manner fit source q old
   unfolding marks-after
   marks-began manner old =
-      sym (ap (marks-read manner q old) (b .is) ∙ ap (λ (t : Bool). if t then marks-admitted manner (b .read .program) q old else old) (eq-eqb _ 0 (b .admits)))
+      sym (ap (marks-read manner source q old) (b .is) ∙ ap (λ (t : Bool). if t then marks-admitted manner (b .read .program) q old else old) (eq-eqb _ 0 (b .admits)))
 
 -- marks after a run that did not begin
-marks-kept : (manner : Manner) (fit : Bool) (source : List ℕ) (q : Asked) (old : List ℕ) → run-begins q (read-source fit source) ≡ false → old ≡ marks-after manner fit source q old
+marks-kept : (manner : Manner) (fit : Bool) (source : List ℕ) (q : Asked) (old : List ℕ) → run-begins source q (read-source fit source) ≡ false → old ≡ marks-after manner fit source q old
 unfolding marks-after
 marks-kept manner fit source q old e = by (read-source fit source) e
   where
-    by : (o : Outcome) → run-begins q o ≡ false → old ≡ marks-read manner q old o
+    by : (o : Outcome) → run-begins source q o ≡ false → old ≡ marks-read manner source q old o
     by (turned-away n p) f = refl
     by (checking.refused n p) f = refl
     by (accepted a) f = sym (ap (λ (t : Bool). if t then marks-admitted manner (a .program) q old else old) f)
 
-counts-kept : (manner : Manner) (fit : Bool) (source : List ℕ) (q : Asked) (old : List ℕ) → run-begins q (read-source fit source) ≡ false → old ≡ counts-after manner fit source q old
+counts-kept : (manner : Manner) (fit : Bool) (source : List ℕ) (q : Asked) (old : List ℕ) → run-begins source q (read-source fit source) ≡ false → old ≡ counts-after manner fit source q old
 unfolding counts-after
 counts-kept manner fit source q old e = by (read-source fit source) e
   where
-    by : (o : Outcome) → run-begins q o ≡ false → old ≡ counts-read manner q old o
+    by : (o : Outcome) → run-begins source q o ≡ false → old ≡ counts-read manner source q old o
     by (turned-away n p) f = refl
     by (checking.refused n p) f = refl
     by (accepted a) f = sym (ap (λ (t : Bool). if t then counts-admitted manner (a .program) q old (q .counts) else old) f)
@@ -231,17 +232,17 @@ counts-unasked manner fit source q old e = by (read-source fit source)
     either true p = ap (counts-admitted manner p q old) e
     either false p = refl
 
-    by : (o : Outcome) → counts-read manner q old o ≡ old
+    by : (o : Outcome) → counts-read manner source q old o ≡ old
     by (turned-away n p) = refl
     by (checking.refused n p) = refl
-    by (accepted a) = either (eqb (admitted (a .program) q .number) 0) (a .program)
+    by (accepted a) = either (eqb (admitted (a .program) (profile-flag source a) q .number) 0) (a .program)
 
 -- scratch after a run that began, and after one that did not
-room-cleared : {A : Type 0} (zero : A) (fit : Bool) (source : List ℕ) (q : Asked) (old : List A) → run-begins q (read-source fit source) ≡ true → replicate (length old) zero ≡ room-after zero fit source q old
+room-cleared : {A : Type 0} (zero : A) (fit : Bool) (source : List ℕ) (q : Asked) (old : List A) → run-begins source q (read-source fit source) ≡ true → replicate (length old) zero ≡ room-after zero fit source q old
 unfolding room-after
 room-cleared zero fit source q old e = rw e
 
-room-kept : {A : Type 0} (zero : A) (fit : Bool) (source : List ℕ) (q : Asked) (old : List A) → run-begins q (read-source fit source) ≡ false → old ≡ room-after zero fit source q old
+room-kept : {A : Type 0} (zero : A) (fit : Bool) (source : List ℕ) (q : Asked) (old : List A) → run-begins source q (read-source fit source) ≡ false → old ≡ room-after zero fit source q old
 unfolding room-after
 room-kept zero fit source q old e = rw e
 
@@ -345,9 +346,9 @@ read-times {N} {form} {manner} {source} {list} {sizes} {values} {m} {m′} {star
 
 -- the grid that a run leaves has each field in its range
 pub run-ranges : {N : Type 0} (form : NameForm N) (manner : Manner) (l : Lent N) {said : Report} {m : Memory N} → RunLeaves form manner l said m
-    → RangesKept (read-lent form l) (asked l) (m .grid)
+    → RangesKept (l .source) (read-lent form l) (asked l) (m .grid)
 run-ranges form manner l h =
-    subst (RangesKept (read-lent form l) (asked l)) (sym (ap (λ (r : report.Report). r .grid) (left-report h))) (grid-in-ranges manner (fits form l) (l .source) (asked l))
+    subst (RangesKept (l .source) (read-lent form l) (asked l)) (sym (ap (λ (r : report.Report). r .grid) (left-report h))) (grid-in-ranges manner (fits form l) (l .source) (asked l))
 
 -- what a run gives that does not begin from lent marks agrees with the full run of the definition
 pub fresh-agrees : {N : Type 0} (form : NameForm N) (way : Way) (l : Lent N) → AgreesFresh way (run-report form (manner-of way (l .memory .marks)) l) (run-report form full l)

@@ -3,6 +3,7 @@
 use mathlib.Core.Path.{_≡_, refl, sym, ap, _∙_, subst}
 use mathlib.Core.Bool.{Bool, true, false}
 use mathlib.Core.List.{List}
+use mathlib.Core.Option.{Option}
 use Prim.Native.Nat.{ℕ, _≤_}
 use native.Mathlib.Nat.{le-refl}
 use native.Mathlib.Omega.{arith}
@@ -24,6 +25,7 @@ use Rattle.linking.specs.Accepted.{parsed, flagged}
 use Rattle.stepper.specs.Reach.{running}
 use Rattle.stepper.specs.Report.{full, quiet, pausing, Report, ended}
 use Rattle.stepper.specs.Covering as covering
+use Rattle.one_move.specs.Profile.{profile-flag}
 use Rattle.services.specs.Running.{Asked, admitted, blocks, report-of, run}
 use Rattle.services.specs.Services.{run-read, run-source}
 use Rattle.iteration.specs.declared.Manner.{Manner as Way}
@@ -70,18 +72,18 @@ reports-agree p q =
     let r = run-of (running p (q .request .sizes)) (blocks p q) (natAbs (q .request .steps)) (natAbs (q .request .start)) (q .request .grid) in
     ended-agree (r .fault) (r .steps) (r .grid) (open-le-full (running p (q .request .sizes)) (blocks p q) (natAbs (q .request .steps)) every-cell (natAbs (q .request .start)) (q .request .grid))
 
-runs-agree : (p : Program) (q : Asked) → Agree (run quiet p q) (run full p q)
+runs-agree : (p : Program) (flag : Option ℕ) (q : Asked) → Agree (run quiet p flag q) (run full p flag q)
 unfolding run
-runs-agree p q = by (eqb (admitted p q .number) 0) refl
+runs-agree p flag q = by (eqb (admitted p flag q .number) 0) refl
   where
-    by : (b : Bool) → eqb (admitted p q .number) 0 ≡ b → Agree (run quiet p q) (run full p q)
+    by : (b : Bool) → eqb (admitted p flag q .number) 0 ≡ b → Agree (run quiet p flag q) (run full p flag q)
     by true e = rw (e, run) (reports-agree p q)
     by false e = rw (e, run) (same _)
 
-outcomes-agree : (q : Asked) (o : Outcome) → Agree (run-read quiet q o) (run-read full q o)
-outcomes-agree q (turned-away number place) = same _
-outcomes-agree q (checking.refused number place) = same _
-outcomes-agree q (accepted a) = runs-agree (a .program) q
+outcomes-agree : (source : List ℕ) (q : Asked) (o : Outcome) → Agree (run-read quiet source q o) (run-read full source q o)
+outcomes-agree source q (turned-away number place) = same _
+outcomes-agree source q (checking.refused number place) = same _
+outcomes-agree source q (accepted a) = runs-agree (a .program) (profile-flag source a) q
 
 -- ---- a run that leaves its marks standing
 
@@ -89,18 +91,18 @@ reports-paused : (p : Program) (q : Asked) → report-of pausing p q ≡ report-
 unfolding report-of
 reports-paused p q = refl
 
-runs-paused : (p : Program) (q : Asked) → run pausing p q ≡ run quiet p q
+runs-paused : (p : Program) (flag : Option ℕ) (q : Asked) → run pausing p flag q ≡ run quiet p flag q
 unfolding run
-runs-paused p q = by (eqb (admitted p q .number) 0) refl
+runs-paused p flag q = by (eqb (admitted p flag q .number) 0) refl
   where
-    by : (b : Bool) → eqb (admitted p q .number) 0 ≡ b → run pausing p q ≡ run quiet p q
+    by : (b : Bool) → eqb (admitted p flag q .number) 0 ≡ b → run pausing p flag q ≡ run quiet p flag q
     by true e = rw (e, run) (reports-paused p q)
     by false e = rw (e, run)
 
-outcomes-paused : (q : Asked) (o : Outcome) → run-read pausing q o ≡ run-read quiet q o
-outcomes-paused q (turned-away number place) = refl
-outcomes-paused q (checking.refused number place) = refl
-outcomes-paused q (accepted a) = runs-paused (a .program) q
+outcomes-paused : (source : List ℕ) (q : Asked) (o : Outcome) → run-read pausing source q o ≡ run-read quiet source q o
+outcomes-paused source q (turned-away number place) = refl
+outcomes-paused source q (checking.refused number place) = refl
+outcomes-paused source q (accepted a) = runs-paused (a .program) (profile-flag source a) q
 
 -- ---- where `time` stands in the source
 
@@ -115,11 +117,11 @@ reports-count p q e =
     ended-count (r .fault) (r .steps) _ (r .grid) ∙ open-is-full (running p (q .request .sizes)) e (blocks p q) (natAbs (q .request .steps)) every-cell (natAbs (q .request .start)) (q .request .grid)
     ∙ sym (ended-count (r .fault) (r .steps) _ (r .grid))
 
-runs-count : (p : Program) (q : Asked) → p .timed ≡ true → run quiet p q .count ≡ run full p q .count
+runs-count : (p : Program) (flag : Option ℕ) (q : Asked) → p .timed ≡ true → run quiet p flag q .count ≡ run full p flag q .count
 unfolding run
-runs-count p q e = by (eqb (admitted p q .number) 0) refl
+runs-count p flag q e = by (eqb (admitted p flag q .number) 0) refl
   where
-    by : (b : Bool) → eqb (admitted p q .number) 0 ≡ b → run quiet p q .count ≡ run full p q .count
+    by : (b : Bool) → eqb (admitted p flag q .number) 0 ≡ b → run quiet p flag q .count ≡ run full p flag q .count
     by true h = rw (h, run) (reports-count p q e)
     by false h = rw (h, run)
 
@@ -149,9 +151,9 @@ pub property-3 : (fit : Bool) (source : List ℕ) (q : Asked) → Property3 fit 
 unfolding run-source
 property-3 fit source q =
     record {
-      agree = outcomes-agree q (read-source fit source);
-      paused = outcomes-paused q (read-source fit source);
-      timed = λ a e t. rw e (runs-count (a .program) q t);
+      agree = outcomes-agree source q (read-source fit source);
+      paused = outcomes-paused source q (read-source fit source);
+      timed = λ a e t. rw e (runs-count (a .program) (profile-flag source a) q t);
       skips = λ a e dims block n t.
           let r = read-of fit source a e in
           covering.property-3 (a .program) (q .request .sizes) dims (flagged timing source a (parsed source (r .0) a (r .1))) block n t (q .request .grid);

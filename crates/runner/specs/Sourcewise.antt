@@ -10,6 +10,7 @@ use Rattle.automaton.specs.Shape.{product}
 use Rattle.token.specs.Lexeme.{is-built-in}
 use Rattle.grammar.specs.Source.{Accepted}
 use Rattle.grammar.specs.Checking.{read-source, accepted, words-after, names-after}
+use Rattle.one_move.specs.Profile.{profile-flag}
 use Rattle.semantics.specs.declared.Rule.{Rule}
 use Rattle.stepper.specs.declared.Reach.{Reach}
 use Rattle.stepper.specs.Report.{Manner, full, quiet, pausing, resuming, refused}
@@ -63,7 +64,7 @@ counts-right false field rows fields sizes = true
 pub record Begun (fit : Bool) (source : List ℕ) (q : Asked) (words : List ℕ) (rule : Rule) (r : Reach) (timed : Bool) : Type 0 where
   pub read : Accepted
   pub is : read-source fit source ≡ accepted read
-  pub admits : admitted (read .program) q .number ≡ 0
+  pub admits : admitted (read .program) (profile-flag source read) q .number ≡ 0
   pub runs : Runs words rule r timed (read .program)
   pub rule-fits : Sized (length words) rule
   pub some-dims : 0 < rule .dims
@@ -81,7 +82,7 @@ pub record Begun (fit : Bool) (source : List ℕ) (q : Asked) (words : List ℕ)
 pub record Opens (fit : Bool) (source ws ns : List ℕ) (q : Asked) (r : Opening) (ws′ ns′ : List ℕ) : Type 0 where
   pub words : ws′ ≡ words-after fit source ws
   pub names : ns′ ≡ names-after fit source ns
-  pub closed : r .begun ≡ false → run-begins q (read-source fit source) ≡ false
+  pub closed : r .begun ≡ false → run-begins source q (read-source fit source) ≡ false
   pub refuses : r .begun ≡ false → (manner : Manner) → run-source manner fit source q ≡ refused (r .number) (r .place) (r .line) (q .request .grid)
   pub opened : r .begun ≡ true → Begun fit source q ws′ (r .rule) (r .reach) (r .timed)
 

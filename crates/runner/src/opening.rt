@@ -10,6 +10,7 @@ ghost use Rattle.runner.specs.Sourcewise.{counts-right, Opens};
 use admission::admit;
 use checker::load;
 use list_reader::checking::check_list;
+use profile::flag_of;
 use semantics::Rule;
 use stepper::Reach;
 use stepper::own_only;
@@ -100,9 +101,10 @@ pub fn open_run(
     if !counts_fit(counted, field, rows, rule.fields, sizes) {
         return closed(61, 0, 0);
     }
+    let flag = flag_of(source, words, names, rule);
     let first = start as u32;
     let last = first + steps as u32;
-    let verdict = check_list(values, words, rule, sizes, first, last);
+    let verdict = check_list(values, words, rule, flag, sizes, first, last);
     if verdict.number != 0 {
         return closed(verdict.number, 0, verdict.line);
     }

@@ -27,9 +27,11 @@ use Rattle.semantics.specs.Operators
 use Rattle.semantics.specs.Evaluation
 use Rattle.semantics.specs.Written
 use Rattle.semantics.specs.Places
+use Rattle.semantics.specs.Stands
 use Rattle.stepper.specs.Reach
 use Rattle.stepper.specs.Admission
 use Rattle.stepper.specs.Report
+use Rattle.one_move.specs.Profile
 use Rattle.lists.specs.Text
 use Rattle.lists.specs.Lines
 use Rattle.lists.specs.ListChecking
@@ -134,12 +136,16 @@ unfolding same-report Listed.list-of Step.first-fault Step.how-many Step.any-of 
     Evaluation.exec Evaluation.evaluate Written.relatives-in-expr Written.relatives-in-condition Written.relatives-in-clauses
     Written.relatives-in-block Written.relatives-in Written.written-in-index Written.written-of Written.written-in
     Places.vectors-of Places.has-place Places.add-place Places.add-places Places.add-relative Places.add-relatives
-    Places.places Reach.widened Reach.box Reach.reach Reach.running Admission.all-between Admission.good-sizes
-    Admission.good-rooms Admission.good-times Admission.too-far Admission.out-of-field Admission.admission Text.lines
-    Text.pieces Lines.indices Lines.values Lines.assigned Lines.said-by Lines.say Lines.said ListChecking.inside
-    ListChecking.all-fit ListChecking.cell-number ListChecking.time-number ListChecking.check-lines ListChecking.check-list
-    ListChecking.admission-with Setting.store-values Setting.set-lines Setting.set-block Running.admitted Running.report-of
-    Running.standing Running.run Services.run-source Services.room-after Services.marks-after Services.counts-after
+    Places.places Stands.word-in Stands.linked Stands.is-sign Stands.index-in Stands.next-index Stands.indices-in
+    Stands.values-in Stands.is-unary Stands.decode-expression Stands.target-in Stands.first-clause Stands.begins
+    Stands.assigns Stands.Stands Reach.widened Reach.box Reach.reach Reach.running Admission.all-between Admission.good-sizes
+    Admission.good-rooms Admission.good-times Admission.too-far Admission.out-of-field Admission.admission Profile.flag-field
+    Profile.kinds-at Profile.opens-at Profile.closes-at Profile.past-constants Profile.last-statement Profile.moves-once
+    Profile.read-head Profile.profile-flag Profile.one-move Text.lines Text.pieces Lines.indices Lines.values Lines.assigned
+    Lines.said-by Lines.say Lines.said ListChecking.inside ListChecking.all-fit ListChecking.cell-number
+    ListChecking.time-number ListChecking.check-lines ListChecking.check-list ListChecking.admission-with
+    Setting.store-values Setting.set-lines Setting.set-block Running.admitted Running.report-of Running.standing Running.run
+    Services.run-source Services.room-after Services.marks-after Services.counts-after
 holds (checks l n place) =
     let c = check (fit l) (l .source) in
     eqb (c .number) n && eqb (c .place) place

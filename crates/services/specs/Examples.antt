@@ -1,11 +1,11 @@
--- The marked examples M1 to M13 of document 01, as one list with one claim.
+-- The marked examples M1 to M13 of document 01, and examples of the requests: each one list with one claim.
 use mathlib.Core.Path.{_≡_, refl}
 use mathlib.Core.List.{List, [], _∷_, _++_}
 use Prim.Native.Nat.{ℕ}
 use Prim.Native.String.{String}
 use lib.IntN.{ℤ, pos, negsuc}
 use Rattle.token.specs.Bytes.{as-bytes}
-use Rattle.stepper.specs.Report.{Manner, quiet, pausing, resuming, refused}
+use Rattle.stepper.specs.Report.{Manner, Report, quiet, pausing, resuming, refused}
 use Rattle.services.specs.Cases.{Lent, Case, checks, runs, leaves, counts, text, ask, ask-with, report, failing, holds}
 
 -- a source of one dimension with an unnamed field of a range
@@ -122,6 +122,35 @@ list-examples =
 pub lists-hold : failing 1 list-examples ≡ []
 unfolding list-examples failing holds
 lists-hold = refl
+
+-- ---- rules that move a pixel once (request 6/13)
+
+-- a rule that copies the pixel before it, in the profile; with `rest` behind its statement
+abbrev pub moving : String → Lent
+moving rest = text (as-bytes "1 dimensions of c of 0..9 moved of 0..1 end if cell.moved = 0 then cell.c := [-1].c cell.moved := 1 end" ++ as-bytes rest)
+
+-- its run on three pixels, the second one moved before, 2 steps from time 0
+abbrev pub moves : String → String → Report → ℕ → Case
+moves rest values r count =
+    runs (moving rest) (ask-with (as-bytes values) (3 ∷ []) (pos 1 ∷ pos 0 ∷ pos 2 ∷ pos 1 ∷ pos 3 ∷ pos 0 ∷ []) (pos 0) (pos 2)) r count
+
+unfoldable pub move-examples : List Case
+move-examples =
+    -- each pixel moves once, and the second step changes nothing
+    moves "" "" (report 0 0 0 2 6 (pos 3 ∷ pos 1 ∷ pos 2 ∷ pos 1 ∷ pos 2 ∷ pos 1 ∷ [])) 6
+    -- a block may set the flag, and other fields
+    ∷ moves "" "0\n[2] = 9, 1\n" (report 0 0 0 2 6 (pos 9 ∷ pos 1 ∷ pos 2 ∷ pos 1 ∷ pos 9 ∷ pos 1 ∷ [])) 5
+    -- but not clear it, however 0 is spelled
+    ∷ moves "" "1\n[1] = 4\n[1] = , -00\n" (refused 58 0 3 (pos 1 ∷ pos 0 ∷ pos 2 ∷ pos 1 ∷ pos 3 ∷ pos 0 ∷ [])) 0
+    -- 58 is last on its line
+    ∷ moves "" "1\n[1] = 10, 0\n" (refused 53 0 2 (pos 1 ∷ pos 0 ∷ pos 2 ∷ pos 1 ∷ pos 3 ∷ pos 0 ∷ [])) 0
+    -- outside the profile the same list passes
+    ∷ moves " x := 0" "1\n[1] = , 0\n" (report 0 0 0 2 6 (pos 3 ∷ pos 1 ∷ pos 3 ∷ pos 1 ∷ pos 2 ∷ pos 1 ∷ [])) 6
+    ∷ []
+
+pub moves-hold : failing 1 move-examples ≡ []
+unfolding move-examples failing holds
+moves-hold = refl
 
 -- ---- runs that are paused and resumed (request 12/13)
 

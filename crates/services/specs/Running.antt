@@ -38,12 +38,12 @@ abbrev pub good-counts : Program → List ℕ → Option CountsAsked → Bool
 good-counts p sizes none = true
 good-counts p sizes (some c) = ltb (c .field) (length (p .fields)) && eqb (c .rows) (getD sizes 0 0)
 
--- 20 to 24, then 61, and then the list; number 0: the run is admitted
-unfoldable pub admitted : Program → Asked → Turned
-admitted p q =
+-- 20 to 24, then 61, and then the list, of a program whose flag is the given field, if it has one; number 0: the run is admitted
+unfoldable pub admitted : Program → Option ℕ → Asked → Turned
+admitted p flag q =
     elim (eqb (admission p (q .request) .number) 0 && not (good-counts p (q .request .sizes) (q .counts))) [
       | true ↦ record { number = 61; place = 0; line = 0 }
-      | false ↦ admission-with p (q .request) (q .values)
+      | false ↦ admission-with p flag (q .request) (q .values)
     ]
 
 -- what is set into the grid at each time: the block that the list has for it
@@ -66,9 +66,9 @@ standing manner p q =
     (q .request .grid) .marks
 
 -- a run of a program: refused with 20 to 24 or for its list, or its report
-unfoldable pub run : Manner → Program → Asked → Report
-run manner p q =
-    let a = admitted p q in
+unfoldable pub run : Manner → Program → Option ℕ → Asked → Report
+run manner p flag q =
+    let a = admitted p flag q in
     elim (eqb (a .number) 0) [
       | true ↦ report-of manner p q
       | false ↦ refused (a .number) (a .place) (a .line) (q .request .grid)

@@ -23,6 +23,7 @@ use Rattle.stepper.specs.Reach.{running}
 use Rattle.stepper.specs.Report.{Manner, full, quiet, pausing, resuming, pending-of, Report, ended}
 use Rattle.stepper.specs.Covering.{running-lawful}
 use Rattle.stepper.specs.Ranges.{admitted-dims}
+use Rattle.one_move.specs.Profile.{profile-flag}
 use Rattle.services.specs.Running.{Asked, admitted, blocks, report-of, run, standing}
 use Rattle.services.specs.RunningLaws.{request-admitted, run-admitted}
 use Rattle.services.specs.Services.{run-read, run-source, run-begins, marks-admitted, marks-read, marks-after}
@@ -38,12 +39,12 @@ use Rattle.joining.proofs.RunLaws.{quiet-of, report-is, standing-is, st
 record Began (fit : Bool) (source : List ℕ) (q : Asked) : Type 0 where
   pub read : Accepted
   pub is : read-source fit source ≡ accepted read
-  pub admits : admitted (read .program) q .number ≡ 0
+  pub admits : admitted (read .program) (profile-flag source read) q .number ≡ 0
 
-began : (fit : Bool) (source : List ℕ) (q : Asked) → run-begins q (read-source fit source) ≡ true → Began fit source q
+began : (fit : Bool) (source : List ℕ) (q : Asked) → run-begins source q (read-source fit source) ≡ true → Began fit source q
 began fit source q e = by (read-source fit source) refl e
   where
-    by : (o : Outcome) → read-source fit source ≡ o → run-begins q o ≡ true → Began fit source q
+    by : (o : Outcome) → read-source fit source ≡ o → run-begins source q o ≡ true → Began fit source q
     by (turned-away n p) r h = never h
     by (checking.refused n p) r h = never h
     by (accepted a) r h = record { read = a; is = r; admits = eqb-true _ 0 h }
@@ -52,12 +53,12 @@ module _ {fit : Bool} {source : List ℕ} {q : Asked} (b : Began fit source q) w
   laws-of : Lawful (running (b .read .program) (q .request .sizes))
   laws-of =
       let r = read-of fit source (b .read) (b .is) in
-      running-lawful (b .read .program) (q .request .sizes) (admitted-dims (b .read .program) (q .request) (request-admitted (b .read .program) q (b .admits)))
+      running-lawful (b .read .program) (q .request .sizes) (admitted-dims (b .read .program) (q .request) (request-admitted (b .read .program) (profile-flag source (b .read)) q (b .admits)))
       (flagged timing source (b .read) (parsed source (r .0) (b .read) (r .1)))
 
   source-report : (manner : Manner) → run-source manner fit source q ≡ report-of manner (b .read .program) q
   unfolding run-source
-  source-report manner = ap (run-read manner q) (b .is) ∙ run-admitted (b .read .program) q manner (b .admits)
+  source-report manner = ap (run-read manner source q) (b .is) ∙ run-admitted (b .read .program) (profile-flag source (b .read)) q manner (b .admits)
 
   quiet-report : (manner : Manner) → Pauses manner → run-source manner fit source q ≡ report-in (quiet-of manner (b .read .program) q)
   quiet-report manner k = source-report manner ∙ report-is (b .read .program) q laws-of manner k
@@ -65,7 +66,7 @@ module _ {fit : Bool} {source : List ℕ} {q : Asked} (b : Began fit source q) w
   marks-left : (manner : Manner) → Pauses manner → (old : List ℕ) → marks-after manner fit source q old ≡ standing manner (b .read .program) q
   unfolding marks-after
   marks-left manner k old =
-      ap (marks-read manner q old) (b .is) ∙ ap (λ (t : Bool). if t then marks-admitted manner (b .read .program) q old else old) (eq-eqb _ 0 (b .admits)) ∙ by manner k
+      ap (marks-read manner source q old) (b .is) ∙ ap (λ (t : Bool). if t then marks-admitted manner (b .read .program) q old else old) (eq-eqb _ 0 (b .admits)) ∙ by manner k
     where
       by : (manner : Manner) → Pauses manner → marks-admitted manner (b .read .program) q old ≡ standing manner (b .read .program) q
       by full k = absurd k
@@ -77,14 +78,14 @@ module _ {fit : Bool} {source : List ℕ} {q : Asked} (b : Began fit source q) w
 
 -- What two calls give together is what one call with the steps of both and the joined list gives, begun as the earlier call was; it leaves the same marks.
 pub record Joins (manner : Manner) (fit : Bool) (source : List ℕ) (q r : Asked) (marks : List ℕ) : Type 0 where
-  pub begins : run-begins (at-once q r) (read-source fit source) ≡ true
+  pub begins : run-begins source (at-once q r) (read-source fit source) ≡ true
   pub report : run-source manner fit source (at-once q r) ≡ together (run-source manner fit source q) (run-source (behind manner fit source q marks) fit source r)
   pub stands : marks-after manner fit source (at-once q r) marks ≡ marks-after (behind manner fit source q marks) fit source r (marks-after manner fit source q marks)
 
 pub joins : (manner : Manner) → Pauses manner → (fit : Bool) (source : List ℕ) (q r : Asked) (marks : List ℕ) → GoesOn manner fit source q r → Joins manner fit source q r marks
 joins manner k fit source q r marks g =
     record {
-      begins = ap (run-begins (at-once q r)) (bq .is) ∙ eq-eqb _ 0 (bb .admits);
+      begins = ap (run-begins source (at-once q r)) (bq .is) ∙ eq-eqb _ 0 (bb .admits);
       report =
           quiet-report bb manner k ∙ ap report-in whole ∙ joined-report (quiet-of manner p q) (quiet-of (resuming (standing manner p q)) p r) still
           ∙ ap₂ together (sym (quiet-report bq manner k)) (sym (quiet-report br (resuming (standing manner p q)) tt) ∙ ap (λ (ms : List ℕ). run-source (resuming ms) fit source r) (sym (marks-left bq manner k marks)));
@@ -101,10 +102,10 @@ joins manner k fit source q r marks g =
     p = bq .read .program
 
     br : Began fit source r
-    br = record { read = bq .read; is = bq .is; admits = eqb-true _ 0 (sym (ap (run-begins r) (bq .is)) ∙ g .later) }
+    br = record { read = bq .read; is = bq .is; admits = eqb-true _ 0 (sym (ap (run-begins source r) (bq .is)) ∙ g .later) }
 
     bb : Began fit source (at-once q r)
-    bb = record { read = bq .read; is = bq .is; admits = at-once-admitted p q r (bq .admits) (br .admits) (g .sizes) (g .start) (g .times) }
+    bb = record { read = bq .read; is = bq .is; admits = at-once-admitted p (profile-flag source (bq .read)) q r (bq .admits) (br .admits) (g .sizes) (g .start) (g .times) }
 
     done : quiet-of manner p q .run .steps ≡ natAbs (q .request .steps)
     done = sym (steps-in (quiet-of manner p q)) ∙ sym (ap (λ (x : Report). x .steps) (quiet-report bq manner k)) ∙ g .done
@@ -113,10 +114,10 @@ joins manner k fit source q r marks g =
     grid = g .grid ∙ ap (λ (x : Report). x .grid) (quiet-report bq manner k) ∙ grid-in (quiet-of manner p q)
 
     still : quiet-of manner p q .run .fault ≡ no-fault
-    still = stopped p q r (bq .admits) (br .admits) (g .sizes) (g .start) (g .times) (laws-of bq) manner done grid
+    still = stopped p (profile-flag source (bq .read)) q r (bq .admits) (br .admits) (g .sizes) (g .start) (g .times) (laws-of bq) manner done grid
 
     whole : quiet-of manner p (at-once q r) ≡ joined (quiet-of manner p q) (quiet-of (resuming (standing manner p q)) p r)
-    whole = both-calls p q r (bq .admits) (br .admits) (g .sizes) (g .start) (g .times) (laws-of bq) manner done grid
+    whole = both-calls p (profile-flag source (bq .read)) q r (bq .admits) (br .admits) (g .sizes) (g .start) (g .times) (laws-of bq) manner done grid
 
 -- ---- any number of calls
 
@@ -135,7 +136,7 @@ first-start q (r ∷ rs) = refl
 -- Calls one after the other, each from the marks that the one before left, give together what one call with all their steps and the joined lists gives, begun as
 -- the first was; the last leaves the same marks.
 pub record ChainJoins (manner : Manner) (fit : Bool) (source : List ℕ) (q : Asked) (rs : List Asked) (marks : List ℕ) : Type 0 where
-  pub begins : run-begins (all-at-once q rs) (read-source fit source) ≡ true
+  pub begins : run-begins source (all-at-once q rs) (read-source fit source) ≡ true
   pub report : run-source manner fit source (all-at-once q rs) ≡ all-together manner fit source q rs marks
   pub stands : marks-after manner fit source (all-at-once q rs) marks ≡ last-marks manner fit source q rs marks
 
@@ -188,7 +189,7 @@ resumed-agrees fit source q r marks g =
     p = bq .read .program
 
     br : Began fit source r
-    br = record { read = bq .read; is = bq .is; admits = eqb-true _ 0 (sym (ap (run-begins r) (bq .is)) ∙ g .later) }
+    br = record { read = bq .read; is = bq .is; admits = eqb-true _ 0 (sym (ap (run-begins source r) (bq .is)) ∙ g .later) }
 
     m : ℕ
     m = natAbs (r .request .steps)

@@ -1,15 +1,17 @@
--- What a call of the writer wrote, read back, leads from the earlier grid to the later.
+-- What a call of the writer wrote, read back, leads from the earlier grid to the later, where no flag falls.
 use Prim.Native.Nat.{ℕ, _+_, _≤_}
 use native.Mathlib.Omega.{arith}
 use mathlib.Core.Path.{_≡_, refl, sym, ap, ap₂, _∙_, subst}
 use mathlib.Core.Bool.{Bool, true, false}
 use mathlib.Core.List.{List, _++_}
+use mathlib.Core.Option.{Option}
 use lib.ListN.{length, take, drop}
 use lib.Seq.{take-append-seam, drop-append-seam}
 use lib.Dec.{eqb, ltb}
 use lib.IntN.{ℤ, natAbs}
 use borrow.Author.Tests.{eqb-true, eqb-false, ltb-false}
 use Rattle.value.specs.Choice.{if_then_else_}
+use Rattle.automaton.specs.Shape.{product}
 use Rattle.program.specs.Syntax.{Program}
 use Rattle.grammar.specs.Source.{Accepted}
 use Rattle.grammar.specs.Checking as checking
@@ -17,23 +19,25 @@ use Rattle.grammar.specs.Checking.{Outcome, turned-away, accepted, reply-of, re
 use Rattle.refusals.specs.Replies.{zero-accepts}
 use Rattle.stepper.specs.Admission.{Request}
 use Rattle.services.specs.Calls.{NameForm}
+use Rattle.one_move.specs.Profile.{profile-flag}
 use Rattle.lists.specs.ListChecking.{limits-of, verdict, check-list}
 use Rattle.lists.specs.Setting.{set-block}
 use Rattle.lists.specs.Writing.{Wanted, Wrote, unwritten, put-text, writing-admission, write, write-read, write-source}
-use Rattle.lists.specs.RoundTrip.{text-of, RoundTrip}
+use Rattle.lists.specs.RoundTrip.{text-of, NoFlagFalls, RoundTrip}
 use Rattle.lists.specs.Sources.{round-trip-source}
 use Rattle.list_writer.specs.WriterCalls.{WriterLent, writer-fits, writer-left}
 
--- the first `length` bytes of the room, as a list, for the program p
-pub record ReadsBack {N : Type 0} (l : WriterLent N) (w : Wrote) (p : Program) : Type 0 where
+-- the first `length` bytes of the room, as a list, for the program p and its flag
+pub record ReadsBack {N : Type 0} (l : WriterLent N) (w : Wrote) (p : Program) (flag : Option ℕ) : Type 0 where
   -- they stand at the front of the room, whose rest is as it was
   pub within : w .length ≤ length (l .room)
   pub rest : drop (w .length) (w .room) ≡ drop (w .length) (l .room)
   -- they pass the check of every run on these sizes that has the time
   pub passes : (r : Request) → r .sizes ≡ l .wanted .sizes → natAbs (r .start) ≤ natAbs (l .wanted .time) → natAbs (l .wanted .time) ≤ natAbs (r .start) + natAbs (r .steps)
-      → check-list (limits-of p r) (take (w .length) (w .room)) ≡ verdict 0 0
-  -- they take the earlier grid to the later at that time
-  pub leads : set-block (l .wanted .sizes) (length (p .fields)) (take (w .length) (w .room)) (natAbs (l .wanted .time)) (l .wanted .earlier) ≡ l .wanted .later
+      → check-list (limits-of p flag r) (take (w .length) (w .room)) ≡ verdict 0 0
+  -- they take the earlier grid to the later at that time, where no flag falls
+  pub leads : NoFlagFalls flag (product (l .wanted .sizes)) (length (p .fields)) (l .wanted .earlier) (l .wanted .later)
+      → set-block (l .wanted .sizes) (length (p .fields)) (take (w .length) (w .room)) (natAbs (l .wanted .time)) (l .wanted .earlier) ≡ l .wanted .later
   -- and leave every grid as it is at another
   pub alone : (u : ℕ) → (natAbs (l .wanted .time) ≡ u → ⊥) → (g : List ℤ) → set-block (l .wanted .sizes) (length (p .fields)) (take (w .length) (w .room)) u g ≡ g
 
@@ -56,49 +60,51 @@ put-told text room e = by (ltb (length room) (length text)) refl e
     by true q h = absurd (omega arith)
     by false q h = record { within = ltb-false (length room) (length text) q; length-is = refl; room-is = refl }
 
-write-told : (p : Program) (q : Wanted) (room : List ℕ) → write p q room .number ≡ 0 → (writing-admission p q .number ≡ 0) × Stands (text-of p q) room (write p q room)
+write-told : (p : Program) (flag : Option ℕ) (q : Wanted) (room : List ℕ) → write p flag q room .number ≡ 0 → (writing-admission p q .number ≡ 0) × Stands (text-of p flag q) room (write p flag q room)
 unfolding write
-write-told p q room e = by (eqb (writing-admission p q .number) 0) refl e
+write-told p flag q room e = by (eqb (writing-admission p q .number) 0) refl e
   where
     wrote : Bool → Wrote
-    wrote t = elim t [ true ↦ put-text (text-of p q) room | false ↦ unwritten (writing-admission p q .number) (writing-admission p q .place) room ]
+    wrote t = elim t [ true ↦ put-text (text-of p flag q) room | false ↦ unwritten (writing-admission p q .number) (writing-admission p q .place) room ]
 
-    by : (t : Bool) → eqb (writing-admission p q .number) 0 ≡ t → wrote t .number ≡ 0 → (writing-admission p q .number ≡ 0) × Stands (text-of p q) room (wrote t)
-    by true z h = (eqb-true (writing-admission p q .number) 0 z, put-told (text-of p q) room h)
+    by : (t : Bool) → eqb (writing-admission p q .number) 0 ≡ t → wrote t .number ≡ 0 → (writing-admission p q .number ≡ 0) × Stands (text-of p flag q) room (wrote t)
+    by true z h = (eqb-true (writing-admission p q .number) 0 z, put-told (text-of p flag q) room h)
     by false z h = absurd (eqb-false (writing-admission p q .number) 0 z h)
 
 -- the source is accepted
-reply-zero : (q : Wanted) (room : List ℕ) (r : Outcome) → write-read q room r .number ≡ 0 → reply-of r .number ≡ 0
-reply-zero q room (turned-away k j) e = e
-reply-zero q room (checking.refused k j) e = e
-reply-zero q room (accepted a) e = refl
+reply-zero : (source : List ℕ) (q : Wanted) (room : List ℕ) (r : Outcome) → write-read source q room r .number ≡ 0 → reply-of r .number ≡ 0
+reply-zero source q room (turned-away k j) e = e
+reply-zero source q room (checking.refused k j) e = e
+reply-zero source q room (accepted a) e = refl
 
 -- ---- the theorem
 
-stood : {N : Type 0} (l : WriterLent N) (p : Program) (w : Wrote) → Stands (text-of p (l .wanted)) (l .room) w → RoundTrip p (l .wanted) → ReadsBack l w p
-stood l p w s t =
+stood : {N : Type 0} (l : WriterLent N) (p : Program) (flag : Option ℕ) (w : Wrote) → Stands (text-of p flag (l .wanted)) (l .room) w → RoundTrip p flag (l .wanted) → ReadsBack l w p flag
+stood l p flag w s t =
     record {
       within = omega (arith, s .within, s .length-is);
       rest = ap₂ drop (s .length-is) (s .room-is) ∙ drop-append-seam text (drop (length text) (l .room)) ∙ ap (λ (n : ℕ). drop n (l .room)) (sym (s .length-is));
-      passes = λ r e low high. ap (check-list (limits-of p r)) front ∙ t .passes r e low high;
-      leads = ap (λ (x : List ℕ). set-block (l .wanted .sizes) (length (p .fields)) x (natAbs (l .wanted .time)) (l .wanted .earlier)) front ∙ t .leads;
+      passes = λ r e low high. ap (check-list (limits-of p flag r)) front ∙ t .passes r e low high;
+      leads = λ falls. ap (λ (x : List ℕ). set-block (l .wanted .sizes) (length (p .fields)) x (natAbs (l .wanted .time)) (l .wanted .earlier)) front ∙ t .leads falls;
       alone = λ u n g. ap (λ (x : List ℕ). set-block (l .wanted .sizes) (length (p .fields)) x u g) front ∙ t .alone u n g;
     }
   where
     text : List ℕ
-    text = text-of p (l .wanted)
+    text = text-of p flag (l .wanted)
 
     front : take (w .length) (w .room) ≡ text
     front = ap₂ take (s .length-is) (s .room-is) ∙ take-append-seam text (drop (length text) (l .room))
 
 -- whatever the writer is lent: where its number is 0, the source is accepted, and what it wrote reads back
 pub reads-back : {N : Type 0} (form : NameForm N) (l : WriterLent N) → writer-left form l .wrote .number ≡ 0
-    → (a : Accepted) × (read-source (writer-fits form l) (l .source) ≡ accepted a) × ReadsBack l (writer-left form l .wrote) (a .program)
+    → (a : Accepted) × (read-source (writer-fits form l) (l .source) ≡ accepted a) × ReadsBack l (writer-left form l .wrote) (a .program) (profile-flag (l .source) a)
 unfolding writer-left write-source check
 reads-back form l e =
     let fit = writer-fits form l in
     let q = l .wanted in
-    let z = zero-accepts fit (l .source) (reply-zero q (l .room) (read-source fit (l .source)) e) in
-    let is : write-source fit (l .source) q (l .room) ≡ write (z .0 .program) q (l .room) = ap (write-read q (l .room)) (z .1) in
-    let told = write-told (z .0 .program) q (l .room) (sym (ap (λ (w : Wrote). w .number) is) ∙ e) in
-    (z .0, z .1, stood l (z .0 .program) (write-source fit (l .source) q (l .room)) (subst (Stands (text-of (z .0 .program) q) (l .room)) (sym is) (told .1)) (round-trip-source fit (l .source) (z .0) (z .1) q (told .0)))
+    let z = zero-accepts fit (l .source) (reply-zero (l .source) q (l .room) (read-source fit (l .source)) e) in
+    let p = z .0 .program in
+    let flag = profile-flag (l .source) (z .0) in
+    let is : write-source fit (l .source) q (l .room) ≡ write p flag q (l .room) = ap (write-read (l .source) q (l .room)) (z .1) in
+    let told = write-told p flag q (l .room) (sym (ap (λ (w : Wrote). w .number) is) ∙ e) in
+    (z .0, z .1, stood l p flag (write-source fit (l .source) q (l .room)) (subst (Stands (text-of p flag q) (l .room)) (sym is) (told .1)) (round-trip-source fit (l .source) (z .0) (z .1) q (told .0)))

@@ -1,5 +1,6 @@
 -- `list_writer::write_listed` meets its contract.
 use borrow.Author.Tests.{not-false}
+use Rattle.profile.proofs.FlagLaws.{can-miss}
 use Rattle.list_writer.proofs.SourceLaws.{source-read}
 use Rattle.list_writer.proofs.WritingLaws.{source-refused, source-written, read-written}
 use borrow.Author.Needs.{needs}
@@ -20,11 +21,22 @@ returns c =
     let s = c .before .before .before .before .before .before in
     source-refused (s .load .ensures .0) (s .load .ensures .1) _ _ (c .if1 .taken)
 
+rule-of-requires : tie.Need-rule-of-requires
+rule-of-requires c κs = search needs
+
+flag-of-requires : tie.Need-flag-of-requires
+flag-of-requires c κs =
+    let o = c .before .before in
+    let p = o .before in
+    let s = p .before .before .before .before .before .before in
+    can-miss (s .load .ensures .0) (s .load .ensures .1) (p .if1 .left) (o .rule-of .ensures) (search (s .load .kept, needs))
+
 write-loaded-requires : tie.Need-write-loaded-requires
 write-loaded-requires c κs =
-    let o = c .before .before .before in
-    let s = o .before .before .before .before .before .before in
-    let a = source-read (s .load .ensures .1) (s .load .ensures .0 .words) (not-false _ (o .if1 .left)) in (a .sized, a .some-fields)
+    let o = c .before .before .before .before .before in
+    let p = o .before in
+    let s = p .before .before .before .before .before .before in
+    let a = source-read (s .load .ensures .0) (s .load .ensures .1) (not-false _ (p .if1 .left)) (o .rule-of .ensures) in (a .sized, a .some-fields)
 
 same-length-3 : tie.Need-same-length-3
 same-length-3 c = search needs
@@ -38,10 +50,12 @@ same-length-5 c = search needs
 returns-2 : tie.Need-returns-2
 returns-2 c =
     let o = c .before .before in
-    let p = o .before .before .before .before in
-    let q = p .before .before .before .before .before .before in
-    let s = q .before .before .before .before .before .before .before .before in
-    read-written (s .fits .time) (source-written (q .load .ensures .0) (q .load .ensures .1) _ _ (p .if1 .left) (o .write-loaded .ensures))
+    let f = o .before .before .before in
+    let p = f .before .before .before in
+    let q = p .before in
+    let l = q .before .before .before .before .before .before in
+    let s = l .before .before .before .before .before .before .before .before in
+    read-written (s .fits .time) (source-written (l .load .ensures .0) (l .load .ensures .1) _ _ (q .if1 .left) (p .rule-of .ensures) (f .flag-of .ensures) (o .write-loaded .ensures))
 
 pub write-listed-spec : {M : Type 1} → statement M
 write-listed-spec =
@@ -51,6 +65,8 @@ write-listed-spec =
     same-length
     same-length-2
     returns
+    rule-of-requires
+    flag-of-requires
     write-loaded-requires
     same-length-3
     same-length-4

@@ -14,7 +14,7 @@ returns : tie.Need-returns
 returns c =
     let o = c .before .before in
     let s = o .before .before .before .before .before in
-    read-loaded (s .fits .time) (loaded-refused (o .admit-both .ensures) _ (c .if1 .taken))
+    read-loaded (s .fits .time) (loaded-refused (o .admit-both .ensures) _ _ (c .if1 .taken))
 
 cast-write-text : tie.Need-cast-write-text
 cast-write-text c = search needs
@@ -40,7 +40,7 @@ returns-2 c =
     let p = o .before .before .before in
     let q = p .before .before in
     let s = q .before .before .before .before .before in
-    read-loaded (s .fits .time) (loaded-written (q .admit-both .ensures) _ (p .if1 .left) (o .write-text .ensures))
+    read-loaded (s .fits .time) (loaded-written (q .admit-both .ensures) _ _ (p .if1 .left) (o .write-text .ensures))
 
 pub write-loaded-spec : {M : Type 1} → statement M
 write-loaded-spec =

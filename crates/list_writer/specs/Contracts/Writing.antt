@@ -2,6 +2,7 @@
 use mathlib.Core.Path.{_≡_}
 use mathlib.Core.Bool.{Bool}
 use mathlib.Core.List.{List}
+use mathlib.Core.Option.{Option}
 use Prim.Native.Nat.{ℕ}
 use Rattle.program.specs.Syntax.{Program}
 use Rattle.grammar.specs.Checking.{words-after, names-after}
@@ -10,6 +11,7 @@ use Rattle.semantics.specs.Stands.{Holds}
 use Rattle.semantics.specs.Written.{relatives-in}
 use Rattle.services.specs.Calls.{NameForm}
 use Rattle.admission.specs.Admitting.{Lists}
+use Rattle.one_move.specs.Profile.{flag-told}
 use Rattle.lists.specs.Writing.{Wanted, Wrote, write, write-source}
 use Rattle.list_writer.specs.declared.Written.{Written}
 use Rattle.list_writer.specs.WriterCalls.{WriterLent, writer-left}
@@ -18,9 +20,10 @@ use Rattle.list_writer.specs.WriterCalls.{WriterLent, writer-left}
 abbrev pub wrote-of : Written → List ℕ → Wrote
 wrote-of r room = record { number = r .number; place = r .place; length = r .length; room = room }
 
--- the writer writes what the definition says, for every program that stands in the table
-pub record WritesLoaded (words : List ℕ) (rule : Rule) (q : Wanted) (room : List ℕ) (r : Written) (room′ : List ℕ) : Type 0 where
-  pub is : (p : Program) → Holds words rule p → Lists words rule (relatives-in p) → wrote-of r room′ ≡ write p q room
+-- the writer writes what the definition says, for every program that stands in the table, and the flag that the number tells
+pub record WritesLoaded (words : List ℕ) (rule : Rule) (told : ℕ) (q : Wanted) (room : List ℕ) (r : Written) (room′ : List ℕ) : Type 0 where
+  pub is : (p : Program) (flag : Option ℕ) → Holds words rule p → Lists words rule (relatives-in p) → told ≡ flag-told (rule .fields) flag
+      → wrote-of r room′ ≡ write p flag q room
 
 -- what a source leaves, whether or not the rooms fit
 pub record WritesSource (fit : Bool) (source : List ℕ) (q : Wanted) (words names room : List ℕ) (r : Written) (words′ names′ room′ : List ℕ) : Type 0 where

@@ -179,7 +179,7 @@ module _ {M : Type 1} (𝓤 : URA M) (H : Heap 𝓤) (A : Atoms 𝓤) (W : Given
 
   -- what the callee says, and what this function says
   abbrev Said : Report → List Name → List ℕ → List ℤ → List ℤ → List ℕ → List ℕ → Type 0
-  Said r ns z2 z5 z6 z7 z12 = RunLeaves row-names (manner-of v11 v7) (lent v0 v1 v4 (memory v2 v3 v5 v6 v7 v12) v8 v9 v10 v13 v14) r (memory z2 ns z5 z6 z7 z12) × AgreesFresh v11 (told r z5) (run-report row-names full (lent v0 v1 v4 (memory v2 v3 v5 v6 v7 v12) v8 v9 v10 v13 v14)) × RangesKept (read-lent row-names (lent v0 v1 v4 (memory v2 v3 v5 v6 v7 v12) v8 v9 v10 v13 v14)) (asked (lent v0 v1 v4 (memory v2 v3 v5 v6 v7 v12) v8 v9 v10 v13 v14)) z5
+  Said r ns z2 z5 z6 z7 z12 = RunLeaves row-names (manner-of v11 v7) (lent v0 v1 v4 (memory v2 v3 v5 v6 v7 v12) v8 v9 v10 v13 v14) r (memory z2 ns z5 z6 z7 z12) × AgreesFresh v11 (told r z5) (run-report row-names full (lent v0 v1 v4 (memory v2 v3 v5 v6 v7 v12) v8 v9 v10 v13 v14)) × RangesKept v0 (read-lent row-names (lent v0 v1 v4 (memory v2 v3 v5 v6 v7 v12) v8 v9 v10 v13 v14)) (asked (lent v0 v1 v4 (memory v2 v3 v5 v6 v7 v12) v8 v9 v10 v13 v14)) z5
 
   all-said : (r : Report) (ns : List Name) (z2 : List ℕ) (z5 : List ℤ) (z6 : List ℤ) (z7 : List ℕ) (z12 : List ℕ) → Said r ns z2 z5 z6 z7 z12 → RunLeaves row-names (manner-of v11 v7) (lent v0 v1 v4 (memory v2 v3 v5 v6 v7 v12) v8 v9 v10 v13 v14) r (memory z2 ns z5 z6 z7 z12)
   all-said r ns z2 z5 z6 z7 z12 e = e .0

@@ -190,7 +190,7 @@ module _ {M : Type 1} (𝓤 : URA M) (H : Heap 𝓤) (A : Atoms 𝓤) (W : Given
   abbrev Stored : RunAnswer → List Name → Type 0
   Stored r ns = ns ≡ take (r .count) (r .rows) ++ skip (r .count) v3
 
-  all-said : (r : RunAnswer) (z2 : List ℕ) (z5 : List ℤ) (z6 : List ℤ) (z7 : List ℕ) (z12 : List ℕ) (ns : List Name) → Said r z2 z5 z6 z7 z12 → Stored r ns → RunLeaves row-names (manner-of v11 v7) (lent v0 v1 v4 (memory v2 v3 v5 v6 v7 v12) v8 v9 v10 v13 v14) (r .report) (memory z2 ns z5 z6 z7 z12) × AgreesFresh v11 (told (r .report) z5) (run-report row-names full (lent v0 v1 v4 (memory v2 v3 v5 v6 v7 v12) v8 v9 v10 v13 v14)) × RangesKept (read-lent row-names (lent v0 v1 v4 (memory v2 v3 v5 v6 v7 v12) v8 v9 v10 v13 v14)) (asked (lent v0 v1 v4 (memory v2 v3 v5 v6 v7 v12) v8 v9 v10 v13 v14)) z5
+  all-said : (r : RunAnswer) (z2 : List ℕ) (z5 : List ℤ) (z6 : List ℤ) (z7 : List ℕ) (z12 : List ℕ) (ns : List Name) → Said r z2 z5 z6 z7 z12 → Stored r ns → RunLeaves row-names (manner-of v11 v7) (lent v0 v1 v4 (memory v2 v3 v5 v6 v7 v12) v8 v9 v10 v13 v14) (r .report) (memory z2 ns z5 z6 z7 z12) × AgreesFresh v11 (told (r .report) z5) (run-report row-names full (lent v0 v1 v4 (memory v2 v3 v5 v6 v7 v12) v8 v9 v10 v13 v14)) × RangesKept v0 (read-lent row-names (lent v0 v1 v4 (memory v2 v3 v5 v6 v7 v12) v8 v9 v10 v13 v14)) (asked (lent v0 v1 v4 (memory v2 v3 v5 v6 v7 v12) v8 v9 v10 v13 v14)) z5
   all-said r z2 z5 z6 z7 z12 ns e h = let left = subst (λ m. RunLeaves row-names (manner-of v11 v7) (lent v0 v1 v4 (memory v2 v3 v5 v6 v7 v12) v8 v9 v10 v13 v14) (r .report) (memory z2 m z5 z6 z7 z12)) (sym h) (e .stores v3 refl) in (left, run-agrees row-names v11 (lent v0 v1 v4 (memory v2 v3 v5 v6 v7 v12) v8 v9 v10 v13 v14) left, run-ranges row-names (manner-of v11 v7) (lent v0 v1 v4 (memory v2 v3 v5 v6 v7 v12) v8 v9 v10 v13 v14) left)
 
   may-store : (r : RunAnswer) (z2 : List ℕ) (z5 : List ℤ) (z6 : List ℤ) (z7 : List ℕ) (z12 : List ℕ) → Said r z2 z5 z6 z7 z12 → (r .count ≤ 256) × (r .count ≤ length v3)

@@ -1,6 +1,7 @@
 -- `list_writer::lines::put_cells` meets its contract.
 use Prim.Native.Nat.{_≤_, _-_, _+_, _*_}
 use mathlib.Core.Path.{_≡_, refl}
+use mathlib.Core.Option.{some}
 use native.Mathlib.Omega.{arith}
 use lib.ListN.{length}
 use borrow.Author.Needs.{needs}
@@ -11,13 +12,13 @@ use Rattle.list_writer.proofs.lines.put_cells.Statement.{statement}
 use Rattle.list_writer.proofs.lines.put_cells.Tie as tie
 
 abbrev Inv-loop : tie.InvT-loop
-Inv-loop room₀ at place₀ sizes fields earlier later cells here₀ c₀ room place here c = Puts room₀ at (cells-text sizes fields earlier later c 0) room here × (c ≤ cells) × (here ≤ at + 1000 * c) × (length room ≡ length room₀) × (length place ≡ length place₀)
+Inv-loop room₀ at place₀ sizes fields flag earlier later cells here₀ c₀ room place here c = Puts room₀ at (cells-text sizes fields (some flag) earlier later c 0) room here × (c ≤ cells) × (here ≤ at + 1000 * c) × (length room ≡ length room₀) × (length place ≡ length place₀)
 
 abbrev μ-loop : tie.MeasureT-loop
-μ-loop room₀ at place₀ sizes fields earlier later cells here₀ c₀ room place here c = cells - c
+μ-loop room₀ at place₀ sizes fields flag earlier later cells here₀ c₀ room place here c = cells - c
 
 loop-holds : tie.Need-loop-holds Inv-loop μ-loop
-loop-holds c = (cells-start (c .before .before .before .args .sizes .now) (c .before .before .before .args .fields) (c .before .before .before .args .earlier .now) (c .before .before .before .args .later .now) _ _, omega arith, omega arith, refl, refl)
+loop-holds c = (cells-start (c .before .before .before .args .sizes .now) (c .before .before .before .args .fields) (some (c .before .before .before .args .flag)) (c .before .before .before .args .earlier .now) (c .before .before .before .args .later .now) _ _, omega arith, omega arith, refl, refl)
 
 put-changed-requires : tie.Need-put-changed-requires Inv-loop μ-loop
 put-changed-requires c κs =
@@ -35,7 +36,7 @@ loop-again c =
     let o = c .before .before .before .before in
     let p = o .before .before .before .before in
     let s = p .before .before .before .before in
-    (cells-again (s .args .sizes .now) (s .args .fields) (s .args .earlier .now) (s .args .later .now) (p .loop .c) (p .loop .inv .0) (o .put-changed .ensures), search needs, omega (arith, o .put-changed .ensures .end, changed-length (s .pre .0) {c = p .loop .c} (search needs)), search needs, search needs)
+    (cells-again (s .args .sizes .now) (s .args .fields) (some (s .args .flag)) (s .args .earlier .now) (s .args .later .now) (p .loop .c) (p .loop .inv .0) (o .put-changed .ensures), search needs, omega (arith, o .put-changed .ensures .end, changed-length (s .pre .0) {c = p .loop .c} (search needs) (some (s .args .flag))), search needs, search needs)
 
 same-length : tie.Need-same-length Inv-loop μ-loop
 same-length c = search needs
@@ -47,7 +48,7 @@ returns : tie.Need-returns Inv-loop μ-loop
 returns c =
     let o = c .before in
     let s = o .before .before .before .before in
-    cells-end (s .args .sizes .now) (s .args .fields) (s .args .earlier .now) (s .args .later .now) (o .loop .c) (o .loop .inv .1) (c .loop-test .left) (o .loop .inv .0)
+    cells-end (s .args .sizes .now) (s .args .fields) (some (s .args .flag)) (s .args .earlier .now) (s .args .later .now) (o .loop .c) (o .loop .inv .1) (c .loop-test .left) (o .loop .inv .0)
 
 pub put-cells-spec : {M : Type 1} → statement M
 put-cells-spec =

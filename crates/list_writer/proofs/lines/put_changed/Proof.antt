@@ -1,4 +1,5 @@
 -- `list_writer::lines::put_changed` meets its contract.
+use mathlib.Core.Option.{some}
 use native.Mathlib.Omega.{arith}
 use Rattle.list_writer.proofs.LineLaws.{changed-within, same-put, changed-put}
 use borrow.Author.Needs.{needs}
@@ -12,7 +13,7 @@ returns : tie.Need-returns
 returns c =
     let o = c .before in
     let s = o .before .before .before .before in
-    same-put (s .pre .0) (s .pre .2) (o .differs .ensures) (c .if1 .taken) _ _
+    same-put (s .pre .0) (s .pre .2) (some (s .args .flag)) (o .differs .ensures) (c .if1 .taken) _ _
 
 cast-set-place : tie.Need-cast-set-place
 cast-set-place c = search needs
@@ -62,7 +63,7 @@ returns-2 c =
     let q = p .before .before in
     let r = q .before in
     let s = r .before .before .before .before in
-    changed-put (s .pre .0) (s .pre .2) (r .differs .ensures) (q .if1 .left) (p .set-place .ensures) (o .put-line .ensures)
+    changed-put (s .pre .0) (s .pre .2) (some (s .args .flag)) (r .differs .ensures) (q .if1 .left) (p .set-place .ensures) (o .put-line .ensures)
 
 pub put-changed-spec : {M : Type 1} → statement M
 put-changed-spec =

@@ -1,5 +1,7 @@
 -- `list_writer::lines::put_line` meets its contract.
+use mathlib.Core.Option.{some}
 use native.Mathlib.Omega.{arith}
+use Rattle.lists.specs.Writing.{shown}
 use Rattle.list_writer.proofs.LineLaws.{numbers-length, values-length, line-put}
 use borrow.Author.Needs.{needs}
 use Rattle.list_writer.proofs.lines.put_line.Statement.{statement}
@@ -24,7 +26,7 @@ put-values-requires c κs =
 put-byte-requires-2 : tie.Need-put-byte-requires-2
 put-byte-requires-2 c κs =
     let s = c .before .before .before .before .before .before .before .before .before .before .before .before .before .before .before .before .before .before .before in
-    omega (arith, numbers-length (s .args .place .now) (s .pre .0), values-length (s .args .values .now) (s .pre .1))
+    omega (arith, numbers-length (s .args .place .now) (s .pre .0), values-length (some (s .args .flag)) (s .args .values .now) (s .pre .1))
 
 same-length : tie.Need-same-length
 same-length c = search needs
@@ -37,7 +39,7 @@ returns c =
     let r = q .before .before .before .before in
     let t = r .before .before .before .before in
     let s = t .before .before .before .before in
-    line-put (s .args .place .now) (s .args .values .now) (t .put-byte .ensures) (r .put-numbers .ensures) (q .put-between .ensures) (p .put-values .ensures) (o .put-byte2 .ensures)
+    line-put (s .args .place .now) (shown (some (s .args .flag)) (s .args .values .now)) (t .put-byte .ensures) (r .put-numbers .ensures) (q .put-between .ensures) (p .put-values .ensures) (o .put-byte2 .ensures)
 
 pub put-line-spec : {M : Type 1} → statement M
 put-line-spec =

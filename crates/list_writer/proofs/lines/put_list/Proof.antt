@@ -39,7 +39,7 @@ returns c =
     let p = o .before .before .before .before .before in
     let q = p .before .before .before .before in
     let s = q .before .before .before .before in
-    text-put _ _ _ _ (s .args .cells) (s .pre .1) (s .fits .time .fits) (q .put-digits .ensures) (p .put-byte .ensures) (o .put-cells .ensures)
+    text-put _ _ _ _ _ (s .args .cells) (s .pre .1) (s .fits .time .fits) (q .put-digits .ensures) (p .put-byte .ensures) (o .put-cells .ensures)
 
 pub put-list-spec : {M : Type 1} → statement M
 put-list-spec =

@@ -1,0 +1,53 @@
+// Whether a source moves a pixel once.
+ghost use lib.ListN.{length};
+ghost use Rattle.cellang.specs.Left.{lent-rows-fit};
+ghost use Rattle.cellang.specs.Promises.{ProfilesOver, ProfilesRows};
+use crate::rows::row_fits;
+use crate::rows::stored;
+use profile::Profile;
+use records::Name;
+use records::rows::rows_of;
+use records::rows::store_first;
+
+// What the call gives: the answer, the records, and how many of them are stored.
+pub struct ProfileAnswer {
+    pub profile: Profile,
+    pub rows: [Name; 256],
+    pub count: usize,
+}
+
+// The answer, where `names` is the length of the row of records.
+fn profiled(source: &[u8], list: &[u8], words: &mut [u32], names: usize) -> ProfileAnswer
+    ensures { λ r. ⌜ ProfilesOver (lent-rows-fit (now (list .entry)) (length (now (words .entry))) names) (now (source .entry)) (now (words .entry)) names r (now (words .exit)) ⌝ }
+{
+    let mut flat = [0u32; 1024];
+    if !row_fits(list, names) {
+        return ProfileAnswer {
+            profile: Profile {
+                rule: 1,
+                number: 1,
+                place: 0,
+            },
+            rows: rows_of(&flat),
+            count: 0,
+        };
+    }
+    let count = stored(source.len(), words.len());
+    let answer = profile::check_one_move(source, list, words, &mut flat);
+    let rows = rows_of(&flat);
+    ProfileAnswer {
+        profile: answer,
+        rows: rows,
+        count: count,
+    }
+}
+
+// Whether a source moves a pixel once: the first rule of the profile that it misses, 0 for none, and the reply's number and place where it is refused. The
+// table and the row of records are left as a check leaves them.
+pub fn check_one_move(source: &[u8], list: &[u8], words: &mut [u32], names: &mut [Name]) -> Profile
+    ensures { λ r. ⌜ ProfilesRows (lent-rows-fit (now (list .entry)) (length (now (words .entry))) (length (now (names .entry)))) (now (source .entry)) (now (words .entry)) (now (names .entry)) r (now (words .exit)) (now (names .exit)) ⌝ }
+{
+    let c = profiled(source, list, words, names.len());
+    store_first(names, c.rows, c.count);
+    c.profile
+}

@@ -1,0 +1,2 @@
+-- What holds of lists for a source that moves a pixel once.
+pub mod Theorems

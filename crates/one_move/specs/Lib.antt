@@ -1,0 +1,2 @@
+-- Sources that move a pixel once: their profile.
+pub mod Profile

@@ -1,0 +1,1 @@
+// Sources that move a pixel once. Definitions and theorems alone.

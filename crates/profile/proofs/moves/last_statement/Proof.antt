@@ -1,0 +1,42 @@
+-- `profile::moves::last_statement` meets its contract.
+use borrow.Author.Needs.{needs}
+use Prim.Native.Nat.{_-_}
+use Rattle.profile.proofs.MoveLaws.{Lastings, Lasting}
+use Rattle.profile.proofs.moves.last_statement.Statement.{statement}
+use Rattle.profile.proofs.moves.last_statement.Tie as tie
+
+abbrev Inv-loop : tie.InvT-loop
+Inv-loop words n at last₀ here₀ last here = Lasting words n at last here
+
+abbrev μ-loop : tie.MeasureT-loop
+μ-loop words n at last₀ here₀ last here = n - here
+
+loop-holds : tie.Need-loop-holds Inv-loop μ-loop
+loop-holds c = search Lastings
+
+word-at-requires : tie.Need-word-at-requires Inv-loop μ-loop
+word-at-requires c κs = search needs
+
+begins-requires : tie.Need-begins-requires Inv-loop μ-loop
+begins-requires c κs = search needs
+
+word-at-requires-2 : tie.Need-word-at-requires-2 Inv-loop μ-loop
+word-at-requires-2 c κs = search needs
+
+later-requires : tie.Need-later-requires Inv-loop μ-loop
+later-requires c κs = search needs
+
+link-at-requires : tie.Need-link-at-requires Inv-loop μ-loop
+link-at-requires c κs = search needs
+
+loop-less : tie.Need-loop-less Inv-loop μ-loop
+loop-less c = search Lastings
+
+loop-again : tie.Need-loop-again Inv-loop μ-loop
+loop-again c = search Lastings
+
+returns : tie.Need-returns Inv-loop μ-loop
+returns c = search Lastings
+
+pub last-statement-spec : {M : Type 1} → statement M
+last-statement-spec = tie.close (tie.spec Inv-loop μ-loop loop-holds word-at-requires begins-requires word-at-requires-2 later-requires link-at-requires loop-less loop-again returns)

@@ -1,0 +1,5 @@
+-- What the functions promise.
+pub mod Standing
+pub mod Fields
+pub mod Moves
+pub mod Flags
