@@ -1,10 +1,10 @@
 /*
  * Checking and running correction rules written in Cellang, setting and writing values by timed lists, pausing and resuming runs,
- * counting the zeros of rows, telling rules that move a pixel once, and comparing grids.
+ * counting the zeros of rows, telling rules that move a pixel once, stepping bands of rows, and comparing grids.
  *
  * Link libcellang.a (x86-64 Linux). It needs memset and memcpy and nothing else, allocates nothing and keeps
- * nothing between calls; calls on different memory may run at the same time. A run takes about
- * 200 KB of stack.
+ * nothing between calls; calls on different memory may run at the same time. A run, and the step of a band, takes
+ * about 200 KB of stack.
  *
  * Lent memory passes as a pointer and then a number of elements. Pieces that a call writes must not
  * overlap each other or anything else that is lent to it. A pointer of length 0 is never followed.
@@ -68,7 +68,7 @@ enum cellang_kind {
  * What a call gives back. 1, then 2, are tried before any token; then the smallest place wins, then
  * the lowest number, where 40 to 45 stand between 9 and 12. 20 to 24 are tried in this order once the source is accepted, then 61
  * in a run with row counts, and then 50 to 56 and 58
- * on the lines of a value list: the lowest line wins, then the lowest number. "At" says which
+ * on the lines of a value list: the lowest line wins, then the lowest number. Calls on bands of rows say their own order. "At" says which
  * byte of the source the place names, where the end of the source stands at its length; where
  * nothing is said the place is 0.
  */
@@ -102,7 +102,8 @@ enum cellang_reply {
 
     /* the source is accepted, but the run is not admitted */
     CELLANG_BAD_SHAPE = 20,        /* number or size of dimensions, or the total of cells, wrong */
-    CELLANG_LENT_LENGTH = 21,      /* grid or scratch not cells times fields, or marks not one byte a cell */
+    CELLANG_LENT_LENGTH = 21,      /* grid or scratch not cells times fields, or marks not one byte a cell; a planner's room, or the rows or
+                                      the room of a band, of another length than the call says */
     CELLANG_BAD_TIMES = 22,        /* start or steps negative, or their sum over 2147483647 */
     CELLANG_INDEX_TOO_FAR = 23,    /* an index, or an end of an index variable's range, larger in size than its dimension; at its
                                       first token, first in source order */
@@ -128,6 +129,10 @@ enum cellang_reply {
     /* the source and both grids are accepted, but the writer writes nothing */
     CELLANG_ROOM_TOO_SHORT = 57, /* the room is shorter than the text */
 
+    /* bands of rows */
+    CELLANG_NO_PLAN = 59,  /* the planner has no plan: with the border rows not one row can be held */
+    CELLANG_BAD_PLAN = 60, /* the plan is not accepted, or the band could stand in no accepted plan */
+
     /* row counts: 61 in a run or in a question, 62 in a question */
     CELLANG_BAD_COUNTS = 61, /* in a run no such field, or counts not one a row; in a question reversed rows, rows outside the counts, or
                                 counts that are not one a row of any grid */
@@ -151,7 +156,7 @@ enum cellang_reply {
  * In a run with a value list the block of the faulting step's time is set too (30 to 33), or that of the time behind the last step (0).
  * cellang_run_pausing and cellang_run_resuming leave the same but for the marks at 0, which stand (see there).
  * Row counts are as they were after a refusal, and else those of the grid that is left (see there).
- * The writer leaves words and names as a run does; at 57 they hold the program.
+ * The writer leaves words and names as a run does; at 57 they hold the program. So do the calls on bands of rows, at 59 and 60 too.
  */
 
 /* ---- spellings */
@@ -483,6 +488,116 @@ uint32_t cellang_zeros_in_rows(
 uint32_t cellang_first_zero_row(
     const uint32_t *counts, size_t counts_length,
     uint64_t *reply, size_t reply_length);
+
+/* ---- bands of rows */
+
+/*
+ * A grid can be stepped by a caller who never holds it as a whole, but at most so many of its rows at a time: `held`. The rows are those of the
+ * first dimension, numbered from 0; where there is one dimension, each cell is a row.
+ *
+ * A band is some rows in order, from its first to its last, both included. Its cells read other rows too: the border rows before it and behind it.
+ * How many there are on either side follows from the lowest and the highest value, in the first dimension, of the indices that are written anywhere in
+ * the source; an index variable has all values of its range. The rows before row 0 are the last ones of the grid, and those behind the last row the
+ * first ones. A border row may be one of the band's own, and the same row may be a border row more than once; each counts, so that the band's rows with
+ * borders are always before + own + behind.
+ *
+ * A plan is bands, two entries each: first and last row. It is accepted if no band is empty, the bands run from row 0 to the last in order without
+ * gap or overlap, and the rows of each with borders are at most `held`. So a plan of no entries, or of an odd number, is not accepted.
+ *
+ * A step of the grid is a cellang_step_band for each band of an accepted plan, in order. It is the step that cellang_run_full makes at that time, if
+ * it is admitted: the bands' next rows together are the grid that the run leaves, and their counts add up to its count. If a band faults, its fault is
+ * the run's, with place and cell, and the counts up to it add up to the run's; the bands behind it play no part, and the old rows are the grid that is
+ * left. Next rows must not be written over old rows that a later band is still to be lent.
+ *
+ * shape is that of the whole grid. All four calls leave words and names as cellang_check does.
+ */
+
+/* The entries that tell border rows. Where fewer are lent, the first ones are told; any others stay. */
+enum cellang_border_entry {
+    CELLANG_BORDER_NUMBER = 0,          /* the reply's number */
+    CELLANG_BORDER_PLACE = 1,           /* its place */
+    CELLANG_BORDER_BEFORE = 2,          /* how many border rows stand before a band, at 0; else 0 */
+    CELLANG_BORDER_BEHIND = 3,          /* how many stand behind it, at 0; else 0 */
+    CELLANG_BORDER_SPELLING = 4,        /* where the spelling stands: a cellang_spelling */
+    CELLANG_BORDER_SPELLING_START = 5,  /* its first byte */
+    CELLANG_BORDER_SPELLING_LENGTH = 6, /* its length in bytes */
+    CELLANG_BORDER_LENGTH = 7           /* entries in all */
+};
+
+/* Tells how many border rows a source has, on either side at most as many as the grid has rows. Gives 0, or the first of: the replies of
+ * cellang_check, 20, 23. */
+uint32_t cellang_border_rows(
+    const uint8_t *source, size_t source_length,
+    const uint8_t *list, size_t list_length,
+    uint32_t *words, size_t words_length,
+    uint32_t *names, size_t names_length,
+    const uint32_t *shape, size_t shape_length,
+    uint32_t *reply, size_t reply_length);
+
+/* Checks a plan. Gives 0 if it is accepted, or the first of: the replies of cellang_check, 20, 23, 60. The entries of the reply are those of
+ * cellang_check. */
+uint32_t cellang_check_plan(
+    const uint8_t *source, size_t source_length,
+    const uint8_t *list, size_t list_length,
+    uint32_t *words, size_t words_length,
+    uint32_t *names, size_t names_length,
+    const uint32_t *shape, size_t shape_length,
+    uint32_t held,
+    const uint32_t *plan, size_t plan_length,
+    uint32_t *reply, size_t reply_length);
+
+/* The entries that tell a plan. Where fewer are lent, the first ones are told; any others stay. */
+enum cellang_planned_entry {
+    CELLANG_PLANNED_NUMBER = 0,          /* the reply's number */
+    CELLANG_PLANNED_PLACE = 1,           /* its place */
+    CELLANG_PLANNED_BANDS = 2,           /* how many bands the plan has, at 0; else 0 */
+    CELLANG_PLANNED_SPELLING = 3,        /* where the spelling stands: a cellang_spelling */
+    CELLANG_PLANNED_SPELLING_START = 4,  /* its first byte */
+    CELLANG_PLANNED_SPELLING_LENGTH = 5, /* its length in bytes */
+    CELLANG_PLANNED_LENGTH = 6           /* entries in all */
+};
+
+/*
+ * The planner: writes the accepted plan whose bands, in turn, are as long as can be. Gives 0, or the first of: the replies of cellang_check, 20, 21,
+ * 23, 59.
+ *
+ * bands is a room for one band a row: exactly two entries a row, else 21. At 0 the plan stands at its front, and the rest stays. 59 is given exactly
+ * if no plan is accepted, which is if held is at most before + behind. Every refusal leaves bands as it was.
+ */
+uint32_t cellang_plan_bands(
+    const uint8_t *source, size_t source_length,
+    const uint8_t *list, size_t list_length,
+    uint32_t *words, size_t words_length,
+    uint32_t *names, size_t names_length,
+    const uint32_t *shape, size_t shape_length,
+    uint32_t held,
+    uint32_t *bands, size_t bands_length,
+    uint32_t *reply, size_t reply_length);
+
+/*
+ * Steps one band, from row first to row last, at a time. Gives 0, 30 to 33, or the first of: the replies of cellang_check; 20; 60, if the band is
+ * reversed, ends past the last row, or has with borders more rows than held; 21; 22, as a run of one step that starts at the time; 23; 24, where the
+ * place is the number of the lowest entry of rows that is out of range.
+ *
+ * rows has the band's old rows with borders, in order: the rows from first - before to last + behind, wrapped round the first dimension, each with the
+ * fields of all its cells. room has as many entries as the band's own rows. Both lengths must be exactly these, else 21. Nothing else of the grid
+ * plays a part.
+ *
+ * At 0 room holds the band's next rows, steps is 1, and the count is the number of the band's cells. At a fault room is zero, steps is 0, and the cell
+ * is the lowest one of the band that faults, by its number in the whole grid; the count includes it. After every other reply room is as it was. The
+ * line is always 0.
+ */
+uint32_t cellang_step_band(
+    const uint8_t *source, size_t source_length,
+    const uint8_t *list, size_t list_length,
+    uint32_t *words, size_t words_length,
+    uint32_t *names, size_t names_length,
+    const uint32_t *shape, size_t shape_length,
+    uint32_t first, uint32_t last, uint32_t held,
+    const int32_t *rows, size_t rows_length,
+    int32_t *room, size_t room_length,
+    int64_t time,
+    uint64_t *report, size_t report_length);
 
 /* ---- writing a value list */
 

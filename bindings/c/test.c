@@ -1,5 +1,5 @@
 /* Calls the library from C: the marked examples M1 to M13, spellings, value lists and their writer, runs that are paused and resumed,
- * row counts, rules that move a pixel once, comparisons of grids, and what the lent memory holds afterwards. */
+ * row counts, rules that move a pixel once, bands of rows, comparisons of grids, and what the lent memory holds afterwards. */
 #ifndef _DEFAULT_SOURCE
 #define _DEFAULT_SOURCE /* for mmap of memory without a file */
 #endif
@@ -198,7 +198,10 @@ static void another_list(void) {
         const uint32_t told[CELLANG_REPLY_LENGTH] = {CELLANG_ROOM_LENGTH, 0, 0, 0, 0};
         const uint64_t told_of_run[CELLANG_REPORT_LENGTH] = {CELLANG_ROOM_LENGTH, 0, 0, 0, 0, 0, 0, 0, 0};
         const uint64_t told_of_writing[CELLANG_WRITTEN_LENGTH] = {CELLANG_ROOM_LENGTH, 0, 0, 0, 0, 0};
+        const uint32_t told_of_rows[CELLANG_BORDER_LENGTH] = {CELLANG_ROOM_LENGTH, 0, 0, 0, 0, 0, 0};
+        const uint32_t whole[] = {0, 0};
         const int32_t pair[] = {0, 1};
+        uint32_t of_rows[CELLANG_BORDER_LENGTH], bands[2];
         uint32_t count = UNTOUCHED;
         uint8_t room[4];
         uint32_t reply[CELLANG_REPLY_LENGTH];
@@ -210,6 +213,7 @@ static void another_list(void) {
         memset(scratch, UNTOUCHED, sizeof scratch);
         memset(marks, UNTOUCHED, sizeof marks);
         memset(room, UNTOUCHED, sizeof room);
+        memset(bands, UNTOUCHED, sizeof bands);
         expect(cellang_check((const uint8_t *)source, strlen(source), list, strlen(lists[i]), words, CELLANG_WORDS, names,
                              CELLANG_NAME_WORDS, reply, CELLANG_REPLY_LENGTH) == CELLANG_ROOM_LENGTH, "another list");
         expect(memcmp(reply, told, sizeof told) == 0, "another list is told");
@@ -239,6 +243,20 @@ static void another_list(void) {
                                   CELLANG_NAME_WORDS, shape, 1, pair, 1, pair + 1, 1, 0, room, sizeof room, report,
                                   CELLANG_WRITTEN_LENGTH) == CELLANG_ROOM_LENGTH, "another list in a writing");
         expect(memcmp(report, told_of_writing, sizeof told_of_writing) == 0, "another list in a writing is told");
+        expect(cellang_border_rows((const uint8_t *)source, strlen(source), list, strlen(lists[i]), words, CELLANG_WORDS, names,
+                                   CELLANG_NAME_WORDS, shape, 1, of_rows, CELLANG_BORDER_LENGTH) == CELLANG_ROOM_LENGTH
+                   && memcmp(of_rows, told_of_rows, sizeof of_rows) == 0, "another list beside border rows");
+        expect(cellang_check_plan((const uint8_t *)source, strlen(source), list, strlen(lists[i]), words, CELLANG_WORDS, names,
+                                  CELLANG_NAME_WORDS, shape, 1, 1, whole, 2, of_rows, CELLANG_REPLY_LENGTH) == CELLANG_ROOM_LENGTH
+                   && memcmp(of_rows, told_of_rows, sizeof of_rows) == 0, "another list beside a plan");
+        expect(cellang_plan_bands((const uint8_t *)source, strlen(source), list, strlen(lists[i]), words, CELLANG_WORDS, names,
+                                  CELLANG_NAME_WORDS, shape, 1, 1, bands, 2, of_rows, CELLANG_PLANNED_LENGTH) == CELLANG_ROOM_LENGTH
+                   && memcmp(of_rows, told_of_rows, sizeof of_rows) == 0 && all_bytes(bands, sizeof bands, UNTOUCHED),
+               "another list in the planner");
+        expect(cellang_step_band((const uint8_t *)source, strlen(source), list, strlen(lists[i]), words, CELLANG_WORDS, names,
+                                 CELLANG_NAME_WORDS, shape, 1, 0, 0, 1, pair, 1, grid, 1, 0, report, CELLANG_REPORT_LENGTH)
+                       == CELLANG_ROOM_LENGTH
+                   && memcmp(report, told_of_run, sizeof told_of_run) == 0, "another list beside a band");
         expect(all_bytes(words, sizeof words, UNTOUCHED) && all_bytes(names, sizeof names, UNTOUCHED)
                    && all_bytes(grid, sizeof grid, UNTOUCHED) && all_bytes(scratch, sizeof scratch, UNTOUCHED)
                    && all_bytes(marks, sizeof marks, UNTOUCHED) && all_bytes(room, sizeof room, UNTOUCHED),
@@ -279,6 +297,13 @@ static void lengths(void) {
     }
     expect(cellang_write_list(NULL, 0, NULL, 0, NULL, 0, NULL, 0, NULL, 0, NULL, 0, NULL, 0, 0, NULL, 0, NULL, 0)
                == CELLANG_ROOM_LENGTH, "nothing lent to the writer");
+    expect(cellang_border_rows(NULL, 0, NULL, 0, NULL, 0, NULL, 0, NULL, 0, NULL, 0) == CELLANG_ROOM_LENGTH, "nothing lent for border rows");
+    expect(cellang_check_plan(NULL, 0, NULL, 0, NULL, 0, NULL, 0, NULL, 0, 0, NULL, 0, NULL, 0) == CELLANG_ROOM_LENGTH,
+           "nothing lent beside a plan");
+    expect(cellang_plan_bands(NULL, 0, NULL, 0, NULL, 0, NULL, 0, NULL, 0, 0, NULL, 0, NULL, 0) == CELLANG_ROOM_LENGTH,
+           "nothing lent to the planner");
+    expect(cellang_step_band(NULL, 0, NULL, 0, NULL, 0, NULL, 0, NULL, 0, 0, 0, 0, NULL, 0, NULL, 0, 0, NULL, 0) == CELLANG_ROOM_LENGTH,
+           "nothing lent to a band");
 }
 
 static void name_list(void) {
@@ -841,6 +866,339 @@ static void row_counts(void) {
     expect_zeros(most, CELLANG_MOST_SIZE + 1, 0, 1, CELLANG_BAD_COUNTS, 0);
 }
 
+/* ---- bands of rows */
+
+#define TENS "1 dimensions of 0..9 "
+#define FROM_BEFORE TENS "cell := [-1]"
+#define MOST_PLAN 24
+#define STRIP 16
+
+/* What cellang_check tells of a source and leaves. */
+static uint32_t checked[CELLANG_REPLY_LENGTH], checked_words[CELLANG_WORDS], checked_names[CELLANG_NAME_WORDS];
+
+/* Checks a source, and makes words and names ready for a call that is to leave them so. */
+static void check_beside(const char *source) {
+    memset(checked_words, UNTOUCHED, sizeof checked_words);
+    memset(checked_names, UNTOUCHED, sizeof checked_names);
+    cellang_check((const uint8_t *)source, strlen(source), LIST, checked_words, CELLANG_WORDS, checked_names, CELLANG_NAME_WORDS,
+                  checked, CELLANG_REPLY_LENGTH);
+    memset(words, UNTOUCHED, sizeof words);
+    memset(names, UNTOUCHED, sizeof names);
+}
+
+static int left_as_checked(void) {
+    return memcmp(words, checked_words, sizeof words) == 0 && memcmp(names, checked_names, sizeof names) == 0;
+}
+
+/* Whether of a reply, which held UNTOUCHED and of which so many entries were lent, the first ones are told and the others stayed. */
+static int told_first(const uint32_t *reply, size_t lent, const uint32_t *told, size_t length) {
+    for (size_t i = 0; i <= length; i++) {
+        if (reply[i] != (i < lent && i < length ? told[i] : UNTOUCHED)) {
+            return 0;
+        }
+    }
+    return 1;
+}
+
+/* Asks for the border rows of a source, by replies of any length. */
+static void expect_border(const char *source, const uint32_t *shape, size_t dimensions, uint32_t number, uint32_t place, uint32_t before,
+                          uint32_t behind) {
+    for (size_t lent = 0; lent <= CELLANG_BORDER_LENGTH + 1; lent++) {
+        uint32_t told[CELLANG_BORDER_LENGTH] = {number, place, before, behind, 0, 0, 0};
+        uint32_t reply[CELLANG_BORDER_LENGTH + 1];
+        for (size_t i = 0; i <= CELLANG_BORDER_LENGTH; i++) {
+            reply[i] = UNTOUCHED;
+        }
+        check_beside(source);
+        memcpy(told + CELLANG_BORDER_SPELLING, checked + CELLANG_REPLY_SPELLING, 3 * sizeof *told);
+        expect(cellang_border_rows((const uint8_t *)source, strlen(source), LIST, words, CELLANG_WORDS, names, CELLANG_NAME_WORDS, shape,
+                                   dimensions, reply, lent) == number, source);
+        expect(told_first(reply, lent, told, CELLANG_BORDER_LENGTH) && left_as_checked(), source);
+    }
+}
+
+static void borders(void) {
+    const uint32_t five[] = {5}, three[] = {3}, plane[] = {4, 3}, space[] = {3, 2, 2}, wide[] = {3, 32}, none[] = {0}, most[] = {4096};
+    expect_border(TENS, five, 1, CELLANG_DONE, 0, 0, 0);
+    expect_border(FROM_BEFORE, five, 1, CELLANG_DONE, 0, 1, 0);
+    expect_border(TENS "cell := [-1] + [2]", five, 1, CELLANG_DONE, 0, 1, 2);
+    expect_border(TENS "cell := [2] + [4]", five, 1, CELLANG_DONE, 0, 0, 4);
+    expect_border(TENS "if 0 then cell := [-3] end", three, 1, CELLANG_DONE, 0, 3, 0);
+    expect_border(TENS "forall i : -3..2 cell := [i] end", three, 1, CELLANG_DONE, 0, 3, 2);
+    expect_border(TENS "cell := [-4096] + [4096]", most, 1, CELLANG_DONE, 0, 4096, 4096);
+    expect_border("2 dimensions of 0..9 cell := [0,3] + [1,-2]", plane, 2, CELLANG_DONE, 0, 0, 1);
+    expect_border("3 dimensions of 0..9 cell := [-2,1,2] + [0,2,-2]", space, 3, CELLANG_DONE, 0, 2, 0);
+    /* more than 256 places */
+    expect_border("2 dimensions of 0..9 forall i : -2..1 forall j : -32..32 cell := [i,j] end end", wide, 2, CELLANG_DONE, 0, 2, 1);
+    expect_border(TENS "cell := [6] + x", none, 0, CELLANG_NAME_UNKNOWN, 35, 0, 0);
+    expect_border("const Time := 1", five, 1, CELLANG_NAME_USED, 6, 0, 0);
+    expect_border("4 dimensions of 0..1", five, 1, CELLANG_BAD_DIMENSIONS, 0, 0, 0);
+    expect_border(TENS "cell := [6]", plane, 2, CELLANG_BAD_SHAPE, 0, 0, 0);
+    expect_border(TENS "cell := [6]", none, 1, CELLANG_BAD_SHAPE, 0, 0, 0);
+    expect_border(TENS "cell := [6]", five, 1, CELLANG_INDEX_TOO_FAR, 30, 0, 0);
+    expect_border("2 dimensions of 0..9 cell := [1,4]", plane, 2, CELLANG_INDEX_TOO_FAR, 32, 0, 0);
+}
+
+/* Checks a plan, by replies of any length. */
+static void expect_plan(const char *what, const char *source, const uint32_t *shape, size_t dimensions, uint32_t held,
+                        const uint32_t *plan, size_t plan_length, uint32_t number, uint32_t place) {
+    for (size_t lent = 0; lent <= CELLANG_REPLY_LENGTH + 1; lent++) {
+        uint32_t told[CELLANG_REPLY_LENGTH] = {number, place, 0, 0, 0};
+        uint32_t reply[CELLANG_REPLY_LENGTH + 1];
+        for (size_t i = 0; i <= CELLANG_REPLY_LENGTH; i++) {
+            reply[i] = UNTOUCHED;
+        }
+        check_beside(source);
+        memcpy(told + CELLANG_REPLY_SPELLING, checked + CELLANG_REPLY_SPELLING, 3 * sizeof *told);
+        expect(cellang_check_plan((const uint8_t *)source, strlen(source), LIST, words, CELLANG_WORDS, names, CELLANG_NAME_WORDS, shape,
+                                  dimensions, held, plan, plan_length, reply, lent) == number, what);
+        expect(told_first(reply, lent, told, CELLANG_REPLY_LENGTH) && left_as_checked(), what);
+    }
+}
+
+/* Plans in a room of which so many entries are lent, by replies of any length; the plan is to stand at its front, and the rest is to stay. */
+static void expect_planned(const char *what, const char *source, const uint32_t *shape, size_t dimensions, uint32_t held, size_t length,
+                           uint32_t number, uint32_t place, uint32_t bands, const uint32_t *plan) {
+    for (size_t lent = 0; lent <= CELLANG_PLANNED_LENGTH + 1; lent++) {
+        uint32_t told[CELLANG_PLANNED_LENGTH] = {number, place, bands, 0, 0, 0};
+        uint32_t reply[CELLANG_PLANNED_LENGTH + 1], room[MOST_PLAN];
+        for (size_t i = 0; i <= CELLANG_PLANNED_LENGTH; i++) {
+            reply[i] = UNTOUCHED;
+        }
+        memset(room, UNTOUCHED, sizeof room);
+        check_beside(source);
+        memcpy(told + CELLANG_PLANNED_SPELLING, checked + CELLANG_REPLY_SPELLING, 3 * sizeof *told);
+        expect(cellang_plan_bands((const uint8_t *)source, strlen(source), LIST, words, CELLANG_WORDS, names, CELLANG_NAME_WORDS, shape,
+                                  dimensions, held, room, length, reply, lent) == number, what);
+        expect(told_first(reply, lent, told, CELLANG_PLANNED_LENGTH) && left_as_checked(), what);
+        expect(bands == 0 || memcmp(room, plan, 2 * bands * sizeof *room) == 0, what);
+        expect(all_bytes(room + 2 * bands, sizeof room - 2 * bands * sizeof *room, UNTOUCHED), what);
+    }
+}
+
+static void plans(void) {
+    const uint32_t five[] = {5}, ten[] = {10}, three[] = {3}, one[] = {1}, plane[] = {2, 3}, square[] = {5, 5}, none[] = {0};
+    const uint32_t twos[] = {0, 1, 2, 3, 4, 4}, ones[] = {0, 0, 1, 1, 2, 2, 3, 3, 4, 4}, four[] = {0, 3, 4, 4}, whole[] = {0, 4};
+    const uint32_t threes[] = {0, 2, 3, 5, 6, 8, 9, 9}, other[] = {0, 0, 1, 2, 3, 4}, gap[] = {0, 0, 2, 3, 4, 4};
+    const uint32_t overlap[] = {0, 1, 1, 2, 3, 4}, early[] = {0, 1, 2, 3}, long_band[] = {0, 2, 3, 4}, reversed[] = {0, 1, 3, 2, 4, 4};
+    const uint32_t odd[] = {0, 1, 2, 3, 4}, past[] = {0, 1, 2, 3, 4, 5}, late[] = {1, 2, 3, 4}, turned[] = {2, 3, 0, 1, 4, 4};
+    const uint32_t empty[] = {0, UINT32_MAX, 0, 1, 2, 3, 4, 4};
+    const char *both = TENS "cell := [-1] + [1]", *round = TENS "cell := [-3] + [3]", *far = TENS "cell := [6]";
+    expect_planned("two rows a band", FROM_BEFORE, five, 1, 3, 10, CELLANG_DONE, 0, 3, twos);
+    expect_planned("one row a band", FROM_BEFORE, five, 1, 2, 10, CELLANG_DONE, 0, 5, ones);
+    expect_planned("no row beside the border row", FROM_BEFORE, five, 1, 1, 10, CELLANG_NO_PLAN, 0, 0, NULL);
+    expect_planned("no row", FROM_BEFORE, five, 1, 0, 10, CELLANG_NO_PLAN, 0, 0, NULL);
+    expect_planned("four rows, and one", FROM_BEFORE, five, 1, 5, 10, CELLANG_DONE, 0, 2, four);
+    expect_planned("all rows", FROM_BEFORE, five, 1, 6, 10, CELLANG_DONE, 0, 1, whole);
+    expect_planned("more than all rows", FROM_BEFORE, five, 1, UINT32_MAX, 10, CELLANG_DONE, 0, 1, whole);
+    expect_planned("border rows on both sides", both, ten, 1, 5, 20, CELLANG_DONE, 0, 4, threes);
+    expect_planned("as many border rows as rows", round, three, 1, 7, 6, CELLANG_DONE, 0, 3, ones);
+    expect_planned("too many border rows", round, three, 1, 6, 6, CELLANG_NO_PLAN, 0, 0, NULL);
+    expect_planned("all rows with as many on both sides", round, three, 1, 9, 6, CELLANG_DONE, 0, 1, long_band);
+    expect_planned("the first dimension counts", "2 dimensions of 0..9 cell := [0,2] + [1,0]", plane, 2, 2, 4, CELLANG_DONE, 0, 2, ones);
+    expect_planned("no border rows", TENS, five, 1, 1, 10, CELLANG_DONE, 0, 5, ones);
+    expect_planned("no border rows, and no row", TENS, five, 1, 0, 10, CELLANG_NO_PLAN, 0, 0, NULL);
+    expect_planned("a room too short", FROM_BEFORE, five, 1, 3, 8, CELLANG_LENT_LENGTH, 0, 0, NULL);
+    expect_planned("a room too short by one", FROM_BEFORE, five, 1, 3, 9, CELLANG_LENT_LENGTH, 0, 0, NULL);
+    expect_planned("a room too long", FROM_BEFORE, five, 1, 3, 11, CELLANG_LENT_LENGTH, 0, 0, NULL);
+    expect_planned("a room of the plan's length", FROM_BEFORE, five, 1, 3, 6, CELLANG_LENT_LENGTH, 0, 0, NULL);
+    expect_planned("no room", FROM_BEFORE, five, 1, 0, 0, CELLANG_LENT_LENGTH, 0, 0, NULL);
+    expect_planned("a room of entries a cell", "2 dimensions of 0..9", plane, 2, 1, 12, CELLANG_LENT_LENGTH, 0, 0, NULL);
+    expect_planned("a source that is refused", TENS "cell := [6] + x", square, 2, 0, 0, CELLANG_NAME_UNKNOWN, 35, 0, NULL);
+    expect_planned("sizes", far, square, 2, 0, 0, CELLANG_BAD_SHAPE, 0, 0, NULL);
+    expect_planned("a size of 0", far, none, 1, 0, 1, CELLANG_BAD_SHAPE, 0, 0, NULL);
+    expect_planned("a room before an index", far, five, 1, 0, 8, CELLANG_LENT_LENGTH, 0, 0, NULL);
+    expect_planned("an index too far", far, one, 1, 0, 2, CELLANG_INDEX_TOO_FAR, 30, 0, NULL);
+    expect_plan("the planner's", FROM_BEFORE, five, 1, 3, twos, 6, CELLANG_DONE, 0);
+    expect_plan("another one", FROM_BEFORE, five, 1, 3, other, 6, CELLANG_DONE, 0);
+    expect_plan("one row a band", FROM_BEFORE, five, 1, 2, ones, 10, CELLANG_DONE, 0);
+    expect_plan("one row a band where more can be held", FROM_BEFORE, five, 1, UINT32_MAX, ones, 10, CELLANG_DONE, 0);
+    expect_plan("one row too many", FROM_BEFORE, five, 1, 1, ones, 10, CELLANG_BAD_PLAN, 0);
+    expect_plan("a gap", FROM_BEFORE, five, 1, 3, gap, 6, CELLANG_BAD_PLAN, 0);
+    expect_plan("an overlap", FROM_BEFORE, five, 1, 3, overlap, 6, CELLANG_BAD_PLAN, 0);
+    expect_plan("an early end", FROM_BEFORE, five, 1, 3, early, 4, CELLANG_BAD_PLAN, 0);
+    expect_plan("four rows with the border row", FROM_BEFORE, five, 1, 3, long_band, 4, CELLANG_BAD_PLAN, 0);
+    expect_plan("four rows that can be held", FROM_BEFORE, five, 1, 4, long_band, 4, CELLANG_DONE, 0);
+    expect_plan("an empty band", FROM_BEFORE, five, 1, 3, reversed, 6, CELLANG_BAD_PLAN, 0);
+    expect_plan("an empty band at the front", FROM_BEFORE, five, 1, 3, empty, 8, CELLANG_BAD_PLAN, 0);
+    expect_plan("an odd number of entries", FROM_BEFORE, five, 1, 3, odd, 5, CELLANG_BAD_PLAN, 0);
+    expect_plan("no entries", FROM_BEFORE, five, 1, 3, NULL, 0, CELLANG_BAD_PLAN, 0);
+    expect_plan("past the last row", FROM_BEFORE, five, 1, 3, past, 6, CELLANG_BAD_PLAN, 0);
+    expect_plan("not from row 0", FROM_BEFORE, five, 1, 3, late, 4, CELLANG_BAD_PLAN, 0);
+    expect_plan("out of order", FROM_BEFORE, five, 1, 3, turned, 6, CELLANG_BAD_PLAN, 0);
+    expect_plan("a source that is refused", TENS "cell := [6] + x", square, 2, 0, NULL, 0, CELLANG_NAME_UNKNOWN, 35);
+    expect_plan("a name of the list", "const Time := 1", square, 2, 0, NULL, 0, CELLANG_NAME_USED, 6);
+    expect_plan("sizes", far, square, 2, 0, NULL, 0, CELLANG_BAD_SHAPE, 0);
+    expect_plan("an index too far", far, five, 1, 0, NULL, 0, CELLANG_INDEX_TOO_FAR, 30);
+    expect_plan("an index that is not too far", TENS "cell := [5]", five, 1, 9, whole, 2, CELLANG_BAD_PLAN, 0);
+    expect_plan("and can be held", TENS "cell := [5]", five, 1, 10, whole, 2, CELLANG_DONE, 0);
+}
+
+/* One band's call, and what it is to tell and leave. */
+struct band_call {
+    const char *what;
+    const char *source;
+    uint32_t shape[2];
+    size_t dimensions;
+    uint32_t first, last, held;
+    int32_t rows[STRIP];
+    size_t rows_length, room_length;
+    int64_t time;
+    uint64_t number, place, cell, count;
+    int32_t next[4];
+};
+
+static const struct band_call band_calls[] = {
+    /* the grid 5 6 7 8 9 in two bands */
+    {"the first band", FROM_BEFORE, {5}, 1, 0, 1, 4, {9, 5, 6}, 3, 2, 0, 0, 0, 0, 2, {9, 5}},
+    {"the second band", FROM_BEFORE, {5}, 1, 2, 4, 4, {6, 7, 8, 9}, 4, 3, 0, 0, 0, 0, 3, {6, 7, 8}},
+    {"two border rows of two rows", TENS "cell := [-2]", {2}, 1, 0, 0, 3, {5, 6, 5}, 3, 1, 0, 0, 0, 0, 1, {5}},
+    {"rows of two cells", "2 dimensions of 0..9 cell := [1,0]", {3, 2}, 2, 2, 2, 2, {7, 8, 1, 2}, 4, 2, 0, 0, 0, 0, 2, {1, 2}},
+    {"columns wrap", "2 dimensions of 0..9 cell := [1,1]", {3, 2}, 2, 2, 2, UINT32_MAX, {7, 8, 1, 2}, 4, 2, 0, 0, 0, 0, 2, {2, 1}},
+    {"two fields", "1 dimensions of a, b of 0..9 end cell.a := [1].b", {3}, 1, 1, 1, 2, {1, 2, 3, 4}, 4, 2, 0, 0, 0, 0, 1, {4, 2}},
+    {"the time", "1 dimensions of 0..2147483647 cell := time", {3}, 1, 1, 2, 2, {1, 2}, 2, 2, 2147483646, 0, 0, 0, 2,
+     {2147483646, 2147483646}},
+    /* faults: the cell by its number in the whole grid */
+    {"a fault in a band's first cell", COUNT, {5}, 1, 1, 2, 2, {3, 1}, 2, 2, 0, CELLANG_VALUE_OUTSIDE_FIELD, 26, 1, 1, {0, 0}},
+    {"a fault in a band's last cell", COUNT, {5}, 1, 3, 4, 2, {2, 3}, 2, 2, 0, CELLANG_VALUE_OUTSIDE_FIELD, 26, 4, 2, {0, 0}},
+    {"a fault in rows of two cells", "2 dimensions of 0..9 cell := 6 / cell", {4, 2}, 2, 2, 3, 2, {1, 2, 0, 0}, 4, 4, 0,
+     CELLANG_ZERO_DIVISOR, 31, 6, 3, {0, 0, 0, 0}},
+    {"no fault in a border row", TENS "cell := 6 / cell + [-1]", {5}, 1, 2, 2, 2, {0, 2}, 2, 1, 0, 0, 0, 0, 1, {3}},
+    /* refusals, in their order */
+    {"a source that is refused", TENS "cell := [6] + x", {5, 5}, 2, 1, 0, 0, {0}, 0, 1, -1, CELLANG_NAME_UNKNOWN, 35, 0, 0, {0}},
+    {"sizes", TENS "cell := [6]", {5, 5}, 2, 1, 0, 0, {0}, 0, 1, -1, CELLANG_BAD_SHAPE, 0, 0, 0, {0}},
+    {"a band too long, before the rows", TENS "cell := [6]", {5}, 1, 0, 0, 6, {0}, 0, 1, -1, CELLANG_BAD_PLAN, 0, 0, 0, {0}},
+    {"rows before the time", TENS "cell := [6]", {5}, 1, 0, 0, 7, {0}, 0, 1, -1, CELLANG_LENT_LENGTH, 0, 0, 0, {0}},
+    {"the time before an index", TENS "cell := [6]", {5}, 1, 0, 0, 7, {5, 6, 7, 8, 9, 5, 10}, 7, 1, -1, CELLANG_BAD_TIMES, 0, 0, 0, {0}},
+    {"an index before an entry", TENS "cell := [6]", {5}, 1, 0, 0, 7, {5, 6, 7, 8, 9, 5, 10}, 7, 1, 0, CELLANG_INDEX_TOO_FAR, 30, 0, 0, {0}},
+    {"an entry of a border row", TENS "cell := [5]", {5}, 1, 0, 0, 6, {5, 6, 7, 8, 9, 10}, 6, 1, 0, CELLANG_ENTRY_OUT_OF_RANGE, 5, 0, 0, {0}},
+    {"the lowest entry", FROM_BEFORE, {5}, 1, 2, 4, 4, {6, -1, 8, 10}, 4, 3, 0, CELLANG_ENTRY_OUT_OF_RANGE, 1, 0, 0, {0}},
+    {"an entry before a fault", COUNT, {5}, 1, 3, 4, 2, {3, 4}, 2, 2, 0, CELLANG_ENTRY_OUT_OF_RANGE, 1, 0, 0, {0}},
+    /* 60 */
+    {"a reversed band", FROM_BEFORE, {5}, 1, 2, 1, 4, {0}, 1, 1, 0, CELLANG_BAD_PLAN, 0, 0, 0, {0}},
+    {"a reversed band, however many rows are held", FROM_BEFORE, {5}, 1, 1, 0, UINT32_MAX, {5}, 1, 1, 0, CELLANG_BAD_PLAN, 0, 0, 0, {0}},
+    {"past the last row", FROM_BEFORE, {5}, 1, 4, 5, 4, {8, 9, 5}, 3, 2, 0, CELLANG_BAD_PLAN, 0, 0, 0, {0}},
+    {"past all rows", FROM_BEFORE, {5}, 1, UINT32_MAX, UINT32_MAX, 4, {8, 9}, 2, 1, 0, CELLANG_BAD_PLAN, 0, 0, 0, {0}},
+    {"from 0 past all rows", FROM_BEFORE, {5}, 1, 0, UINT32_MAX, UINT32_MAX, {8, 9}, 2, 1, 0, CELLANG_BAD_PLAN, 0, 0, 0, {0}},
+    {"too many rows", FROM_BEFORE, {5}, 1, 2, 4, 3, {6, 7, 8, 9}, 4, 3, 0, CELLANG_BAD_PLAN, 0, 0, 0, {0}},
+    {"no rows held", TENS, {5}, 1, 0, 0, 0, {5}, 1, 1, 0, CELLANG_BAD_PLAN, 0, 0, 0, {0}},
+    /* 21 */
+    {"a row too few", FROM_BEFORE, {5}, 1, 2, 4, 4, {7, 8, 9}, 3, 3, 0, CELLANG_LENT_LENGTH, 0, 0, 0, {0}},
+    {"a row too many", FROM_BEFORE, {5}, 1, 2, 3, 4, {6, 7, 8, 9}, 4, 2, 0, CELLANG_LENT_LENGTH, 0, 0, 0, {0}},
+    {"no rows", FROM_BEFORE, {5}, 1, 2, 4, 4, {0}, 0, 3, 0, CELLANG_LENT_LENGTH, 0, 0, 0, {0}},
+    {"a room too short", FROM_BEFORE, {5}, 1, 2, 4, 4, {6, 7, 8, 9}, 4, 2, 0, CELLANG_LENT_LENGTH, 0, 0, 0, {0}},
+    {"a room too long", FROM_BEFORE, {5}, 1, 2, 4, 4, {6, 7, 8, 9}, 4, 4, 0, CELLANG_LENT_LENGTH, 0, 0, 0, {0}},
+    {"no room", FROM_BEFORE, {5}, 1, 2, 4, 4, {6, 7, 8, 9}, 4, 0, 0, CELLANG_LENT_LENGTH, 0, 0, 0, {0}},
+    {"rows of one cell too few", "2 dimensions of 0..9 cell := [1,0]", {3, 2}, 2, 2, 2, 2, {7, 8, 1}, 3, 2, 0, CELLANG_LENT_LENGTH, 0, 0, 0,
+     {0}},
+    /* 22 */
+    {"the last time of a step", COUNT, {5}, 1, 3, 4, 2, {2, 1}, 2, 2, 2147483646, 0, 0, 0, 2, {3, 2}},
+    {"a time past it", COUNT, {5}, 1, 3, 4, 2, {2, 7}, 2, 2, 2147483647, CELLANG_BAD_TIMES, 0, 0, 0, {0}},
+    {"a negative time", COUNT, {5}, 1, 3, 4, 2, {2, 7}, 2, 2, INT64_MIN, CELLANG_BAD_TIMES, 0, 0, 0, {0}},
+};
+
+/* Steps a band, by reports of any length. */
+static void expect_band(const struct band_call *c) {
+    for (size_t lent = 0; lent <= CELLANG_REPORT_LENGTH + 1; lent++) {
+        uint64_t told[CELLANG_REPORT_LENGTH] = {c->number, c->place, c->cell, c->number == CELLANG_DONE, c->count, 0, 0, 0, 0};
+        uint64_t report[CELLANG_REPORT_LENGTH + 1];
+        int32_t room[5];
+        const size_t size = c->room_length * sizeof *room;
+        for (size_t i = 0; i <= CELLANG_REPORT_LENGTH; i++) {
+            report[i] = UNTOUCHED;
+        }
+        memset(room, UNTOUCHED, sizeof room);
+        check_beside(c->source);
+        for (size_t i = 0; i < 3; i++) {
+            told[CELLANG_REPORT_SPELLING + i] = checked[CELLANG_REPLY_SPELLING + i];
+        }
+        expect(cellang_step_band((const uint8_t *)c->source, strlen(c->source), LIST, words, CELLANG_WORDS, names, CELLANG_NAME_WORDS,
+                                 c->shape, c->dimensions, c->first, c->last, c->held, c->rows, c->rows_length, room, c->room_length, c->time,
+                                 report, lent) == c->number, c->what);
+        for (size_t i = 0; i <= CELLANG_REPORT_LENGTH; i++) {
+            expect(report[i] == (i < lent && i < CELLANG_REPORT_LENGTH ? told[i] : UNTOUCHED), c->what);
+        }
+        expect(began(c->number) ? memcmp(room, c->next, size) == 0 : all_bytes(room, size, UNTOUCHED), c->what);
+        expect(all_bytes(room + c->room_length, sizeof room - size, UNTOUCHED) && left_as_checked(), c->what);
+    }
+}
+
+/* Steps each band of a plan by its old rows, until one faults, and puts the next rows together. Tells the last report, with the sum of the counts. */
+static void step_by_bands(const char *source, const uint32_t *shape, size_t dimensions, size_t row, uint32_t held, const uint32_t *plan,
+                          uint32_t bands, const uint32_t *border, const int32_t *old, int32_t *next, int64_t time, uint64_t *told) {
+    uint64_t count = 0;
+    for (uint32_t band = 0; band < bands && (band == 0 || told[CELLANG_REPORT_NUMBER] == CELLANG_DONE); band++) {
+        const uint32_t first = plan[2 * band], last = plan[2 * band + 1], before = border[CELLANG_BORDER_BEFORE];
+        const uint32_t with = before + (last - first + 1) + border[CELLANG_BORDER_BEHIND];
+        int32_t lent[4 * STRIP];
+        for (uint32_t i = 0; i < with; i++) {
+            memcpy(lent + i * row, old + (first + i + shape[0] - before) % shape[0] * row, row * sizeof *lent);
+        }
+        cellang_step_band((const uint8_t *)source, strlen(source), LIST, words, CELLANG_WORDS, names, CELLANG_NAME_WORDS, shape, dimensions,
+                          first, last, held, lent, with * row, next + first * row, (last - first + 1) * row, time, told,
+                          CELLANG_REPORT_LENGTH);
+        count += told[CELLANG_REPORT_COUNT];
+    }
+    told[CELLANG_REPORT_COUNT] = count;
+}
+
+/* Steps a grid by the planner's bands, whatever can be held, and holds it to the full run of one step. */
+static void expect_step_by_bands(const char *source, const uint32_t *shape, size_t dimensions, size_t row, size_t cells,
+                                 const int32_t *old, int64_t time, uint32_t before, uint32_t behind) {
+    const size_t entries = shape[0] * row;
+    uint64_t full[CELLANG_REPORT_LENGTH], told[CELLANG_REPORT_LENGTH];
+    uint32_t border[CELLANG_BORDER_LENGTH], planned[CELLANG_PLANNED_LENGTH], plan[MOST_PLAN];
+    int32_t after[STRIP], after_scratch[STRIP], next[STRIP];
+    uint8_t after_marks[STRIP];
+    memcpy(after, old, entries * sizeof *old);
+    cellang_run_full((const uint8_t *)source, strlen(source), LIST, words, CELLANG_WORDS, names, CELLANG_NAME_WORDS, shape, dimensions, after,
+                     entries, after_scratch, entries, after_marks, cells, time, 1, full, CELLANG_REPORT_LENGTH);
+    expect(began(full[0]), source);
+    expect(cellang_border_rows((const uint8_t *)source, strlen(source), LIST, words, CELLANG_WORDS, names, CELLANG_NAME_WORDS, shape,
+                               dimensions, border, CELLANG_BORDER_LENGTH) == CELLANG_DONE, source);
+    expect(border[CELLANG_BORDER_BEFORE] == before && border[CELLANG_BORDER_BEHIND] == behind, source);
+    for (uint32_t held = 0; held <= before + shape[0] + behind + 1; held++) {
+        uint32_t given = cellang_plan_bands((const uint8_t *)source, strlen(source), LIST, words, CELLANG_WORDS, names, CELLANG_NAME_WORDS,
+                                            shape, dimensions, held, plan, 2 * shape[0], planned, CELLANG_PLANNED_LENGTH);
+        if (held <= before + behind) {
+            expect(given == CELLANG_NO_PLAN, source);
+            continue;
+        }
+        expect(given == CELLANG_DONE, source);
+        expect(cellang_check_plan((const uint8_t *)source, strlen(source), LIST, words, CELLANG_WORDS, names, CELLANG_NAME_WORDS, shape,
+                                  dimensions, held, plan, 2 * planned[CELLANG_PLANNED_BANDS], NULL, 0) == CELLANG_DONE, source);
+        step_by_bands(source, shape, dimensions, row, held, plan, planned[CELLANG_PLANNED_BANDS], border, old, next, time, told);
+        expect(memcmp(told, full, sizeof full) == 0, source);
+        expect(full[0] != CELLANG_DONE || memcmp(next, after, entries * sizeof *next) == 0, source);
+    }
+}
+
+static void bands_of_rows(void) {
+    const uint32_t five[] = {5}, three[] = {3}, one[] = {1}, plane[] = {4, 3}, pairs[] = {4, 2}, space[] = {3, 2, 2};
+    const int32_t numbers[STRIP] = {5, 6, 7, 8, 9, 0, 1, 4, 2, 3, 1, 7, 9, 2, 6, 3}, climbing[] = {0, 3, 1, 3, 2}, low[] = {0, 1, 2, 0, 3};
+    borders();
+    plans();
+    for (size_t i = 0; i < sizeof band_calls / sizeof *band_calls; i++) {
+        expect_band(&band_calls[i]);
+    }
+    expect_step_by_bands(FROM_BEFORE, five, 1, 1, 5, numbers, 0, 1, 0);
+    expect_step_by_bands(TENS "cell := ([-2] + cell + [1] + time) % 10", five, 1, 1, 5, numbers, 7, 2, 1);
+    expect_step_by_bands(TENS "cell := ([-3] + [3] + [2]) % 10", three, 1, 1, 3, numbers, 0, 3, 3);
+    expect_step_by_bands(TENS "cell := [1]", one, 1, 1, 1, numbers, 0, 0, 1);
+    expect_step_by_bands(TENS "cell := 9 - cell", five, 1, 1, 5, numbers, 0, 0, 0);
+    expect_step_by_bands("2 dimensions of 0..9 cell := ([-4,-1] + [1,2] + 3 * [0,1]) % 10", plane, 2, 3, 12, numbers, 0, 4, 1);
+    expect_step_by_bands("2 dimensions of a, b of 0..9 end cell.a := [-1,1].b cell.b := ([2,0].a + [0,1].b) % 10", pairs, 2, 4, 8, numbers,
+                         0, 1, 2);
+    expect_step_by_bands("3 dimensions of 0..9 cell := ([-1,1,0] + [3,-1,1]) % 10", space, 3, 4, 12, numbers, 0, 1, 3);
+    expect_step_by_bands("3 dimensions of 0..9 x := 0 forall i : -1..1 x := x + [i,i,0] end cell := x % 10", space, 3, 4, 12, numbers, 0, 1, 1);
+    /* faults in several bands */
+    expect_step_by_bands(COUNT, five, 1, 1, 5, climbing, 0, 0, 0);
+    expect_step_by_bands("1 dimensions of 0..3 cell := cell + [-1]", five, 1, 1, 5, climbing, 0, 1, 0);
+    expect_step_by_bands("1 dimensions of 0..3 cell := 3 / [2]", five, 1, 1, 5, low, 0, 0, 2);
+    expect_step_by_bands("1 dimensions of 0..3 cell := cell + 1", five, 1, 1, 5, low, 0, 0, 0);
+    expect_step_by_bands("2 dimensions of 0..9 cell := cell / ([0,1] - [-1,0])", pairs, 2, 2, 8, numbers, 0, 1, 0);
+}
+
 /* ---- the writer */
 
 #define MOST_ROOM 64
@@ -1146,6 +1504,7 @@ int main(void) {
     report_lengths();
     pauses();
     row_counts();
+    bands_of_rows();
     writings();
     one_move();
     comparisons();

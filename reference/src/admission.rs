@@ -1,6 +1,7 @@
 //! What is tried before a run or a writing: the lengths of the tables, the
-//! source, 20 to 24, a run's counts, and its list.
+//! source, 20 to 24, a run's counts, its list, and its plan.
 
+use crate::bands::{accepted, border};
 use crate::lists::{read_list, Block, Limits};
 use crate::names::MAX_NAMES;
 use crate::one_move::flag;
@@ -23,7 +24,7 @@ pub struct Report {
     pub count: u64,
 }
 
-/// A refusal 1 to 24, 40 to 45 or 61.
+/// A refusal that has a number and a place.
 #[derive(Clone, Copy, PartialEq, Eq, Debug)]
 pub struct Refusal {
     pub number: u32,
@@ -65,16 +66,53 @@ impl Read<'_> {
 /// The program of a source that is accepted.
 pub fn program_of(read: &Read) -> Result<Program, Refusal> {
     if read.list != BUILT_IN || read.words != WORDS || read.names != MAX_NAMES {
-        return Err(Refusal {
-            number: 1,
-            place: 0,
-        });
+        return refused(1, 0);
     }
     let checked = check(read.source);
     checked.program.ok_or(Refusal {
         number: checked.reply.number,
         place: checked.reply.place,
     })
+}
+
+fn refused<T>(number: u32, place: u32) -> Result<T, Refusal> {
+    Err(Refusal { number, place })
+}
+
+/// 20: the sizes are wrong. Else the number of cells.
+pub fn admit_sizes(program: &Program, shape: &[u32]) -> Result<usize, Refusal> {
+    cells_of(program, shape).map_or(refused(20, 0), Ok)
+}
+
+/// 22: a time is negative, or the last over the greatest value.
+pub fn admit_times(start: i64, steps: i64) -> Result<(), Refusal> {
+    let last = i128::from(start) + i128::from(steps);
+    if start < 0 || steps < 0 || last > i128::from(GREATEST) {
+        return refused(22, 0);
+    }
+    Ok(())
+}
+
+/// 23: an index is larger in size than its dimension.
+pub fn admit_indices(program: &Program, shape: &[u32]) -> Result<(), Refusal> {
+    for written in &program.written {
+        let size = i64::from(shape[written.dimension]);
+        if i64::from(written.low).abs() > size || i64::from(written.high).abs() > size {
+            return refused(23, written.place);
+        }
+    }
+    Ok(())
+}
+
+/// 24: an entry is outside its field's range.
+pub fn admit_entries(program: &Program, entries: &[i32]) -> Result<(), Refusal> {
+    for (entry, value) in entries.iter().enumerate() {
+        let field = program.fields[entry % program.fields.len()];
+        if *value < field.low || *value > field.high {
+            return refused(24, entry as u32);
+        }
+    }
+    Ok(())
 }
 
 /// The number of cells, or none if the sizes are wrong.
@@ -94,38 +132,29 @@ pub struct Asked<'a> {
     pub grid: &'a [i32],
     /// The lengths of scratch and marks.
     pub rooms: Option<(usize, usize)>,
+    /// The rows that a run under a plan holds, and the length of its room.
+    pub held: Option<(u32, usize)>,
     pub start: i64,
     pub steps: i64,
 }
 
 /// 20 to 24, in this order.
 pub fn admit_grid(program: &Program, asked: &Asked) -> Result<(), Refusal> {
-    let refused = |number, place| Err(Refusal { number, place });
-    let Some(cells) = cells_of(program, asked.shape) else {
-        return refused(20, 0);
-    };
+    let cells = admit_sizes(program, asked.shape)?;
     let entries = cells * program.fields.len();
     let rooms = asked.rooms.unwrap_or((entries, cells));
     if asked.grid.len() != entries || rooms != (entries, cells) {
         return refused(21, 0);
     }
-    let last = i128::from(asked.start) + i128::from(asked.steps);
-    if asked.start < 0 || asked.steps < 0 || last > i128::from(GREATEST) {
-        return refused(22, 0);
-    }
-    for written in &program.written {
-        let size = i64::from(asked.shape[written.dimension]);
-        if i64::from(written.low).abs() > size || i64::from(written.high).abs() > size {
-            return refused(23, written.place);
+    if let Some((held, room)) = asked.held {
+        let row = (entries / asked.shape[0] as usize) as u128;
+        if room as u128 != u128::from(held) * row {
+            return refused(21, 0);
         }
     }
-    for (entry, value) in asked.grid.iter().enumerate() {
-        let field = program.fields[entry % program.fields.len()];
-        if *value < field.low || *value > field.high {
-            return refused(24, entry as u32);
-        }
-    }
-    Ok(())
+    admit_times(asked.start, asked.steps)?;
+    admit_indices(program, asked.shape)?;
+    admit_entries(program, asked.grid)
 }
 
 /// What is lent to a run beside the memory it writes.
@@ -150,14 +179,35 @@ pub struct Counted {
     pub counts: usize,
 }
 
+/// The plan that a run is under: so many rows are held, in a room of so many
+/// entries.
+#[derive(Clone, Copy, PartialEq, Eq, Debug)]
+pub struct Under<'a> {
+    pub plan: &'a [u32],
+    pub held: u32,
+    pub room: usize,
+}
+
+/// What a run is asked beside its steps.
+#[derive(Clone, Copy, PartialEq, Eq, Debug, Default)]
+pub struct Beside<'a> {
+    pub counted: Option<Counted>,
+    pub under: Option<Under<'a>>,
+}
+
 /// 61: no such field, or counts that are not one a row.
 fn admit_counts(program: &Program, shape: &[u32], counted: Counted) -> Result<(), Refusal> {
     let rows = shape[0] as usize;
     if counted.field as usize >= program.fields.len() || counted.counts != rows {
-        return Err(Refusal {
-            number: 61,
-            place: 0,
-        });
+        return refused(61, 0);
+    }
+    Ok(())
+}
+
+/// 60: the plan is not accepted.
+fn admit_plan(program: &Program, shape: &[u32], under: Under) -> Result<(), Refusal> {
+    if !accepted(shape[0], border(program), under.held, under.plan) {
+        return refused(60, 0);
     }
     Ok(())
 }
@@ -169,17 +219,17 @@ pub fn admit(
     scratch: &[i32],
     marks: &[u8],
 ) -> Result<(Program, Vec<Block>), Report> {
-    admit_counted(lent, grid, scratch, marks, None)
+    admit_beside(lent, grid, scratch, marks, Beside::default())
 }
 
-/// The same of a run that is asked to count, or not: 61 stands behind 24 and
-/// before the list.
-pub fn admit_counted(
+/// The same of a run that is asked more: 61 stands behind 24 and before the
+/// list, 60 is tried last.
+pub fn admit_beside(
     lent: &Lent,
     grid: &[i32],
     scratch: &[i32],
     marks: &[u8],
-    counted: Option<Counted>,
+    beside: Beside,
 ) -> Result<(Program, Vec<Block>), Report> {
     let program = program_of(&Read {
         source: lent.source,
@@ -191,11 +241,12 @@ pub fn admit_counted(
         shape: lent.shape,
         grid,
         rooms: Some((scratch.len(), marks.len())),
+        held: beside.under.map(|under| (under.held, under.room)),
         start: lent.start,
         steps: lent.steps,
     };
     admit_grid(&program, &asked)?;
-    if let Some(counted) = counted {
+    if let Some(counted) = beside.counted {
         admit_counts(&program, lent.shape, counted)?;
     }
     let limits = Limits {
@@ -205,12 +256,13 @@ pub fn admit_counted(
         start: lent.start,
         steps: lent.steps,
     };
-    match read_list(lent.values, &limits) {
-        Ok(blocks) => Ok((program, blocks)),
-        Err(bad) => Err(Report {
-            number: bad.number,
-            line: bad.line,
-            ..Report::default()
-        }),
+    let blocks = read_list(lent.values, &limits).map_err(|bad| Report {
+        number: bad.number,
+        line: bad.line,
+        ..Report::default()
+    })?;
+    if let Some(under) = beside.under {
+        admit_plan(&program, lent.shape, under)?;
     }
+    Ok((program, blocks))
 }

@@ -72,6 +72,16 @@ impl Left {
     pub fn faulted(&self) -> bool {
         self.began() && self.report.number != 0
     }
+
+    /// The line of what is left, with the words for its rooms.
+    pub fn line(&self, rooms: &str) -> String {
+        let report = report_text(&self.report);
+        let grid = row_text(&self.grid);
+        let digits = self.marks.iter().map(|mark| format!("{mark:02x}"));
+        let marks: String = digits.collect();
+        let counts = row_text(&self.counts);
+        format!("{report} {rooms} :{grid} : {marks} :{counts}\n")
+    }
 }
 
 impl Call {
@@ -158,15 +168,7 @@ impl Call {
 
 /// The line that answers a call.
 pub fn call_line(left: &Left) -> String {
-    let report = report_text(&left.report);
-    let grid = row_text(&left.grid);
-    let marks: String = left
-        .marks
-        .iter()
-        .map(|mark| format!("{mark:02x}"))
-        .collect();
-    let counts = row_text(&left.counts);
-    format!("{report} {} :{grid} : {marks} :{counts}\n", left.scratch)
+    left.line(left.scratch)
 }
 
 /// The binary form of a call.

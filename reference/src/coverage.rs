@@ -1,5 +1,6 @@
 //! How often generated cases show what they are generated for.
 
+mod bands;
 mod moves;
 
 use crate::call_case::{Call, Left};
@@ -12,6 +13,7 @@ use crate::places::places;
 use crate::rows::row_counts;
 use crate::vectors;
 use crate::write_case::write_case;
+use bands::{see_band, see_banded, see_plan, see_planner};
 use moves::{see_moving, see_near, see_shown};
 
 /// What was seen, in the order in which it is printed: how often, and whether
@@ -375,6 +377,26 @@ fn kinds(seed: u64, count: usize, seen: &mut Seen) -> Vec<Kind> {
             "shown",
             vectors::shown(seed, part).map(|case| see_shown(&case, seen)),
             &[0..=1, 20..=24, 57..=57],
+        ),
+        Kind::new(
+            "plans",
+            vectors::plans(seed, part).map(|case| see_plan(&case, seen)),
+            &[0..=1, 20..=20, 23..=23, 60..=60],
+        ),
+        Kind::new(
+            "planners",
+            vectors::planners(seed, part).map(|case| see_planner(&case, seen)),
+            &[0..=1, 20..=21, 23..=23, 59..=59],
+        ),
+        Kind::new(
+            "bands",
+            vectors::bands(seed, part).map(|case| see_band(&case, seen)),
+            &[0..=1, 20..=24, 30..=33, 60..=60],
+        ),
+        Kind::new(
+            "banded",
+            vectors::banded(seed, part, false).map(|case| see_banded(&case, seen)),
+            &[0..=1, 20..=24, 30..=33, 50..=56, 58..=58, 60..=61],
         ),
     ]
 }

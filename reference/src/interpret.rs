@@ -170,6 +170,62 @@ impl Cell<'_> {
     }
 }
 
+impl<'a> Cell<'a> {
+    /// The first cell of a grid of these sizes.
+    fn first(program: &'a Program, shape: &[u32], time: i32, old: &'a [i32]) -> Cell<'a> {
+        let mut sizes = [1; 3];
+        for (own, &size) in sizes.iter_mut().zip(shape) {
+            *own = size as i32;
+        }
+        Cell {
+            program,
+            fields: program.fields.len(),
+            sizes,
+            old,
+            time,
+            index: [0; 3],
+            number: 0,
+            slots: vec![0; program.slots],
+            next: [0; MAX_FIELDS],
+        }
+    }
+
+    /// Goes to the next cell.
+    fn advance(&mut self) {
+        self.number += 1;
+        for dimension in (0..self.program.dimensions).rev() {
+            self.index[dimension] += 1;
+            if self.index[dimension] < self.sizes[dimension] {
+                break;
+            }
+            self.index[dimension] = 0;
+        }
+    }
+
+    /// Evaluates this cell and those behind it, as many as `new` has room for,
+    /// or up to the first fault, whose cell is counted from this one.
+    fn evaluate(
+        mut self,
+        new: &mut [i32],
+        is_open: impl Fn(usize) -> bool,
+    ) -> Result<(), (usize, Fault)> {
+        let (program, fields) = (self.program, self.fields);
+        for (count, next) in new.chunks_exact_mut(fields).enumerate() {
+            self.slots.fill(0);
+            let own = self.number * fields..(self.number + 1) * fields;
+            self.next[..fields].copy_from_slice(&self.old[own]);
+            if is_open(count) {
+                if let Err(fault) = self.run(&program.statements) {
+                    return Err((count, fault));
+                }
+            }
+            next.copy_from_slice(&self.next[..fields]);
+            self.advance();
+        }
+        Ok(())
+    }
+}
+
 /// One step of the definition: from `old` to `new`, or the lowest faulting
 /// cell and its first fault.
 pub fn step(
@@ -192,42 +248,28 @@ pub fn step_open(
     new: &mut [i32],
     is_open: impl Fn(usize) -> bool,
 ) -> Result<(), (usize, Fault)> {
-    let fields = program.fields.len();
-    let mut cell = Cell {
-        program,
-        fields,
-        sizes: [1; 3],
-        old,
-        time,
-        index: [0; 3],
-        number: 0,
-        slots: vec![0; program.slots],
-        next: [0; MAX_FIELDS],
-    };
-    for (dimension, &size) in shape.iter().enumerate() {
-        cell.sizes[dimension] = size as i32;
-    }
-    let cells = old.len() / fields;
-    for number in 0..cells {
-        cell.number = number;
-        cell.slots.fill(0);
-        let own = number * fields..(number + 1) * fields;
-        cell.next[..fields].copy_from_slice(&old[own.clone()]);
-        if is_open(number) {
-            if let Err(fault) = cell.run(&program.statements) {
-                return Err((number, fault));
-            }
-        }
-        new[own].copy_from_slice(&cell.next[..fields]);
-        for dimension in (0..shape.len()).rev() {
-            cell.index[dimension] += 1;
-            if cell.index[dimension] < cell.sizes[dimension] {
-                break;
-            }
-            cell.index[dimension] = 0;
-        }
-    }
-    Ok(())
+    Cell::first(program, shape, time, old).evaluate(new, is_open)
+}
+
+/// One step of a band: `old` has its rows with the border rows around them, the
+/// first own row behind `before` others. The next own rows go to `new`. A fault's
+/// cell is counted from the band's first.
+///
+/// In the first dimension no index wraps: a row that is not lent is read nowhere.
+pub fn step_rows(
+    program: &Program,
+    shape: &[u32],
+    time: i32,
+    before: usize,
+    old: &[i32],
+    new: &mut [i32],
+) -> Result<(), (usize, Fault)> {
+    let mut cell = Cell::first(program, shape, time, old);
+    // With this size any other row is out of bounds.
+    cell.sizes[0] = i32::MAX;
+    cell.index[0] = before as i32;
+    cell.number = before * shape[1..].iter().product::<u32>() as usize;
+    cell.evaluate(new, |_| true)
 }
 
 /// The full run. A block is set before its time's step, or after the last.

@@ -2,6 +2,9 @@
 //! full or quiet, and makes test cases with their replies.
 
 pub mod admission;
+pub mod band_case;
+pub mod banded;
+pub mod bands;
 pub mod blocks;
 pub mod call_case;
 pub mod case;
@@ -28,6 +31,7 @@ pub mod pairs;
 pub mod parse;
 pub mod pausing;
 pub mod places;
+pub mod plans;
 pub mod random;
 pub mod resumed;
 pub mod rows;
@@ -35,6 +39,7 @@ pub mod runs;
 pub mod soup;
 pub mod spelled;
 pub mod spelling;
+pub mod strips;
 pub mod text;
 pub mod tree;
 pub mod vectors;
@@ -42,6 +47,7 @@ pub mod write_case;
 pub mod writing;
 pub mod writings;
 pub mod written;
+pub mod written_bands;
 pub mod written_calls;
 pub mod written_counts;
 pub mod written_lists;

@@ -57,6 +57,7 @@ pub fn admitted(case: &RunCase, program: &Program) -> bool {
         shape: &case.shape,
         grid: &case.grid,
         rooms: Some((case.scratch, case.marks)),
+        held: None,
         start: case.start,
         steps: case.steps,
     };

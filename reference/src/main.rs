@@ -20,16 +20,16 @@ usage: reference check                        one source on standard input
        reference cases checks|runs|lists SEED COUNT [--small]
        reference stream KIND SEED COUNT [--small] [--replies]
                                               checks, runs, lists, writings, chains, resumed, counted, near,
-                                              moving or shown
+                                              moving, shown, plans, planners, bands or banded
        reference vectors DIR
        reference verify ROOT
        reference count SEED COUNT
 ";
 
 /// The kinds of cases that are streamed.
-const STREAMS: [&str; 10] = [
+const STREAMS: [&str; 14] = [
     "checks", "runs", "lists", "writings", "chains", "resumed", "counted", "near", "moving",
-    "shown",
+    "shown", "plans", "planners", "bands", "banded",
 ];
 
 fn main() -> ExitCode {
@@ -244,6 +244,26 @@ fn stream(what: &str, seed: u64, count: usize, small: bool, replies: bool) -> io
                 if !chain.joins() {
                     return Err(io::Error::other("a chain that does not join"));
                 }
+            }
+        }
+        "plans" => {
+            for case in vectors::plans(seed, count) {
+                put(&|bytes| case.put(bytes), &|| case.line())?;
+            }
+        }
+        "planners" => {
+            for case in vectors::planners(seed, count) {
+                put(&|bytes| case.put(bytes), &|| case.line())?;
+            }
+        }
+        "bands" => {
+            for case in vectors::bands(seed, count) {
+                put(&|bytes| case.put(bytes), &|| case.line())?;
+            }
+        }
+        "banded" => {
+            for case in vectors::banded(seed, count, small) {
+                put(&|bytes| case.put(bytes), &|| case.line())?;
             }
         }
         "resumed" | "counted" | "moving" => {

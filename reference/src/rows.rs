@@ -1,7 +1,7 @@
 //! Row counts: for each row of the first dimension, how many cells have 0 in
 //! one chosen field; the run that keeps them, and what is asked of them.
 
-use crate::admission::{admit_counted, Counted, Lent, Report, MAX_SIZE};
+use crate::admission::{admit_beside, Beside, Counted, Lent, Report, MAX_SIZE};
 use crate::pausing::{run, Manner};
 
 /// The row counts of a grid.
@@ -29,7 +29,11 @@ pub fn run_counted(
         field,
         counts: counts.len(),
     };
-    let fields = match admit_counted(lent, grid, scratch, marks, Some(counted)) {
+    let beside = Beside {
+        counted: Some(counted),
+        under: None,
+    };
+    let fields = match admit_beside(lent, grid, scratch, marks, beside) {
         Ok((program, _)) => program.fields.len(),
         Err(report) => return report,
     };

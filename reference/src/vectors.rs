@@ -1,5 +1,6 @@
 //! The stored vectors, and rows of generated cases.
 
+use crate::band_case::{BandCase, BandedCase, PlanCase, PlannerCase};
 use crate::call_case::{call_line, put_call, Call};
 use crate::case::{check_answer, put_check, put_run, run_lines, RunCase};
 use crate::chains::{self, Chain};
@@ -10,11 +11,13 @@ use crate::limits;
 use crate::listed;
 use crate::moving;
 use crate::near;
+use crate::plans;
 use crate::random::Random;
 use crate::resumed;
 use crate::runs;
 use crate::soup::{soup, HALVES};
 use crate::spelled;
+use crate::strips;
 use crate::text::{any_style, write, Style};
 use crate::write_case::{put_writing, writing_line, WriteCase};
 use crate::writings;
@@ -159,6 +162,30 @@ pub fn moving(seed: u64, count: usize, small: bool) -> impl Iterator<Item = Call
 pub fn shown(seed: u64, count: usize) -> impl Iterator<Item = WriteCase> {
     let mut random = Random::new(seed.wrapping_add(1 << 51));
     (0..count).map(move |_| moving::writing(&mut random))
+}
+
+/// Generated plan checks, in order.
+pub fn plans(seed: u64, count: usize) -> impl Iterator<Item = PlanCase> {
+    let mut random = Random::new(seed.wrapping_add(1 << 52));
+    (0..count).map(move |_| plans::any_plan(&mut random))
+}
+
+/// Generated planner calls, in order.
+pub fn planners(seed: u64, count: usize) -> impl Iterator<Item = PlannerCase> {
+    let mut random = Random::new(seed.wrapping_add(1 << 53));
+    (0..count).map(move |_| plans::any_planner(&mut random))
+}
+
+/// Generated band calls, in order.
+pub fn bands(seed: u64, count: usize) -> impl Iterator<Item = BandCase> {
+    let mut random = Random::new(seed.wrapping_add(1 << 54));
+    (0..count).map(move |_| strips::any_band(&mut random))
+}
+
+/// Generated runs under a plan, in order.
+pub fn banded(seed: u64, count: usize, small: bool) -> impl Iterator<Item = BandedCase> {
+    let mut random = Random::new(seed.wrapping_add(1 << 55));
+    (0..count).map(move |_| strips::any_banded(&mut random, small))
 }
 
 /// Sources from the papers' own examples.

@@ -29,6 +29,7 @@ fn admit_one(program: &Program, wanted: &Wanted, grid: &[i32]) -> Result<(), Ref
         shape: wanted.shape,
         grid,
         rooms: None,
+        held: None,
         start: wanted.time,
         steps: 0,
     };

@@ -288,6 +288,7 @@ fn in_parts(case: &RunCase) -> Option<Vec<i32>> {
         shape: &case.shape,
         grid: &case.grid,
         rooms: Some((case.scratch, case.marks)),
+        held: None,
         start: case.start,
         steps: case.steps,
     };

@@ -93,8 +93,8 @@ impl Counts {
 }
 
 /// The number of rows of a shape; 0 where there are too many, which is refused
-/// before the counts are looked at.
-fn rows_of(shape: &[u32]) -> usize {
+/// before what has entries a row is looked at.
+pub(crate) fn rows_of(shape: &[u32]) -> usize {
     let rows = shape.first().filter(|&&rows| rows <= MOST_SIZE);
     rows.map_or(0, |&rows| rows as usize)
 }

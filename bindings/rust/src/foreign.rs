@@ -19,6 +19,14 @@ pub const WRITTEN: usize = 6;
 /// How many entries answer a question about row counts: number and value.
 pub const ROWS: usize = 2;
 
+/// How many entries tell border rows: number, place, how many there are before
+/// and behind a band, and the spelling's three.
+pub const BORDER: usize = 7;
+
+/// How many entries tell a plan: number, place, how many bands there are, and
+/// the spelling's three.
+pub const PLANNED: usize = 6;
+
 /// The spelling stands in the source.
 pub const IN_SOURCE: u32 = 1;
 
@@ -408,6 +416,80 @@ extern "C" {
         reply_length: usize,
     ) -> u32;
 
+    pub fn cellang_border_rows(
+        source: *const u8,
+        source_length: usize,
+        list: *const u8,
+        list_length: usize,
+        words: *mut u32,
+        words_length: usize,
+        names: *mut u32,
+        names_length: usize,
+        sizes: *const u32,
+        sizes_length: usize,
+        reply: *mut u32,
+        reply_length: usize,
+    ) -> u32;
+
+    pub fn cellang_check_plan(
+        source: *const u8,
+        source_length: usize,
+        list: *const u8,
+        list_length: usize,
+        words: *mut u32,
+        words_length: usize,
+        names: *mut u32,
+        names_length: usize,
+        sizes: *const u32,
+        sizes_length: usize,
+        held: u32,
+        plan: *const u32,
+        plan_length: usize,
+        reply: *mut u32,
+        reply_length: usize,
+    ) -> u32;
+
+    pub fn cellang_plan_bands(
+        source: *const u8,
+        source_length: usize,
+        list: *const u8,
+        list_length: usize,
+        words: *mut u32,
+        words_length: usize,
+        names: *mut u32,
+        names_length: usize,
+        sizes: *const u32,
+        sizes_length: usize,
+        held: u32,
+        bands: *mut u32,
+        bands_length: usize,
+        reply: *mut u32,
+        reply_length: usize,
+    ) -> u32;
+
+    pub fn cellang_step_band(
+        source: *const u8,
+        source_length: usize,
+        list: *const u8,
+        list_length: usize,
+        words: *mut u32,
+        words_length: usize,
+        names: *mut u32,
+        names_length: usize,
+        sizes: *const u32,
+        sizes_length: usize,
+        first: u32,
+        last: u32,
+        held: u32,
+        rows: *const i32,
+        rows_length: usize,
+        room: *mut i32,
+        room_length: usize,
+        time: i64,
+        report: *mut u64,
+        report_length: usize,
+    ) -> u32;
+
     pub fn cellang_write_list(
         source: *const u8,
         source_length: usize,
@@ -445,7 +527,9 @@ extern "C" {
 
 #[cfg(test)]
 mod tests {
-    use super::{COMPARISON, IN_LIST, IN_SOURCE, PROFILE, REPLY, REPORT, ROWS, WRITTEN};
+    use super::{
+        BORDER, COMPARISON, IN_LIST, IN_SOURCE, PLANNED, PROFILE, REPLY, REPORT, ROWS, WRITTEN,
+    };
 
     #[test]
     fn the_header_says_the_same() {
@@ -474,6 +558,17 @@ mod tests {
         assert_eq!(named("CELLANG_WRITTEN_SPELLING_LENGTH"), Some(5));
         assert_eq!(named("CELLANG_ROWS_LENGTH"), Some(ROWS));
         assert_eq!(named("CELLANG_ROWS_VALUE"), Some(1));
+        assert_eq!(named("CELLANG_BORDER_LENGTH"), Some(BORDER));
+        assert_eq!(named("CELLANG_BORDER_BEFORE"), Some(2));
+        assert_eq!(named("CELLANG_BORDER_BEHIND"), Some(3));
+        assert_eq!(named("CELLANG_BORDER_SPELLING"), Some(4));
+        assert_eq!(named("CELLANG_BORDER_SPELLING_START"), Some(5));
+        assert_eq!(named("CELLANG_BORDER_SPELLING_LENGTH"), Some(6));
+        assert_eq!(named("CELLANG_PLANNED_LENGTH"), Some(PLANNED));
+        assert_eq!(named("CELLANG_PLANNED_BANDS"), Some(2));
+        assert_eq!(named("CELLANG_PLANNED_SPELLING"), Some(3));
+        assert_eq!(named("CELLANG_PLANNED_SPELLING_START"), Some(4));
+        assert_eq!(named("CELLANG_PLANNED_SPELLING_LENGTH"), Some(5));
         assert_eq!(named("CELLANG_COMPARISON_LENGTH"), Some(COMPARISON));
         assert_eq!(named("CELLANG_SPELLING_NONE"), Some(0));
         assert_eq!(

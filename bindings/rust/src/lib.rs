@@ -1,7 +1,8 @@
 //! Checks sources written in Cellang, a small language for cellular automata,
 //! runs them on grids, also with timed value lists, in slices and with row
-//! counts, writes such lists, tells rules that move a pixel once, and compares
-//! grids, by a library that is proved to do what the rules say.
+//! counts, writes such lists, steps grids of which a few rows are held at a time,
+//! tells rules that move a pixel once, and compares grids, by a library that is
+//! proved to do what the rules say.
 //!
 //! ```
 //! use cellang::{check, run, Cell, Fault, FaultKind, Mode, Place, Rooms, Stop};
@@ -46,6 +47,7 @@
 #![forbid(unsafe_op_in_unsafe_fn)]
 #![warn(missing_docs)]
 
+mod bands;
 mod calls;
 mod comparing;
 mod counting;
@@ -57,6 +59,7 @@ mod replies;
 mod rooms;
 mod writing;
 
+pub use bands::{Band, Border, Held};
 pub use calls::{check, check_in, run, run_in, Lent, Mode, Run, BUILT_IN};
 pub use comparing::{compare, compare_flat, Difference, NotCompared};
 pub use counting::{
@@ -67,8 +70,8 @@ pub use names::{Kind, Name, Names};
 pub use one_move::{check_one_move, check_one_move_in, Missed};
 pub use pausing::{run_pausing_in, run_resuming_in, NotBegun, NotResumed, Paused};
 pub use replies::{
-    Cell, Done, Entry, Fault, FaultKind, Line, ListReason, ListRefusal, NotWritten, Objection,
-    Outcome, Place, Reason, Refusal, Stop,
+    Cell, Done, Entry, Fault, FaultKind, Line, ListReason, ListRefusal, NotPlanned, NotWritten,
+    Objection, Outcome, Place, Reason, Refusal, Stop,
 };
 pub use rooms::{Rooms, NAME_WORDS, WORDS};
 pub use writing::{write_list, write_list_in, WriterLent};

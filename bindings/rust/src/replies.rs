@@ -206,22 +206,28 @@ impl fmt::Display for Refusal<'_> {
 
 impl Error for Refusal<'_> {}
 
-/// Why a run is not admitted although its source is accepted: replies 20 to
-/// 24, and 61 for a run with row counts.
+/// Why a run, or a call on bands of rows, is not admitted although its source is
+/// accepted: replies 20 to 24; 60 for a plan or a band; and 61 for a run with row
+/// counts.
 #[derive(Clone, Copy, PartialEq, Eq, Hash, Debug)]
 pub enum Objection {
     /// 20: the number or size of dimensions, or the total of cells, is wrong.
     BadShape,
     /// 21: grid or scratch is not cells times fields long, or marks not one
-    /// byte a cell.
+    /// byte a cell. Of [`Held`](crate::Held): the planner's room does not have two
+    /// entries a row, the rows lent are not the band's with borders, or the room
+    /// for the next ones is not as long as the band.
     LentLength,
     /// 22: start or steps is negative, or their sum over 2147483647.
     BadTimes,
     /// 23: an index, or an end of an index variable's range, is larger in size
     /// than its dimension; the first one in the source.
     IndexTooFar(Place),
-    /// 24: a field is out of range on entry; the lowest one in the grid.
+    /// 24: a field is out of range on entry; the lowest one in the grid, or in
+    /// the rows that a band is lent.
     EntryOutOfRange(Entry),
+    /// 60: the plan is not accepted, or the band could stand in no accepted plan.
+    BadPlan,
     /// 61: there is no field with the number whose zeros are to be counted, or
     /// counts are not one a row.
     BadCounts,
@@ -235,6 +241,7 @@ impl Objection {
             22 => Objection::BadTimes,
             23 => Objection::IndexTooFar(Place(place)),
             24 => Objection::EntryOutOfRange(Entry(place)),
+            60 => Objection::BadPlan,
             61 => Objection::BadCounts,
             _ => return None,
         })
@@ -248,6 +255,7 @@ impl Objection {
             Objection::BadTimes => 22,
             Objection::IndexTooFar(_) => 23,
             Objection::EntryOutOfRange(_) => 24,
+            Objection::BadPlan => 60,
             Objection::BadCounts => 61,
         }
     }
@@ -260,13 +268,18 @@ impl fmt::Display for Objection {
             Objection::BadShape => {
                 f.write_str(": number or size of dimensions, or cell total, wrong")
             }
-            Objection::LentLength => f.write_str(": grid, scratch or marks of wrong length"),
+            Objection::LentLength => {
+                f.write_str(": grid, scratch, marks, rows or room of wrong length")
+            }
             Objection::BadTimes => f.write_str(": start or steps negative, or sum over 2147483647"),
             Objection::IndexTooFar(place) => {
                 write!(f, " at {place}: index larger than its dimension")
             }
             Objection::EntryOutOfRange(entry) => {
                 write!(f, " at grid entry {entry}: field out of range on entry")
+            }
+            Objection::BadPlan => {
+                f.write_str(": plan not accepted, or band that could stand in no accepted plan")
             }
             Objection::BadCounts => f.write_str(": no such field, or counts not one a row"),
         }
@@ -550,6 +563,59 @@ impl fmt::Display for NotWritten<'_> {
 
 impl Error for NotWritten<'_> {}
 
+/// A call of [`Held`](crate::Held) that plans, or checks a plan, does not give
+/// one or accept it.
+#[derive(Clone, PartialEq, Eq, Hash, Debug)]
+pub enum NotPlanned<'a> {
+    /// The source is refused.
+    Refused(Refusal<'a>),
+    /// The source is accepted, but not for this shape, 20 or 23; the planner's
+    /// room does not have two entries a row, 21; or the plan that is checked is
+    /// not accepted, 60.
+    NotAdmitted(Objection),
+    /// 59: no plan is accepted, since with the border rows not one row can be
+    /// held.
+    NoPlan,
+}
+
+impl NotPlanned<'_> {
+    /// The number of the reply.
+    pub fn number(&self) -> u32 {
+        match self {
+            NotPlanned::Refused(refusal) => refusal.number(),
+            NotPlanned::NotAdmitted(objection) => objection.number(),
+            NotPlanned::NoPlan => 59,
+        }
+    }
+
+    /// The place in the source, where the reply names one.
+    pub fn place(&self) -> Option<Place> {
+        match self {
+            NotPlanned::Refused(refusal) => Some(refusal.place),
+            NotPlanned::NotAdmitted(Objection::IndexTooFar(place)) => Some(*place),
+            NotPlanned::NotAdmitted(_) | NotPlanned::NoPlan => None,
+        }
+    }
+}
+
+impl fmt::Display for NotPlanned<'_> {
+    fn fmt(&self, f: &mut fmt::Formatter<'_>) -> fmt::Result {
+        match self {
+            NotPlanned::Refused(refusal) => refusal.fmt(f),
+            NotPlanned::NotAdmitted(objection) => objection.fmt(f),
+            NotPlanned::NoPlan => {
+                write!(
+                    f,
+                    "not planned {}: with the border rows not one row can be held",
+                    self.number()
+                )
+            }
+        }
+    }
+}
+
+impl Error for NotPlanned<'_> {}
+
 /// The answer that the entries of a check tell.
 pub(crate) fn check_answer<'a>(
     source: &'a [u8],
@@ -640,5 +706,27 @@ pub(crate) fn written_answer<'a>(
     match Objection::of(number, place) {
         Some(objection) => Err(NotWritten::NotAdmitted(objection)),
         None => unreachable!("reply {number} to the writer"),
+    }
+}
+
+/// The answer that number, place and spelling tell of a plan or of border rows.
+pub(crate) fn plan_answer<'a>(
+    source: &'a [u8],
+    list: &'a [u8],
+    [number, place]: [u32; 2],
+    [stands, start, length]: [u32; 3],
+) -> Result<(), NotPlanned<'a>> {
+    match number {
+        0 => return Ok(()),
+        59 => return Err(NotPlanned::NoPlan),
+        _ => {}
+    }
+    let spelling = part_of(source, list, stands, start, length);
+    if let Some(refusal) = refusal_of(number, place, spelling) {
+        return Err(NotPlanned::Refused(refusal));
+    }
+    match Objection::of(number, place) {
+        Some(objection) => Err(NotPlanned::NotAdmitted(objection)),
+        None => unreachable!("reply {number} about a plan"),
     }
 }

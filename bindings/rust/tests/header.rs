@@ -1,8 +1,8 @@
 //! The C header names the same replies and kinds.
 
 use cellang::{
-    Difference, Entry, FaultKind, Kind, ListReason, Missed, NotCompared, NotCounted, NotWritten,
-    Objection, Place, Reason, BUILT_IN, NAME_WORDS, WORDS,
+    Difference, Entry, FaultKind, Kind, ListReason, Missed, NotCompared, NotCounted, NotPlanned,
+    NotWritten, Objection, Place, Reason, BUILT_IN, NAME_WORDS, WORDS,
 };
 use std::fmt::Debug;
 use std::mem::size_of;
@@ -99,6 +99,10 @@ fn replies() {
         let name = name_of(reason).replacen("CELLANG", "CELLANG_LIST", 1);
         assert_eq!(named(&name), Some(number), "{reason:?}");
     }
+    let (plan, none) = (Objection::BadPlan, NotPlanned::NoPlan);
+    assert_eq!((none.number(), plan.number()), (59, 60));
+    assert_eq!(named(&name_of(none)), Some(59));
+    assert_eq!(named(&name_of(plan)), Some(60));
     let counts = Objection::BadCounts;
     assert_eq!((counts.number(), NotCounted.number()), (61, 61));
     assert_eq!(named(&name_of(counts)), Some(61));

@@ -415,7 +415,7 @@ fn not_begun() {
     let not_begun = answer.unwrap_err();
     assert_eq!(
         not_begun.to_string(),
-        "not admitted 21: grid, scratch or marks of wrong length"
+        "not admitted 21: grid, scratch, marks, rows or room of wrong length"
     );
     assert_eq!(Stop::from(not_begun).number(), 21);
 }

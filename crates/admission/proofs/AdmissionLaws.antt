@@ -114,7 +114,7 @@ none-within sizes (suc n) zero = omega arith
 none-within [] (suc n) (suc k) = none-within [] n k
 none-within (m ∷ sizes) (suc n) (suc k) = none-within sizes n k
 
-near-of : (sizes : List ℕ) (r : Bounds) (dims : ℕ) (ws : List Written) → length sizes ≡ dims → too-far sizes ws .number ≡ 0 → bounds-of r dims ≡ widened (replicate dims own-only) ws → Near sizes r
+pub near-of : (sizes : List ℕ) (r : Bounds) (dims : ℕ) (ws : List Written) → length sizes ≡ dims → too-far sizes ws .number ≡ 0 → bounds-of r dims ≡ widened (replicate dims own-only) ws → Near sizes r
 near-of sizes r dims ws e z b k l =
     let w = widened-within sizes ws (replicate dims own-only) z (none-within sizes dims) k in
     let same : bound-at r k ≡ getD (widened (replicate dims own-only) ws) k own-only = sym (getD-list-of (bound-at r) dims k own-only (omega arith)) ∙ ap (λ (bs : List Bound). getD bs k own-only) b in

@@ -1,5 +1,5 @@
 -- Sizes, rooms and times: what each test of the code says of the definition of replies 20 to 22.
-use mathlib.Core.Path.{_≡_, refl, sym, ap, _∙_}
+use mathlib.Core.Path.{_≡_, refl, sym, ap, _∙_, subst}
 use mathlib.Core.Bool.{Bool, true, false, not, _&&_}
 use mathlib.Core.List.{List, [], _∷_}
 use Prim.Native.Nat.{ℕ, zero, suc, _+_, _-_, _*_, _≤_, _<_}
@@ -10,7 +10,7 @@ use lib.Seq.{drop-cons, drop-length}
 use lib.Dec.{T, eqb, leb}
 use lib.IntN.{ℤ, pos, negsuc, natAbs, _+ℤ_}
 use lib.Signed.{leZ, nonNeg}
-use mir.Syntax.{w64}
+use mir.Syntax.{w32, w64}
 use mir.Val.{Fits, SFits}
 use borrow.Author.Tests.{leb-true, leb-false, le-leb, lt-leb, eq-eqb, ne-eqb, eqb-true}
 use Rattle.value.specs.Choice.{if_then_else_}
@@ -214,6 +214,10 @@ good-total (pos a) (pos b) e = leb-true (a + b) 2147483647 (all-three (leb 0 a) 
 good-total (pos a) (negsuc b) e = never (all-three (leb 0 a) false (leZ (pos a +ℤ negsuc b) (pos 2147483647)) e .1)
 good-total (negsuc a) b e = never e
 
+-- a time can be cast
+pub cast-in : (z : ℤ) → z ≡ pos (natAbs z) → natAbs z ≤ 2147483647 → T (nonNeg z) × Fits w32 (natAbs z)
+cast-in z p l = (subst (λ (x : ℤ). T (nonNeg x)) (sym p) tt, record { fits = omega arith })
+
 -- ---- the request
 
 -- the first of 20 to 22, by the three tests
@@ -231,7 +235,7 @@ all-good true false t e = absurd (omega arith)
 all-good false r t e = absurd (omega arith)
 
 -- where there are cells, every size is right
-some-cells : (ns : List ℕ) → (cells-of ns ≡ 0 → ⊥) → (all-between 1 4096 ns ≡ true) × (product ns ≤ 1048576)
+pub some-cells : (ns : List ℕ) → (cells-of ns ≡ 0 → ⊥) → (all-between 1 4096 ns ≡ true) × (product ns ≤ 1048576)
 some-cells ns n = by (all-between 1 4096 ns) refl (leb (product ns) 1048576) refl
   where
     by : (a : Bool) → all-between 1 4096 ns ≡ a → (b : Bool) → leb (product ns) 1048576 ≡ b → (all-between 1 4096 ns ≡ true) × (product ns ≤ 1048576)
@@ -240,7 +244,7 @@ some-cells ns n = by (all-between 1 4096 ns) refl (leb (product ns) 1048576) ref
     by true ea true eb = (ea, leb-true (product ns) 1048576 eb)
 
 -- where there are none, some size is not, or there are too many cells
-no-cells : (ns : List ℕ) → cells-of ns ≡ 0 → (all-between 1 4096 ns && leb (product ns) 1048576) ≡ false
+pub no-cells : (ns : List ℕ) → cells-of ns ≡ 0 → (all-between 1 4096 ns && leb (product ns) 1048576) ≡ false
 no-cells ns z = by (all-between 1 4096 ns) refl (leb (product ns) 1048576) refl
   where
     by : (a : Bool) → all-between 1 4096 ns ≡ a → (b : Bool) → leb (product ns) 1048576 ≡ b → (a && b) ≡ false

@@ -74,7 +74,7 @@ fn good_rooms(cells: u64, fields: u32, entries: usize, scratch: usize, marks: us
 }
 
 // Whether start and steps are not negative, and their sum is at most 2147483647.
-fn good_times(start: i64, steps: i64) -> bool
+pub fn good_times(start: i64, steps: i64) -> bool
     ensures { λ r. ⌜ r ≡ good-times start steps ⌝ }
 {
     if 0 <= start {
@@ -148,7 +148,7 @@ fn next_field(which: usize, fields: usize) -> usize
 
 // The lowest entry of a grid that is out of its field's range: 24 at its number; else number 0 and place 0.
 pub fn out_of_field(words: &[u32], rule: Rule, grid: &[i32]) -> Refusal
-    requires { ⌜ (Sized (length (now words)) rule) × (0 < rule .fields) × (length (now grid) ≤ 8388608) ⌝ }
+    requires { ⌜ (Sized (length (now words)) rule) × (0 < rule .fields) × (length (now grid) ≤ 33554432) ⌝ }
     ensures { λ r. ⌜ InFields (now (words .entry)) rule (now (grid .entry)) r ⌝ }
 {
     let fields = rule.fields as usize;

@@ -29,10 +29,18 @@ use Rattle.row_counts.specs.Contracts.Queries.{reply-of}
 use Rattle.list_writer.specs.declared.Written.{Written}
 use Rattle.list_writer.specs.WriterCalls.{wanted, writer-lent}
 use Rattle.list_writer.specs.Contracts.Writing.{WriterLeaves}
+use Rattle.checker.specs.declared.checking.Reply.{Reply}
+use Rattle.bands.specs.BorderCall.{BordersLent}
+use Rattle.bands.specs.PlanCalls.{PlanLent}
+use Rattle.planner.specs.declared.border_call.BorderRows.{BorderRows}
+use Rattle.planner.specs.Contracts.BorderCall.{BordersLeaves}
+use Rattle.planner.specs.declared.planning.Planned.{Planned}
+use Rattle.planner.specs.Contracts.Planning.{CheckLeaves, PlannerLeaves}
+use Rattle.band_call.specs.Contracts.Calling.{BandLeaves, band-asked, band-lent}
 use Rattle.entries.specs.Over.{over}
 use Rattle.comparison.specs.declared.Comparison.{Comparison}
 use Rattle.comparison.specs.Contracts.Comparing.{Compares}
-use Rattle.cellang.specs.Told.{reply-entries, TellsCheck, profile-entries, TellsProfile, report-entries, TellsRun, written-entries, TellsWritten, comparison-entries, TellsComparison, row-entries, TellsRows}
+use Rattle.cellang.specs.Told.{reply-entries, TellsCheck, profile-entries, TellsProfile, report-entries, TellsRun, written-entries, TellsWritten, border-entries, TellsBorders, plan-entries, TellsPlanCheck, planned-entries, TellsPlanned, TellsBand, comparison-entries, TellsComparison, row-entries, TellsRows}
 
 -- ---- a check
 
@@ -115,6 +123,55 @@ tells-written {source} {entries = entries} {said = said} a h p e =
       number = ap (λ x. x .wrote .number) (k .is);
       told = e ∙ ap (λ (l : List ℕ). over (said .number ∷ said .place ∷ said .length ∷ l) entries) p ∙ ap (λ x. over (written-entries source (x .wrote)) entries) (k .is);
       room-is = ap (λ x. x .wrote .room) (k .is);
+      words-are = ap (λ x. x .words) (k .is);
+      names-are = ap (λ x. x .names) (k .is);
+    }
+
+-- ---- bands of rows
+
+pub tells-borders : {l : BordersLent ℕ} {reply ws′ ns′ reply′ : List ℕ} {said : BorderRows} {t : Told} → BordersLeaves flat-names l said ws′ ns′
+    → told-entries t ≡ part-entries (part-at (l .source) (said .number) (said .place)) → reply′ ≡ over (said .number ∷ said .place ∷ said .before ∷ said .behind ∷ told-entries t) reply → TellsBorders l reply (said .number) ws′ ns′ reply′
+tells-borders {l} {reply} {said = said} h p e =
+    record {
+      number = ap (λ x. x .borders .number) (h .is);
+      told = e ∙ ap (λ (xs : List ℕ). over (said .number ∷ said .place ∷ said .before ∷ said .behind ∷ xs) reply) p ∙ ap (λ x. over (border-entries (l .source) (x .borders)) reply) (h .is);
+      words-are = ap (λ x. x .words) (h .is);
+      names-are = ap (λ x. x .names) (h .is);
+    }
+
+pub tells-plan-check : {l : PlanLent ℕ} {reply ws′ ns′ reply′ : List ℕ} {said : Reply} {t : Told} → CheckLeaves flat-names l said ws′ ns′
+    → told-entries t ≡ part-entries (part-at (l .source) (said .number) (said .place)) → reply′ ≡ over (said .number ∷ said .place ∷ told-entries t) reply → TellsPlanCheck l reply (said .number) ws′ ns′ reply′
+tells-plan-check {l} {reply} {said = said} h p e =
+    record {
+      number = ap (λ x. x .reply .number) (h .is);
+      told = e ∙ ap (λ (xs : List ℕ). over (said .number ∷ said .place ∷ xs) reply) p ∙ ap (λ x. over (plan-entries (l .source) (x .reply)) reply) (h .is);
+      words-are = ap (λ x. x .words) (h .is);
+      names-are = ap (λ x. x .names) (h .is);
+    }
+
+pub tells-planned : {l : PlanLent ℕ} {reply ws′ ns′ room′ reply′ : List ℕ} {said : Planned} {t : Told} → PlannerLeaves flat-names l said ws′ ns′ room′
+    → told-entries t ≡ part-entries (part-at (l .source) (said .number) (said .place)) → reply′ ≡ over (said .number ∷ said .place ∷ said .bands ∷ told-entries t) reply → TellsPlanned l reply (said .number) ws′ ns′ room′ reply′
+tells-planned {l} {reply} {said = said} h p e =
+    record {
+      number = ap (λ x. x .planned .number) (h .is);
+      told = e ∙ ap (λ (xs : List ℕ). over (said .number ∷ said .place ∷ said .bands ∷ xs) reply) p ∙ ap (λ x. over (planned-entries (l .source) (x .planned)) reply) (h .is);
+      room-is = ap (λ x. x .planned .room) (h .is);
+      words-are = ap (λ x. x .words) (h .is);
+      names-are = ap (λ x. x .names) (h .is);
+    }
+
+pub tells-band : {source list ws ns sizes : List ℕ} {first last held : ℕ} {rows room : List ℤ} {time : ℤ} {entries ws′ ns′ entries′ : List ℕ} {room′ : List ℤ} {said : Report} {t : Told} → SFits w64 time
+    → BandLeaves flat-names (band-lent source list ws ns (band-asked sizes first last held rows room (toZ w64 (ofZ w64 time)))) said ws′ ns′ room′
+    → told-entries t ≡ part-entries (part-at source (said .number) (said .place))
+    → entries′ ≡ over (said .number ∷ said .place ∷ said .cell ∷ said .steps ∷ said .count ∷ told-entries t ++ said .line ∷ []) entries
+    → TellsBand (band-lent source list ws ns (band-asked sizes first last held rows room time)) entries (said .number) ws′ ns′ room′ entries′
+tells-band {source} {list} {ws} {ns} {sizes} {first} {last} {held} {rows} {room} {entries = entries} {ws′} {ns′} {room′ = room′} {said = said} a h p e =
+    let k = subst (λ (z : ℤ). BandLeaves flat-names (band-lent source list ws ns (band-asked sizes first last held rows room z)) said ws′ ns′ room′) (toZ-ofZ a) h in
+    record {
+      number = ap (λ x. x .report .number) (k .is);
+      told = e ∙ ap (λ (l : List ℕ). over (said .number ∷ said .place ∷ said .cell ∷ said .steps ∷ said .count ∷ l ++ said .line ∷ []) entries) p
+          ∙ ap (λ x. over (report-entries source (x .report)) entries) (k .is);
+      room-is = ap (λ x. x .report .grid) (k .is);
       words-are = ap (λ x. x .words) (k .is);
       names-are = ap (λ x. x .names) (k .is);
     }

@@ -10,9 +10,14 @@ use Rattle.grammar.specs.Checking.{check, words-after, names-after}
 use Rattle.one_move.specs.Profile.{Answer, one-move}
 use Rattle.stepper.specs.Report.{Manner, Report}
 use Rattle.services.specs.Calls.{flat-names, Memory, Lent, run-report, run-left}
+use Rattle.stepper.specs.Admission.{Refusal}
 use Rattle.checker.specs.Promises.{Checks}
 use Rattle.lists.specs.Writing.{Wrote}
 use Rattle.list_writer.specs.WriterCalls.{WriterLent, writer-left}
+use Rattle.bands.specs.BorderCall.{Borders, BordersLent, borders-left}
+use Rattle.bands.specs.Plans.{Planned}
+use Rattle.bands.specs.PlanCalls.{PlanLent, plan-check-left, planner-left}
+use Rattle.band_call.specs.BandCall.{BandLent, band-left}
 use Rattle.entries.specs.Over.{over}
 use Rattle.row_counts.specs.RowQueries.{RowReply}
 use Rattle.comparison.specs.declared.Comparison.{Comparison}
@@ -67,6 +72,47 @@ pub record TellsWritten (l : WriterLent ℕ) (entries : List ℕ) (r : ℕ) (ws�
   pub room-is : room′ ≡ writer-left flat-names l .wrote .room
   pub words-are : ws′ ≡ writer-left flat-names l .words
   pub names-are : ns′ ≡ writer-left flat-names l .names
+
+-- ---- bands of rows
+
+-- the entries that tell how many border rows there are, and where the reply's spelling stands
+abbrev pub border-entries : List ℕ → Borders → List ℕ
+border-entries source said = said .number ∷ said .place ∷ said .before ∷ said .behind ∷ part-entries (part-at source (said .number) (said .place))
+
+pub record TellsBorders (l : BordersLent ℕ) (reply : List ℕ) (r : ℕ) (ws′ ns′ reply′ : List ℕ) : Type 0 where
+  pub number : r ≡ borders-left flat-names l .borders .number
+  pub told : reply′ ≡ over (border-entries (l .source) (borders-left flat-names l .borders)) reply
+  pub words-are : ws′ ≡ borders-left flat-names l .words
+  pub names-are : ns′ ≡ borders-left flat-names l .names
+
+-- the entries that tell the reply of the plan check, and where its spelling stands
+abbrev pub plan-entries : List ℕ → Refusal → List ℕ
+plan-entries source said = said .number ∷ said .place ∷ part-entries (part-at source (said .number) (said .place))
+
+pub record TellsPlanCheck (l : PlanLent ℕ) (reply : List ℕ) (r : ℕ) (ws′ ns′ reply′ : List ℕ) : Type 0 where
+  pub number : r ≡ plan-check-left flat-names l .reply .number
+  pub told : reply′ ≡ over (plan-entries (l .source) (plan-check-left flat-names l .reply)) reply
+  pub words-are : ws′ ≡ plan-check-left flat-names l .words
+  pub names-are : ns′ ≡ plan-check-left flat-names l .names
+
+-- the entries that tell what the planner gives, and where its reply's spelling stands
+abbrev pub planned-entries : List ℕ → Planned → List ℕ
+planned-entries source said = said .number ∷ said .place ∷ said .bands ∷ part-entries (part-at source (said .number) (said .place))
+
+pub record TellsPlanned (l : PlanLent ℕ) (reply : List ℕ) (r : ℕ) (ws′ ns′ bands′ reply′ : List ℕ) : Type 0 where
+  pub number : r ≡ planner-left flat-names l .planned .number
+  pub told : reply′ ≡ over (planned-entries (l .source) (planner-left flat-names l .planned)) reply
+  pub room-is : bands′ ≡ planner-left flat-names l .planned .room
+  pub words-are : ws′ ≡ planner-left flat-names l .words
+  pub names-are : ns′ ≡ planner-left flat-names l .names
+
+-- one band's call tells its numbers as a run does; the grid of its report is the room
+pub record TellsBand (l : BandLent ℕ) (entries : List ℕ) (r : ℕ) (ws′ ns′ : List ℕ) (room′ : List ℤ) (entries′ : List ℕ) : Type 0 where
+  pub number : r ≡ band-left flat-names l .report .number
+  pub told : entries′ ≡ over (report-entries (l .source) (band-left flat-names l .report)) entries
+  pub room-is : room′ ≡ band-left flat-names l .report .grid
+  pub words-are : ws′ ≡ band-left flat-names l .words
+  pub names-are : ns′ ≡ band-left flat-names l .names
 
 -- ---- a comparison
 

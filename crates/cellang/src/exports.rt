@@ -1,5 +1,6 @@
 // The calls for programs in other languages: numbers and flat slices alone. Each tells its numbers in a slice, as far as it has room.
 
+mod banding;
 mod checking;
 mod comparing;
 mod counting;
@@ -11,6 +12,10 @@ mod running;
 mod telling;
 mod writing;
 
+pub use banding::cellang_border_rows;
+pub use banding::cellang_check_plan;
+pub use banding::cellang_plan_bands;
+pub use banding::cellang_step_band;
 pub use checking::cellang_check;
 pub use comparing::cellang_compare;
 pub use counting::cellang_run_full_counts;

@@ -43,5 +43,8 @@ module _ (s₀ : List ℕ) {s₁ s₂ s₃ s₄ s₅ : List ℕ} (a b c d e : �
   pub put-six : {s₆ : List ℕ} (f : ℕ) → s₆ ≡ set s₅ 5 f → s₆ ≡ over (a ∷ b ∷ c ∷ d ∷ e ∷ f ∷ []) s₀
   put-six f p₆ = then 5 f five p₆ ∙ set-over (a ∷ b ∷ c ∷ d ∷ e ∷ f ∷ []) s₀
 
+  pub put-seven : {s₆ s₇ : List ℕ} (f g : ℕ) → s₆ ≡ set s₅ 5 f → s₇ ≡ set s₆ 6 g → s₇ ≡ over (a ∷ b ∷ c ∷ d ∷ e ∷ f ∷ g ∷ []) s₀
+  put-seven f g p₆ p₇ = then 6 g (then 5 f five p₆) p₇ ∙ set-over (a ∷ b ∷ c ∷ d ∷ e ∷ f ∷ g ∷ []) s₀
+
   pub put-nine : {s₆ s₇ s₈ s₉ : List ℕ} (f g h i : ℕ) → s₆ ≡ set s₅ 5 f → s₇ ≡ set s₆ 6 g → s₈ ≡ set s₇ 7 h → s₉ ≡ set s₈ 8 i → s₉ ≡ over (a ∷ b ∷ c ∷ d ∷ e ∷ f ∷ g ∷ h ∷ i ∷ []) s₀
   put-nine f g h i p₆ p₇ p₈ p₉ = then 8 i (then 7 h (then 6 g (then 5 f five p₆) p₇) p₈) p₉ ∙ set-over (a ∷ b ∷ c ∷ d ∷ e ∷ f ∷ g ∷ h ∷ i ∷ []) s₀

@@ -88,6 +88,48 @@ pub fn put_profile(entries: &mut [u32], rule: u32, number: u32, place: u32)
     put_word(entries, 2, place);
 }
 
+// Tells in the first entries what the planner gives.
+pub fn put_planned(
+    entries: &mut [u32],
+    number: u32,
+    place: u32,
+    bands: u32,
+    stands: u32,
+    start: u32,
+    len: u32,
+)
+    ensures { λ _. ⌜ now (entries .exit) ≡ over (number ∷ place ∷ bands ∷ stands ∷ start ∷ len ∷ []) (now (entries .entry)) ⌝ }
+{
+    put_word(entries, 0, number);
+    put_word(entries, 1, place);
+    put_word(entries, 2, bands);
+    put_word(entries, 3, stands);
+    put_word(entries, 4, start);
+    put_word(entries, 5, len);
+}
+
+// Tells in the first entries how many border rows there are.
+pub fn put_borders(
+    entries: &mut [u32],
+    number: u32,
+    place: u32,
+    before: u32,
+    behind: u32,
+    stands: u32,
+    start: u32,
+    len: u32,
+)
+    ensures { λ _. ⌜ now (entries .exit) ≡ over (number ∷ place ∷ before ∷ behind ∷ stands ∷ start ∷ len ∷ []) (now (entries .entry)) ⌝ }
+{
+    put_word(entries, 0, number);
+    put_word(entries, 1, place);
+    put_word(entries, 2, before);
+    put_word(entries, 3, behind);
+    put_word(entries, 4, stands);
+    put_word(entries, 5, start);
+    put_word(entries, 6, len);
+}
+
 // Tells a comparison in the first entries.
 pub fn put_comparison(entries: &mut [u32], number: u32, total: u32)
     ensures { λ _. ⌜ now (entries .exit) ≡ over (number ∷ total ∷ []) (now (entries .entry)) ⌝ }

@@ -131,7 +131,7 @@ pub record Fit (leaves words : List ℕ) (rule : Rule) (sizes place : List ℕ) 
   pub dims : length sizes ≡ rule .dims
   pub few : rule .dims ≤ 3
   pub positive : Positive sizes
-  pub cells : product sizes ≤ 1048576
+  pub cells : product sizes ≤ 4194304
   pub inside : cell < product sizes
   pub own : place ≡ coordinates sizes cell
   pub entries : product sizes * rule .fields ≡ length grid

@@ -45,23 +45,23 @@ cell-same fields cell b a′ same = list-of-ext _ _ fields same
 -- ---- a list in which a part is put in place of another
 
 module _ (from k : ℕ) (xs ys : List ℤ) (room : from + k ≤ length xs) (size : length ys ≡ k) where
-  abbrev pasted : List ℤ
+  abbrev pub pasted : List ℤ
   pasted = take from xs ++ (ys ++ drop k (drop from xs))
 
   front : length (take from xs) ≡ from
   front = length-take-le from xs (omega arith)
 
-  paste-below : (e : ℕ) → e < from → getD pasted e (pos 0) ≡ getD xs e (pos 0)
+  pub paste-below : (e : ℕ) → e < from → getD pasted e (pos 0) ≡ getD xs e (pos 0)
   paste-below e l = List·getD-append (take from xs) _ (pos 0) e (let f = front in omega arith) ∙ getD-take from xs e (pos 0) l
 
   -- past the front
   paste-add : (n : ℕ) → getD pasted (from + n) (pos 0) ≡ getD (ys ++ drop k (drop from xs)) n (pos 0)
   paste-add n = ap (λ (m : ℕ). getD pasted (m + n) (pos 0)) (sym front) ∙ getD-append-add (take from xs) _ n (pos 0)
 
-  paste-inside : (n : ℕ) → n < k → getD pasted (from + n) (pos 0) ≡ getD ys n (pos 0)
+  pub paste-inside : (n : ℕ) → n < k → getD pasted (from + n) (pos 0) ≡ getD ys n (pos 0)
   paste-inside n l = paste-add n ∙ List·getD-append ys _ (pos 0) n (let s = size in omega arith)
 
-  paste-above : (e : ℕ) → from + k ≤ e → getD pasted e (pos 0) ≡ getD xs e (pos 0)
+  pub paste-above : (e : ℕ) → from + k ≤ e → getD pasted e (pos 0) ≡ getD xs e (pos 0)
   paste-above e l =
       let n = e - (from + k) in
       let q : from + (k + n) ≡ e = omega arith in

@@ -46,7 +46,7 @@ pub record Ready (leaves words sizes place : List ℕ) (grid : List ℤ) (site :
   pub time : site .time < 2147483648
   pub dims : length sizes ≤ 3
   pub positive : Positive sizes
-  pub cells : product sizes ≤ 1048576
+  pub cells : product sizes ≤ 4194304
   pub cell : site .cell < product sizes
   pub own : place ≡ coordinates sizes (site .cell)
   pub entries : product sizes * site .fields ≡ length grid

@@ -101,7 +101,7 @@ fn neighbour_number(
     depth: usize,
     at: usize,
 ) -> usize
-    requires { ⌜ (4 * n ≤ length (now words)) × (n ≤ 4096) × (depth ≤ 16) × (at ≤ 4097) × (length (now sizes) ≤ 3) × (product (now sizes) ≤ 1048576) × Inside (now sizes) (now place) ⌝ }
+    requires { ⌜ (4 * n ≤ length (now words)) × (n ≤ 4096) × (depth ≤ 16) × (at ≤ 4097) × (length (now sizes) ≤ 3) × (product (now sizes) ≤ 4194304) × Inside (now sizes) (now place) ⌝ }
     ensures { λ r. ⌜ r ≡ cell-number (now (sizes .entry)) (shift (now (sizes .entry)) (now (place .entry)) (offsets (length (now (sizes .entry))) (take depth (now (index .entry))) (indices-in (table-of (now (words .entry)) n (length (now (sizes .entry)))) (length (now (sizes .entry))) at))) ⌝ }
 {
     let dims = sizes.len();

@@ -41,7 +41,7 @@ fn noted_number(
     depth: usize,
     at: usize,
 ) -> usize
-    requires { ⌜ (at ≤ 4096) × (length (now sizes) ≤ 3) × (product (now sizes) ≤ 1048576) × Inside (now sizes) (now place) × OffsetsAre (table-of (now words) n (length (now sizes))) (take depth (now index)) (leaf-word (now leaves) at) (now sizes) (at + 1) 4 ⌝ }
+    requires { ⌜ (at ≤ 4096) × (length (now sizes) ≤ 3) × (product (now sizes) ≤ 4194304) × Inside (now sizes) (now place) × OffsetsAre (table-of (now words) n (length (now sizes))) (take depth (now index)) (leaf-word (now leaves) at) (now sizes) (at + 1) 4 ⌝ }
     ensures { λ r. ⌜ r ≡ cell-number (now (sizes .entry)) (shift (now (sizes .entry)) (now (place .entry)) (offsets (length (now (sizes .entry))) (take depth (now (index .entry))) (indices-in (table-of (now (words .entry)) n (length (now (sizes .entry)))) (length (now (sizes .entry))) (at + 1)))) ⌝ }
 {
     let dims = sizes.len();

@@ -17,15 +17,12 @@ use Rattle.value.specs.Laws.{never}
 use Rattle.names.specs.Names.{name-words}
 use Rattle.program.specs.Syntax.{Program}
 use Rattle.grammar.specs.Complaint.{Complaint, complaint}
-use Rattle.grammar.specs.Source.{Accepted}
 use Rattle.grammar.specs.Checking as checking
 use Rattle.grammar.specs.Checking.{Outcome, turned-away, accepted, rooms-fit, read-source, check}
 use Rattle.semantics.specs.declared.Rule.{Rule}
 use Rattle.semantics.specs.Written.{relatives-in}
-use Rattle.linking.specs.Accepted.{written, flagged}
 use Rattle.stepper.specs.Admission.{Request, Refusal, refusal, admission}
 use Rattle.stepper.specs.Report.{Manner, refused}
-use Rattle.stepper.specs.Locality.{Flagged}
 use Rattle.stepper.specs.Fitting.{Sized, Shaped, held-fields}
 use Rattle.one_move.specs.Profile.{profile-flag}
 use Rattle.lists.specs.ListChecking.{Turned, Verdict, verdict, limits-of, check-list}
@@ -38,53 +35,22 @@ use Rattle.services.specs.Running.{CountsAsked, counts-of, Asked, ask, good-cou
 use Rattle.services.specs.RunningLaws.{turned, list-decides, counts-refused, refused-first, list-passes, run-refused}
 use Rattle.services.specs.Services.{run-begins, run-read, run-source}
 use Rattle.checker.specs.declared.checking.Outline.{Outline}
-use Rattle.checker.specs.Promises.{Trace, Outlines, accepted-by, Loads, Checks, is-accepted}
-use Rattle.profile.specs.Contracts.Standing.{rule-in, Stood}
+use Rattle.checker.specs.Promises.{Loads, Checks, is-accepted}
+use Rattle.profile.specs.Contracts.Standing.{rule-in}
 use Rattle.profile.specs.Contracts.Flags.{FlagOf}
-use Rattle.profile.proofs.StandingLaws.{linked-by, parsed-by, words-by, rule-by, stood-by, sized}
+use Rattle.profile.proofs.StandingLaws.{sized}
+use Rattle.loading.specs.Loaded.{Accepts}
+use Rattle.loading.proofs.Theorems.SourceLoaded.{accepts}
+use Rattle.admission.proofs.RequestLaws.{cast-in}
 use Rattle.admission.specs.declared.admitting.Admitted.{Admitted}
-use Rattle.admission.specs.Admitting.{request-of, Lists, Admits}
+use Rattle.admission.specs.Admitting.{request-of, Admits}
 use Rattle.runner.specs.declared.opening.Opening.{Opening}
 use Rattle.runner.specs.Sourcewise.{counts-right, Opens}
-use Rattle.runner.specs.Timing.{timing}
 
 -- ---- an accepted source
 
--- what a run needs of a source that is accepted
-pub record Accepts (fit : Bool) (source words names : List ℕ) (o : Outline) : Type 0 where
-  pub read : Accepted
-  pub is : read-source fit source ≡ accepted read
-  pub stood : Stood source words names (rule-in o) read
-  pub lists : Lists words (rule-in o) (relatives-in (read .program))
-  pub timed : read .program .timed ≡ o .timed
-  pub flagged : Flagged (read .program)
-  pub sized : Sized (length words) (rule-in o)
-  pub some-dims : 0 < o .dims
-  pub some-fields : 0 < o .fields
-
 module _ {source ws ns : List ℕ} {known : Bool} {o : Outline} {n place : ℕ} {ws′ ns′ : List ℕ}
     (checked : Checks (rooms-fit (length ws) (length ns)) source ws ns n place ws′ ns′) (loaded : Loads source ws ns known o) (sure : known ≡ true) where
-  accepts-by : (t : Trace source) → Outlines source t o → Accepts (rooms-fit (length ws) (length ns)) source ws′ ns′ o
-  accepts-by t y =
-      let linked = linked-by checked loaded sure t in
-      let p = parsed-by checked loaded sure t in
-      record {
-        read = accepted-by t;
-        is = loaded .reads sure t;
-        stood = stood-by checked loaded sure t y;
-        lists =
-            subst₂ (λ (words : List ℕ) (r : Rule). Lists words r (relatives-in (accepted-by t .program))) (sym (words-by checked loaded sure t)) (sym (rule-by checked loaded sure t y))
-            (written source (accepted-by t) p);
-        timed = sym (y .timed);
-        flagged = flagged timing source (accepted-by t) p;
-        sized = sized checked loaded sure;
-        some-dims = omega (arith, y .dims, linked .some-dims);
-        some-fields = omega (arith, y .fields, linked .some-fields);
-      }
-
-  pub accepts : Accepts (rooms-fit (length ws) (length ns)) source ws′ ns′ o
-  accepts = let g = loaded .given sure in accepts-by (g .0) (g .1)
-
   -- the flag can be found
   pub flag-ready : length ns′ ≡ length ns → (Sized (length ws′) (rule-in o)) × (length ns′ ≡ name-words)
   flag-ready e = (sized checked loaded sure, e ∙ loaded .list sure)
@@ -102,10 +68,6 @@ module _ (fit : Bool) (source : List ℕ) (q : Asked) {n place : ℕ} (reply : c
       by (accepted a) c d = never (sym d)
 
 -- ---- the times as unsigned numbers
-
--- a time can be cast
-pub cast-in : (z : ℤ) → z ≡ pos (natAbs z) → natAbs z ≤ 2147483647 → T (nonNeg z) × Fits w32 (natAbs z)
-cast-in z p l = (subst (λ (x : ℤ). T (nonNeg x)) (sym p) tt, record { fits = omega arith })
 
 module _ {words : List ℕ} {rule : Rule} {sizes : List ℕ} {grid : List ℤ} {scratch marks : ℕ} {start steps : ℤ} {a : Admitted} (admits : Admits words rule sizes grid scratch marks start steps a) (z : a .number ≡ 0) where
   pub cast-first : T (nonNeg start) × Fits w32 (natAbs start)

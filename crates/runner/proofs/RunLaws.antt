@@ -51,7 +51,7 @@ use Rattle.iteration.specs.Countwise.{CountsFit, Filled, Tallied}
 use Rattle.iteration.proofs.StepwiseLaws.{runs-sound}
 use Rattle.runner.specs.Sourcewise.{manner-of, every-step, is-resumed, marks-left, Begun, Opens, RunLeaves, RunsListed}
 use Rattle.runner.specs.Property3.{Agree, AgreesFresh, same, property-3, paused-agrees}
-use Rattle.runner.proofs.OpeningLaws.{cast-in}
+use Rattle.admission.proofs.RequestLaws.{cast-in}
 
 -- ---- a full run: every cell is open in each step, as if `time` stood in the source
 

@@ -1,4 +1,3 @@
 -- A run of a source, and property 3.
 pub mod Sourcewise
-pub mod Timing
 pub mod Property3

@@ -1,36 +1,31 @@
 -- Property 3, as one claim over all steps of a run of a source: the quiet run skips cells, and still gives the full run's answer and grid.
 -- That a quiet run gives the report `run-source quiet` is the contract of `run` (Sourcewise).
-use mathlib.Core.Path.{_≡_, refl, sym, ap, _∙_, subst}
+use mathlib.Core.Path.{_≡_, refl, sym, _∙_, subst}
 use mathlib.Core.Bool.{Bool, true, false}
 use mathlib.Core.List.{List}
 use mathlib.Core.Option.{Option}
 use Prim.Native.Nat.{ℕ, _≤_}
 use native.Mathlib.Nat.{le-refl}
-use native.Mathlib.Omega.{arith}
 use lib.ListN.{length}
-use lib.Dec.{eqb, ltb}
+use lib.Dec.{eqb}
 use lib.IntN.{ℤ, natAbs}
-use borrow.Author.Tests.{ltb-false}
-use Rattle.value.specs.Choice.{if_then_else_}
 use Rattle.automaton.specs.Step.{Fault, no-fault, fault-at, every-cell, Blocks, run-of}
 use Rattle.automaton.specs.Quiet.{QuietAgrees, open-le-full}
 use Rattle.automaton.specs.Going.{open-is-full}
 use Rattle.automaton.specs.Grid.{automaton}
 use Rattle.program.specs.Syntax.{Program}
-use Rattle.grammar.specs.Reader.{Result, ok, fail}
-use Rattle.grammar.specs.Source.{Accepted, parse}
+use Rattle.grammar.specs.Source.{Accepted}
 use Rattle.grammar.specs.Checking as checking
-use Rattle.grammar.specs.Checking.{Outcome, turned-away, accepted, outcome-of, read-source}
-use Rattle.linking.specs.Accepted.{parsed, flagged}
+use Rattle.grammar.specs.Checking.{Outcome, turned-away, accepted, read-source}
 use Rattle.stepper.specs.Reach.{running}
 use Rattle.stepper.specs.Report.{full, quiet, pausing, Report, ended}
 use Rattle.stepper.specs.Covering as covering
 use Rattle.one_move.specs.Profile.{profile-flag}
 use Rattle.services.specs.Running.{Asked, admitted, blocks, report-of, run}
 use Rattle.services.specs.Services.{run-read, run-source}
+use Rattle.services.specs.AcceptedSources.{accepted-flagged}
 use Rattle.iteration.specs.declared.Manner.{Manner as Way}
 use Rattle.runner.specs.Sourcewise.{is-resumed}
-use Rattle.runner.specs.Timing.{timing}
 
 -- a quiet run's report beside a full run's: the same answer and grid, at a fault too, and no more cells counted
 pub record Agree (q f : Report) : Type 0 where
@@ -125,27 +120,6 @@ runs-count p flag q e = by (eqb (admitted p flag q .number) 0) refl
     by true h = rw (h, run) (reports-count p q e)
     by false h = rw (h, run)
 
--- ---- an accepted source is short, and parsed
-
-pub read-of : (fit : Bool) (source : List ℕ) (a : Accepted) → read-source fit source ≡ accepted a → (length source ≤ 65535) × (parse source ≡ ok a)
-unfolding read-source
-read-of false source a e = absurd (clash e)
-  where
-    clash : turned-away 1 0 ≡ accepted a → ⊥
-    clash q = let z : _≡_ {A = ℕ} 0 1 = cc in omega arith
-read-of true source a e = by (ltb 65535 (length source)) refl e
-  where
-    clash : turned-away 2 65535 ≡ accepted a → ⊥
-    clash q = let z : _≡_ {A = ℕ} 0 1 = cc in omega arith
-
-    read : (r : Result Accepted) → outcome-of r ≡ accepted a → r ≡ ok a
-    read (ok b) q = let z : b ≡ a = cc in ap ok z
-    read (fail n p) q = absurd (let z : _≡_ {A = ℕ} 0 1 = cc in omega arith)
-
-    by : (b : Bool) → ltb 65535 (length source) ≡ b → (if b then turned-away 2 65535 else outcome-of (parse source)) ≡ accepted a → (length source ≤ 65535) × (parse source ≡ ok a)
-    by true l q = absurd (clash q)
-    by false l q = (ltb-false 65535 (length source) l, read (parse source) q)
-
 -- Property 3 holds of every source and every run that is asked of it.
 pub property-3 : (fit : Bool) (source : List ℕ) (q : Asked) → Property3 fit source q
 unfolding run-source
@@ -155,8 +129,7 @@ property-3 fit source q =
       paused = outcomes-paused source q (read-source fit source);
       timed = λ a e t. rw e (runs-count (a .program) (profile-flag source a) q t);
       skips = λ a e dims block n t.
-          let r = read-of fit source a e in
-          covering.property-3 (a .program) (q .request .sizes) dims (flagged timing source a (parsed source (r .0) a (r .1))) block n t (q .request .grid);
+          covering.property-3 (a .program) (q .request .sizes) dims (accepted-flagged fit source a e) block n t (q .request .grid);
     }
 
 -- So a run that leaves its marks standing agrees with the full run.

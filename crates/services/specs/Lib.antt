@@ -3,6 +3,7 @@ pub mod Running
 pub mod Services
 pub mod Calls
 pub mod RunningLaws
+pub mod AcceptedSources
 pub mod RangesKept
 pub mod Cases
 pub mod Examples

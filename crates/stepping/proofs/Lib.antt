@@ -1,4 +1,5 @@
 -- The laws by which the functions are proved, by topic.
-mod TurnLaws
-mod FillLaws
-mod StepLaws
+pub mod TurnLaws
+pub mod FillLaws
+pub mod StepLaws
+pub mod RowLaws

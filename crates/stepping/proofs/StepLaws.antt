@@ -14,12 +14,12 @@ use Rattle.program.specs.Syntax.{Program}
 use Rattle.semantics.specs.declared.Rule.{Rule}
 use Rattle.semantics.specs.Stands.{Holds}
 use Rattle.stepper.specs.Reach.{running}
-use Rattle.stepper.specs.Fitting.{held-fields}
+use Rattle.stepper.specs.Fitting.{Sized, Shaped, held-fields}
 use Rattle.stepping.specs.declared.Step.{Step}
 use Rattle.stepping.specs.declared.Step.the-variants as Gives
-use Rattle.stepping.specs.Stepping.{fault-in, count-in, Ready, Stepped}
+use Rattle.stepping.specs.Stepping.{fault-in, count-in, Ready, SteppedFor}
 use Rattle.marked_cells.specs.Marked.{NextMarked, Placed, Moving, Exchanging, Exchanged}
-use Rattle.stepping.specs.Turns.{Filled}
+use Rattle.stepping.specs.Turns.{FilledFor}
 use Rattle.marked_cells.proofs.PartLaws.{flat-ext}
 use Rattle.stepping.proofs.FillLaws.{outcome, of-marked, of-unmarked}
 
@@ -47,35 +47,36 @@ module _ {leaves words : List ℕ} {rule : Rule} {sizes : List ℕ} {grid scratc
         small = cell-small (n .within);
       }
 
-  -- what the exchange asks
-  pub exchanging : {lent : ℕ} → lent ≡ length scratch → Exchanging (length grid) lent (length marks) (rule .fields)
-  exchanging e = record {
-    alike = e ∙ ready .scratch-fits;
-    entries = ap (λ (n : ℕ). n * rule .fields) (ready .marks-fit) ∙ ready .shaped .entries;
-    few = let m = ready .marks-fit in let n = ready .shaped .cells in omega arith;
-    most = ready .rule-fits .fields;
-  }
+-- what the exchange asks
+pub exchanging : {words : ℕ} {rule : Rule} {sizes : List ℕ} {grid scratch lent marks : ℕ} → Sized words rule → Shaped rule sizes grid → scratch ≡ grid → marks ≡ product sizes → lent ≡ scratch
+    → Exchanging grid lent marks (rule .fields)
+exchanging {words} {rule} sized shaped alike all e = record {
+  alike = e ∙ alike;
+  entries = ap (λ (n : ℕ). n * rule .fields) all ∙ shaped .entries;
+  few = let n = shaped .cells in omega arith;
+  most = sized .fields;
+}
 
-module _ {leaves words : List ℕ} {rule : Rule} {sizes : List ℕ} {grid scratch : List ℤ} {marks : List ℕ} {time count : ℕ} (ready : Ready leaves words rule sizes grid scratch marks time count)
-    {r : Step} {filled : List ℤ} (f : Filled words rule sizes grid scratch marks time count r filled) where
+module _ {words : List ℕ} {rule : Rule} {sizes : List ℕ} {grid scratch : List ℤ} {marks : List ℕ} {time count : ℕ} (shaped : Shaped rule sizes (length grid)) (marks-fit : length marks ≡ product sizes)
+    {Held : Program → Type 0} (holds : (p : Program) → Held p → Holds words rule p) {r : Step} {filled : List ℤ} (f : FilledFor Held rule sizes grid scratch marks time count r filled) where
   -- the grid after a step without a fault, by its cells
-  after-none : (p : Program) → Holds words rule p → fault-in r ≡ no-fault
+  after-none : (p : Program) → Held p → fault-in r ≡ no-fault
       → quiet-step (running p sizes) marks grid time .grid
-      ≡ grid-of (rule .fields) (product sizes) (λ c. state-or (cell-of (rule .fields) grid c) (outcome words rule sizes grid marks time p c))
+      ≡ grid-of (rule .fields) (product sizes) (λ c. state-or (cell-of (rule .fields) grid c) (outcome sizes grid marks time p c))
   unfolding quiet-step running automaton
   after-none p h e =
-      ap (λ (a : Fault). grid-after (running p sizes) a grid (outcome words rule sizes grid marks time p)) (sym (f .fault p h) ∙ e)
-      ∙ ap (λ (n : ℕ). grid-of n (product sizes) (λ c. state-or (cell-of n grid c) (outcome words rule sizes grid marks time p c))) (held-fields p h)
+      ap (λ (a : Fault). grid-after (running p sizes) a grid (outcome sizes grid marks time p)) (sym (f .fault p h) ∙ e)
+      ∙ ap (λ (n : ℕ). grid-of n (product sizes) (λ c. state-or (cell-of n grid c) (outcome sizes grid marks time p c))) (held-fields p (holds p h))
 
-  after-fault : (p : Program) → Holds words rule p → {c k q : ℕ} → fault-in r ≡ fault-at c k q → quiet-step (running p sizes) marks grid time .grid ≡ grid
+  after-fault : (p : Program) → Held p → {c k q : ℕ} → fault-in r ≡ fault-at c k q → quiet-step (running p sizes) marks grid time .grid ≡ grid
   unfolding quiet-step
-  after-fault p h e = ap (λ (a : Fault). grid-after (running p sizes) a grid (outcome words rule sizes grid marks time p)) (sym (f .fault p h) ∙ e)
+  after-fault p h e = ap (λ (a : Fault). grid-after (running p sizes) a grid (outcome sizes grid marks time p)) (sym (f .fault p h) ∙ e)
 
   pub stepped-done : {n : ℕ} {grid′ scratch′ : List ℤ} → r ≡ Gives.Done n → Exchanged (rule .fields) marks grid filled grid′ → Exchanged (rule .fields) marks filled grid scratch′
-      → length filled ≡ length scratch → Stepped words rule sizes grid scratch marks time count (Gives.Done n) grid′ scratch′
+      → length filled ≡ length scratch → SteppedFor Held rule sizes grid scratch marks time count (Gives.Done n) grid′ scratch′
   stepped-done {n} {grid′} {scratch′} e x y size = record {
     fault = λ p h. ap fault-in (sym e) ∙ f .fault p h;
-    grid-is = λ p h. flat-ext (rule .fields) (product sizes) grid′ _ (x .size ∙ sym (ready .shaped .entries)) (λ c l. at p h c l (marked marks c) refl) ∙ sym (after-none p h none);
+    grid-is = λ p h. flat-ext (rule .fields) (product sizes) grid′ _ (x .size ∙ sym (shaped .entries)) (λ c l. at p h c l (marked marks c) refl) ∙ sym (after-none p h none);
     count-is = λ p h. ap count-in (sym e) ∙ f .count-is p h;
     counted = subst (λ (s : Step). count-in s ≤ count + product sizes) e (f .counted);
     grid-size = x .size;
@@ -88,16 +89,16 @@ module _ {leaves words : List ℕ} {rule : Rule} {sizes : List ℕ} {grid scratc
       none = ap fault-in e
 
       in-marks : (c : ℕ) → c < product sizes → c < length marks
-      in-marks c l = let m = ready .marks-fit in omega arith
+      in-marks c l = let m = marks-fit in omega arith
 
-      at : (p : Program) → Holds words rule p → (c : ℕ) → c < product sizes → (b : Bool) → marked marks c ≡ b
-          → cell-of (rule .fields) grid′ c ≡ state-or (cell-of (rule .fields) grid c) (outcome words rule sizes grid marks time p c)
+      at : (p : Program) → Held p → (c : ℕ) → c < product sizes → (b : Bool) → marked marks c ≡ b
+          → cell-of (rule .fields) grid′ c ≡ state-or (cell-of (rule .fields) grid c) (outcome sizes grid marks time p c)
       at p h c l true m =
           x .cells c (in-marks c l) ∙ ap (λ (b : Bool). cond b (cell-of (rule .fields) filled c) (cell-of (rule .fields) grid c)) m
-          ∙ ap (state-or (cell-of (rule .fields) grid c)) (sym (of-marked words rule sizes grid marks time p h c m ∙ f .next none p h c l m))
+          ∙ ap (state-or (cell-of (rule .fields) grid c)) (sym (of-marked sizes grid marks time holds p h c m ∙ f .next none p h c l m))
       at p h c l false m =
           x .cells c (in-marks c l) ∙ ap (λ (b : Bool). cond b (cell-of (rule .fields) filled c) (cell-of (rule .fields) grid c)) m
-          ∙ ap (state-or (cell-of (rule .fields) grid c)) (sym (of-unmarked words rule sizes grid marks time p h c m))
+          ∙ ap (state-or (cell-of (rule .fields) grid c)) (sym (of-unmarked sizes grid marks time holds p h c m))
 
       before : (c : ℕ) → c < product sizes → (b : Bool) → marked marks c ≡ b
           → cell-of (rule .fields) scratch′ c ≡ cond (marked marks c) (cell-of (rule .fields) grid c) (cell-of (rule .fields) scratch c)
@@ -105,7 +106,7 @@ module _ {leaves words : List ℕ} {rule : Rule} {sizes : List ℕ} {grid scratc
       before c l false m = y .cells c (in-marks c l) ∙ rw m (f .kept c l m)
 
   pub stepped-fault : {c k q n : ℕ} → r ≡ Gives.Fault c k q n → length filled ≡ length scratch
-      → Stepped words rule sizes grid scratch marks time count (Gives.Fault c k q n) grid filled
+      → SteppedFor Held rule sizes grid scratch marks time count (Gives.Fault c k q n) grid filled
   stepped-fault {c} {k} {q} {n} e size = record {
     fault = λ p h. ap fault-in (sym e) ∙ f .fault p h;
     grid-is = λ p h. sym (after-fault p h (ap fault-in e));
@@ -116,3 +117,17 @@ module _ {leaves words : List ℕ} {rule : Rule} {sizes : List ℕ} {grid scratc
     kept = λ c l m. refl;
     old = λ no. absurd (let z : _≡_ {A = ℕ} 0 1 = cc in omega arith);
   }
+
+-- the same of fewer programs
+pub stepped-of : {Held Held′ : Program → Type 0} {rule : Rule} {sizes : List ℕ} {grid scratch : List ℤ} {marks : List ℕ} {time count : ℕ} {r : Step} {grid′ scratch′ : List ℤ} → ((p : Program) → Held′ p → Held p)
+    → SteppedFor Held rule sizes grid scratch marks time count r grid′ scratch′ → SteppedFor Held′ rule sizes grid scratch marks time count r grid′ scratch′
+stepped-of fewer s = record {
+  fault = λ p h. s .fault p (fewer p h);
+  grid-is = λ p h. s .grid-is p (fewer p h);
+  count-is = λ p h. s .count-is p (fewer p h);
+  counted = s .counted;
+  grid-size = s .grid-size;
+  scratch-size = s .scratch-size;
+  kept = s .kept;
+  old = s .old;
+}

@@ -1,3 +1,4 @@
--- One step under marks: what the functions promise. `Stepping` has the step's contract, `Turns` those of its parts.
+-- One step under marks, and one of the rows of a band: what the functions promise. `Stepping` has the step's contract, `Rows` the band's, `Turns` those of their parts.
 pub mod Stepping
 pub mod Turns
+pub mod Rows

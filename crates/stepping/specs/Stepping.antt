@@ -37,12 +37,12 @@ pub record Ready (leaves words : List ℕ) (rule : Rule) (sizes : List ℕ) (gri
   pub room : count + product sizes ≤ 18446744073709551615
   pub noted : Leaves leaves words sizes (rule .tokens) (rule .fields) (rule .slots)
 
--- what a step gives, under any marks, right or wrong; whichever program stands in the table
-pub record Stepped (words : List ℕ) (rule : Rule) (sizes : List ℕ) (grid scratch : List ℤ) (marks : List ℕ) (time count : ℕ) (r : Step) (grid′ scratch′ : List ℤ) : Type 0 where
+-- what a step gives of the programs held, under any marks, right or wrong
+pub record SteppedFor (Held : Program → Type 0) (rule : Rule) (sizes : List ℕ) (grid scratch : List ℤ) (marks : List ℕ) (time count : ℕ) (r : Step) (grid′ scratch′ : List ℤ) : Type 0 where
   -- fault, grid and count are those of the definition's step under these marks
-  pub fault : (p : Program) → Holds words rule p → fault-in r ≡ quiet-step (running p sizes) marks grid time .fault
-  pub grid-is : (p : Program) → Holds words rule p → grid′ ≡ quiet-step (running p sizes) marks grid time .grid
-  pub count-is : (p : Program) → Holds words rule p → count-in r ≡ count + quiet-step (running p sizes) marks grid time .count
+  pub fault : (p : Program) → Held p → fault-in r ≡ quiet-step (running p sizes) marks grid time .fault
+  pub grid-is : (p : Program) → Held p → grid′ ≡ quiet-step (running p sizes) marks grid time .grid
+  pub count-is : (p : Program) → Held p → count-in r ≡ count + quiet-step (running p sizes) marks grid time .count
   pub counted : count-in r ≤ count + product sizes
   pub grid-size : length grid′ ≡ length grid
   pub scratch-size : length scratch′ ≡ length scratch
@@ -51,3 +51,7 @@ pub record Stepped (words : List ℕ) (rule : Rule) (sizes : List ℕ) (grid scr
   -- without a fault, scratch is left with the old fields of the marked cells; those of the others stay
   pub old : fault-in r ≡ no-fault → (c : ℕ) → c < product sizes
       → cell-of (rule .fields) scratch′ c ≡ cond (marked marks c) (cell-of (rule .fields) grid c) (cell-of (rule .fields) scratch c)
+
+-- the same, whichever program stands in the table
+abbrev pub Stepped : (words : List ℕ) (rule : Rule) (sizes : List ℕ) (grid scratch : List ℤ) (marks : List ℕ) (time count : ℕ) (r : Step) (grid′ scratch′ : List ℤ) → Type 0
+Stepped words rule = SteppedFor (Holds words rule) rule

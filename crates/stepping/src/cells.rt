@@ -11,7 +11,7 @@ use executor::Outcome;
 use executor::cell::evaluate_cell;
 use semantics::Rule;
 
-// Evaluates a marked cell, and counts it: the count returned is one higher, at a fault too. A cell is evaluated in no other way.
+// Evaluates a cell, and counts it: the count returned is one higher, at a fault too. A cell is evaluated in no other way.
 fn evaluate_counted(
     leaves: &[u32; 32776],
     words: &[u32],
@@ -21,13 +21,12 @@ fn evaluate_counted(
     cell: usize,
     grid: &[i32],
     next: &mut [i32],
-    marks: &[u8],
     vars: &mut [i32; 256],
     index: &mut [i32; 16],
     time: u32,
     count: u64,
 ) -> Evaluation
-    requires { ⌜ (marked (now marks) cell ≡ true) × Fit (now leaves) (now words) rule (now sizes) (now place) cell (now grid) (length (now next)) time × (count < 18446744073709551615) ⌝ }
+    requires { ⌜ Fit (now leaves) (now words) rule (now sizes) (now place) cell (now grid) (length (now next)) time × (count < 18446744073709551615) ⌝ }
     ensures { λ r. ⌜ Counted (now (words .entry)) rule (now (sizes .entry)) cell (now (grid .entry)) (now (next .exit)) time count r ⌝ }
 {
     let outcome = evaluate_cell(
@@ -49,8 +48,46 @@ fn evaluate_counted(
     }
 }
 
-// Evaluates a marked cell from the grid into its part of `scratch`. `place` is its coordinates.
+// Evaluates the cell `cell` of a grid into the part of `scratch` that the cell `to` has there. `place` is its coordinates.
 pub fn evaluate_into(
+    leaves: &[u32; 32776],
+    words: &[u32],
+    rule: Rule,
+    sizes: &[u32],
+    place: &[u32],
+    cell: usize,
+    to: usize,
+    grid: &[i32],
+    scratch: &mut [i32],
+    vars: &mut [i32; 256],
+    index: &mut [i32; 16],
+    time: u32,
+    count: u64,
+) -> Evaluation
+    requires { ⌜ Turning (now leaves) (now words) rule (now sizes) (now place) cell to (now grid) (length (now scratch)) time count ⌝ }
+    ensures { λ r. ⌜ Turned (now (words .entry)) rule (now (sizes .entry)) cell to (now (grid .entry)) (now (scratch .entry)) (now (scratch .exit)) time count r ⌝ }
+{
+    let fields = rule.fields as usize;
+    let from = to * fields;
+    let end = from + fields;
+    evaluate_counted(
+        leaves,
+        words,
+        rule,
+        sizes,
+        place,
+        cell,
+        grid,
+        &mut scratch[from..end],
+        vars,
+        index,
+        time,
+        count,
+    )
+}
+
+// Evaluates a marked cell into its own part of `scratch`: a step evaluates in no other way.
+pub fn evaluate_open(
     leaves: &[u32; 32776],
     words: &[u32],
     rule: Rule,
@@ -65,22 +102,19 @@ pub fn evaluate_into(
     time: u32,
     count: u64,
 ) -> Evaluation
-    requires { ⌜ (marked (now marks) cell ≡ true) × Turning (now leaves) (now words) rule (now sizes) (now place) cell (now grid) (length (now scratch)) time count ⌝ }
-    ensures { λ r. ⌜ Turned (now (words .entry)) rule (now (sizes .entry)) cell (now (grid .entry)) (now (scratch .entry)) (now (scratch .exit)) time count r ⌝ }
+    requires { ⌜ (marked (now marks) cell ≡ true) × Turning (now leaves) (now words) rule (now sizes) (now place) cell cell (now grid) (length (now scratch)) time count ⌝ }
+    ensures { λ r. ⌜ Turned (now (words .entry)) rule (now (sizes .entry)) cell cell (now (grid .entry)) (now (scratch .entry)) (now (scratch .exit)) time count r ⌝ }
 {
-    let fields = rule.fields as usize;
-    let from = cell * fields;
-    let end = from + fields;
-    evaluate_counted(
+    evaluate_into(
         leaves,
         words,
         rule,
         sizes,
         place,
         cell,
+        cell,
         grid,
-        &mut scratch[from..end],
-        marks,
+        scratch,
         vars,
         index,
         time,

@@ -1,6 +1,7 @@
-// One step of a rule under marks. Outside this crate a cell is evaluated by `step` alone: `cells` is private.
+// One step of a rule, under marks or of the rows of a band. Outside this crate a cell is evaluated by `step` and `step_rows` alone: `cells` is private.
 
 mod cells;
+pub mod rows;
 pub mod steps;
 
 // What evaluating one cell gives: the count, one higher; and at a fault its number and place.

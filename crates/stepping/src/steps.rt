@@ -5,7 +5,7 @@ ghost use Rattle.stepping.specs.Turns.{Filled};
 ghost use Rattle.stepping.specs.Stepping.{Ready, Stepped};
 use crate::Evaluation;
 use crate::Step;
-use crate::cells::evaluate_into;
+use crate::cells::evaluate_open;
 use marked_cells::exchange::exchange_marked;
 use marked_cells::places::move_place;
 use marked_cells::places::set_place;
@@ -34,7 +34,7 @@ fn evaluate_marked(
     let mut cell = next_marked(marks, 0);
     set_place(sizes, cell as u32, place);
     while cell < marks.len() {
-        let turn = evaluate_into(
+        let turn = evaluate_open(
             leaves,
             words,
             rule,

@@ -18,7 +18,6 @@ use Rattle.program.specs.Syntax.{Program}
 use Rattle.grammar.specs.Source.{Accepted}
 use Rattle.grammar.specs.Checking as checking
 use Rattle.grammar.specs.Checking.{Outcome, turned-away, accepted, read-source}
-use Rattle.linking.specs.Accepted.{parsed, flagged}
 use Rattle.stepper.specs.Reach.{running}
 use Rattle.stepper.specs.Report.{Manner, full, quiet, pausing, resuming, pending-of, Report, ended}
 use Rattle.stepper.specs.Covering.{running-lawful}
@@ -27,9 +26,9 @@ use Rattle.one_move.specs.Profile.{profile-flag}
 use Rattle.services.specs.Running.{Asked, admitted, blocks, report-of, run, standing}
 use Rattle.services.specs.RunningLaws.{request-admitted, run-admitted}
 use Rattle.services.specs.Services.{run-read, run-source, run-begins, marks-admitted, marks-read, marks-after}
+use Rattle.services.specs.AcceptedSources.{accepted-flagged}
 use Rattle.iteration.specs.Stepwise.{report-in}
-use Rattle.runner.specs.Timing.{timing}
-use Rattle.runner.specs.Property3.{Agree, read-of, paused-agrees}
+use Rattle.runner.specs.Property3.{Agree, paused-agrees}
 use Rattle.joining.specs.Joins.{Pauses, GoesOn, behind, at-once, together, all-at-once, all-together, last-marks, Chain}
 use Rattle.joining.proofs.RunLaws.{quiet-of, report-is, standing-is, steps-in, grid-in, joined-report, at-once-admitted, no-stop, stopped, both-calls}
 
@@ -52,9 +51,8 @@ began fit source q e = by (read-source fit source) refl e
 module _ {fit : Bool} {source : List ℕ} {q : Asked} (b : Began fit source q) where
   laws-of : Lawful (running (b .read .program) (q .request .sizes))
   laws-of =
-      let r = read-of fit source (b .read) (b .is) in
       running-lawful (b .read .program) (q .request .sizes) (admitted-dims (b .read .program) (q .request) (request-admitted (b .read .program) (profile-flag source (b .read)) q (b .admits)))
-      (flagged timing source (b .read) (parsed source (r .0) (b .read) (r .1)))
+      (accepted-flagged fit source (b .read) (b .is))
 
   source-report : (manner : Manner) → run-source manner fit source q ≡ report-of manner (b .read .program) q
   unfolding run-source

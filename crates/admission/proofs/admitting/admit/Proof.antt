@@ -1,3 +1,4 @@
+use native.Mathlib.Omega.{arith}
 use borrow.Author.Needs.{needs}
 use Rattle.admission.proofs.AdmissionLaws.{read-times, few, asked-refused, far-refused, admitted}
 use Rattle.admission.proofs.admitting.admit.Statement.{statement}
@@ -39,7 +40,7 @@ out-of-field-requires c κs =
     let u = c .before .before .before .before in
     let t = u .before in
     let s = t .before .before .before in
-    (s .pre .0, s .pre .1, few (s .pre .0) (t .refused-request .ensures .shaped (u .if1 .left)))
+    (s .pre .0, s .pre .1, omega (arith, few (s .pre .0) (t .refused-request .ensures .shaped (u .if1 .left))))
 
 -- src/admitting.rt:39:1
 returns-3 : tie.Need-returns-3

@@ -1,8 +1,9 @@
 use borrow.Author.Needs.{needs}
 use mathlib.Core.Path.{refl, sym, _∙_}
 use borrow.Author.Tests.{not-true, not-false}
+use Rattle.loading.proofs.Theorems.SourceLoaded.{accepts}
 use Rattle.runner.proofs.OpeningLaws as laws
-use Rattle.runner.proofs.OpeningLaws.{accepts, unread, not-admitted, some-sizes, not-counted, flag-ready, list-ready, not-listed, begun, read-opens}
+use Rattle.runner.proofs.OpeningLaws.{unread, not-admitted, some-sizes, not-counted, flag-ready, list-ready, not-listed, begun, read-opens}
 use Rattle.runner.proofs.opening.open_run.Statement.{statement}
 use Rattle.runner.proofs.opening.open_run.Tie as tie
 

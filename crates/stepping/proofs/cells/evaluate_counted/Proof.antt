@@ -9,14 +9,14 @@ evaluate-cell-requires c κs = search needs
 enum-told : tie.Need-enum-told
 enum-told c = search needs
 
-add-t22 : tie.Need-add-t22
-add-t22 c = search needs
+add-t21 : tie.Need-add-t21
+add-t21 c = search needs
 
 enum-known-outcome : tie.Need-enum-known-outcome
 enum-known-outcome c = search needs
 
-add-t23 : tie.Need-add-t23
-add-t23 c = search needs
+add-t22 : tie.Need-add-t22
+add-t22 c = search needs
 
 same-length : tie.Need-same-length
 same-length c = search needs
@@ -36,9 +36,9 @@ evaluate-counted-spec =
     (tie.spec
     evaluate-cell-requires
     enum-told
-    add-t22
+    add-t21
     enum-known-outcome
-    add-t23
+    add-t22
     same-length
     returns
     same-length-2

@@ -1,7 +1,7 @@
 use Prim.Native.Nat.{_*_}
 use mathlib.Core.Path.{refl}
 use borrow.Author.Needs.{needs}
-use Rattle.stepping.proofs.TurnLaws.{part-length, part-whole, turn-room, turn-small, turn-fit, turned}
+use Rattle.stepping.proofs.TurnLaws.{part-length, part-whole, turn-fit, turned}
 use Rattle.stepping.proofs.cells.evaluate_into.Statement.{statement}
 use Rattle.stepping.proofs.cells.evaluate_into.Tie as tie
 
@@ -10,23 +10,17 @@ cast-fields c = search needs
 
 mul-from : tie.Need-mul-from
 mul-from c =
-    let p = c .before .before .before .before .before .pre .1 in
-    let a = turn-room p in
-    let b = turn-small p in
+    let a = c .before .before .before .before .pre .part-fits in
     search needs
 
 add-end : tie.Need-add-end
 add-end c =
-    let p = c .before .before .before .before .before .pre .1 in
-    let a = turn-room p in
-    let b = turn-small p in
+    let a = c .before .before .before .before .pre .part-fits in
     search needs
 
 mul-evaluate-counted : tie.Need-mul-evaluate-counted
 mul-evaluate-counted c =
-    let p = c .before .before .before .before .before .pre .1 in
-    let a = turn-room p in
-    let b = turn-small p in
+    let a = c .before .before .before .before .pre .part-fits in
     search needs
 
 sub-evaluate-counted : tie.Need-sub-evaluate-counted
@@ -36,21 +30,21 @@ part-evaluate-counted-start : tie.Need-part-evaluate-counted-start
 part-evaluate-counted-start c = search needs
 
 part-evaluate-counted-end : tie.Need-part-evaluate-counted-end
-part-evaluate-counted-end c = turn-room (c .before .before .before .before .before .pre .1)
+part-evaluate-counted-end c = c .before .before .before .before .pre .part-fits
 
 evaluate-counted-requires : tie.Need-evaluate-counted-requires
 evaluate-counted-requires c κs =
-    let p = c .before .before .before .before .before .before .before .before .pre in
-    (p .0, turn-fit (p .1) (part-length _ _ _ (turn-room (p .1))), p .1 .countable)
+    let p = c .before .before .before .before .before .before .before .pre in
+    (turn-fit p (part-length _ _ _ (p .part-fits)), p .countable)
 
 same-length : tie.Need-same-length
 same-length c = search needs
 
 returns : tie.Need-returns
 returns c =
-    let s = c .before .before .before .before .before .before .before .before .before .before in
-    let long = part-length (s .args .cell * s .args .rule .fields) (s .args .rule .fields) (s .args .scratch .now) (turn-room (s .pre .1)) in
-    turned (s .pre .1) (c .before .evaluate-counted .ensures) refl (search needs) (part-whole _ _)
+    let s = c .before .before .before .before .before .before .before .before .before in
+    let long = part-length (s .args .to * s .args .rule .fields) (s .args .rule .fields) (s .args .scratch .now) (s .pre .part-fits) in
+    turned (s .pre) (c .before .evaluate-counted .ensures) refl (search needs) (part-whole _ _)
 
 pub evaluate-into-spec : {M : Type 1} → statement M
 evaluate-into-spec =

@@ -6,6 +6,7 @@ use native.Mathlib.Omega.{arith}
 use borrow.Author.Needs.{needs}
 use Rattle.automaton.specs.Step.{marked}
 use Rattle.marked_cells.specs.Marked.{Placed}
+use Rattle.semantics.specs.Stands.{Holds}
 use Rattle.stepping.proofs.StepLaws.{cell-small, moving}
 use Rattle.stepping.proofs.FillLaws.{Filling, fill-start, turning, fill-skip, fill-turn, fill-stop, fill-done}
 use Rattle.stepping.proofs.steps.evaluate_marked.Statement.{statement}
@@ -13,7 +14,7 @@ use Rattle.stepping.proofs.steps.evaluate_marked.Tie as tie
 
 abbrev Inv-loop : tie.InvT-loop
 Inv-loop leaves words rule sizes place₀ old new₀ marks vars₀ index₀ time count total₀ cell₀ place new vars index total cell =
-    Filling words rule sizes old marks time new₀ count cell total new × (cell ≤ length marks) × (cell < length marks → marked marks cell ≡ true)
+    Filling sizes old marks time (Holds words rule) rule new₀ count cell total new × (cell ≤ length marks) × (cell < length marks → marked marks cell ≡ true)
     × (length new ≡ length new₀) × (length place ≡ length sizes) × Placed sizes cell place
 
 abbrev μ-loop : tie.MeasureT-loop
@@ -36,14 +37,14 @@ set-place-requires c κs =
 loop-holds : tie.Need-loop-holds Inv-loop μ-loop
 loop-holds c =
     let n = c .before .before .before .before .next-marked .ensures in
-    (fill-skip _ _ _ _ _ _ _ _ 0 _ _ _ (fill-start _ _ _ _ _ _ _ _) n, n .within, n .found, refl, search needs, c .before .before .set-place .ensures)
+    (fill-skip _ _ _ _ (λ p h. h) 0 _ _ _ (fill-start _ _ _ _ _ _ _ _) n, n .within, n .found, refl, search needs, c .before .before .set-place .ensures)
 
-evaluate-into-requires : tie.Need-evaluate-into-requires Inv-loop μ-loop
-evaluate-into-requires c κs =
+evaluate-open-requires : tie.Need-evaluate-open-requires Inv-loop μ-loop
+evaluate-open-requires c κs =
     let l = c .before .before .before .before .before .loop in
     let p = c .before .before .before .before .before .before .before .before .before .before .before .before .before .before .before .pre in
     let t = c .before .before .before .before .loop-test .taken in
-    (l .inv .2 t, turning _ _ _ _ _ _ _ _ (l .cell) (l .total) (l .new) (p .0) (l .inv .5) (l .inv .3) (l .inv .0) t)
+    (l .inv .2 t, turning _ _ _ _ (l .cell) (l .total) (l .new) (p .0) (l .inv .5) (l .inv .3) (l .inv .0) t)
 
 enum-known-turn : tie.Need-enum-known-turn Inv-loop μ-loop
 enum-known-turn c = search needs
@@ -67,8 +68,8 @@ returns c =
     let l = c .before .before .before .before .before .before .before .before .before .before .loop in
     let p = c .before .before .before .before .before .before .before .before .before .before .before .before .before .before .before .before .before .before .before .before .pre .0 in
     let t = c .before .before .before .before .before .before .before .before .before .loop-test .taken in
-    let e = c .before .before .before .before .evaluate-into .ensures in
-    fill-stop _ _ _ _ _ _ _ _ (l .cell) (l .total) (l .new) _ (l .inv .0) (l .inv .2 t) e (c .before .turn2 .given .1) (omega (arith, p .marks-fit))
+    let e = c .before .before .before .before .evaluate-open .ensures in
+    fill-stop _ _ _ _ (λ p h. h) (l .cell) (l .total) (l .new) _ (l .inv .0) (l .inv .2 t) e (c .before .turn2 .given .1) (omega (arith, p .marks-fit))
 
 add-next-marked : tie.Need-add-next-marked Inv-loop μ-loop
 add-next-marked c = search needs
@@ -89,9 +90,9 @@ loop-again c =
     let l = c .before .before .before .before .before .before .before .before .before .before .before .before .before .before .before .loop in
     let n = c .before .before .before .before .next-marked2 .ensures in
     let t = c .before .before .before .before .before .before .before .before .before .before .before .before .before .before .loop-test .taken in
-    let e = c .before .before .before .before .before .before .before .before .before .evaluate-into .ensures in
-    let f = fill-turn _ _ _ _ _ _ _ _ (l .cell) (l .total) (l .new) _ (l .inv .0) (l .inv .2 t) e (c .before .before .before .before .before .before .turn .given .1) in
-    (fill-skip _ _ _ _ _ _ _ _ _ _ _ _ f n, n .within, n .found, search needs, search needs, c .before .before .move-place .ensures)
+    let e = c .before .before .before .before .before .before .before .before .before .evaluate-open .ensures in
+    let f = fill-turn _ _ _ _ (λ p h. h) (l .cell) (l .total) (l .new) _ (l .inv .0) (l .inv .2 t) e (c .before .before .before .before .before .before .turn .given .1) in
+    (fill-skip _ _ _ _ (λ p h. h) _ _ _ _ f n, n .within, n .found, search needs, search needs, c .before .before .move-place .ensures)
 
 same-length-3 : tie.Need-same-length-3 Inv-loop μ-loop
 same-length-3 c = search needs
@@ -103,7 +104,7 @@ returns-2 : tie.Need-returns-2 Inv-loop μ-loop
 returns-2 c =
     let l = c .before .loop in
     let m = c .before .before .before .before .before .before .before .before .before .before .before .pre .0 .marks-fit in
-    fill-done _ _ _ _ _ _ _ _ (l .cell) (l .total) (l .new) (l .inv .0) (omega arith) (omega arith)
+    fill-done _ _ _ _ (λ p h. h) (l .cell) (l .total) (l .new) (l .inv .0) (omega arith) (omega arith)
 
 pub evaluate-marked-spec : {M : Type 1} → statement M
 evaluate-marked-spec =
@@ -115,7 +116,7 @@ evaluate-marked-spec =
     cast-set-place
     set-place-requires
     loop-holds
-    evaluate-into-requires
+    evaluate-open-requires
     enum-known-turn
     enum-known-turn-2
     cast-t33

@@ -24,7 +24,7 @@ cast-exchange-marked c = search needs
 exchange-marked-requires : tie.Need-exchange-marked-requires
 exchange-marked-requires c κs =
     let p = c .before .before .before .before .before .before .before .before .before .before .before .before .before .before .before .before .before .pre in
-    exchanging p (search needs)
+    exchanging (p .rule-fits) (p .shaped) (p .scratch-fits) (p .marks-fit) (search needs)
 
 enum-known-done-2 : tie.Need-enum-known-done-2
 enum-known-done-2 c = search needs
@@ -40,7 +40,7 @@ returns c =
     let p = c .before .before .before .before .before .before .before .before .before .before .before .before .before .before .before .before .before .before .before .before .pre in
     let f = c .before .before .before .before .before .before .before .before .before .before .before .evaluate-marked .ensures in
     let x = c .before .before .exchange-marked .ensures in
-    stepped-done p f (c .before .before .before .before .before .before .before .done .given .1) (x .0) (x .1) (search needs)
+    stepped-done (p .shaped) (p .marks-fit) (λ q h. h) f (c .before .before .before .before .before .before .before .done .given .1) (x .0) (x .1) (search needs)
 
 same-length-3 : tie.Need-same-length-3
 same-length-3 c = search needs
@@ -51,7 +51,7 @@ same-length-4 c = search needs
 returns-2 : tie.Need-returns-2
 returns-2 c =
     let p = c .before .before .before .before .before .before .before .before .before .before .before .before .before .before .pre in
-    stepped-fault p (c .before .before .before .before .before .evaluate-marked .ensures) (c .before .done2 .given .1) (search needs)
+    stepped-fault (p .shaped) (p .marks-fit) (λ q h. h) (c .before .before .before .before .before .evaluate-marked .ensures) (c .before .done2 .given .1) (search needs)
 
 pub step-spec : {M : Type 1} → statement M
 step-spec =

@@ -1,0 +1,3 @@
+-- The theorems on a band's call.
+pub mod Standing
+pub mod InGrid

@@ -1,0 +1,64 @@
+-- What the functions of a band's call promise.
+use mathlib.Core.Path.{_≡_}
+use mathlib.Core.Bool.{Bool, true}
+use mathlib.Core.List.{List}
+use Prim.Native.Nat.{ℕ, suc, _+_, _-_, _*_, _<_, _≤_}
+use lib.ListN.{length, getD, drop}
+use lib.IntN.{ℤ}
+use Rattle.automaton.specs.Step as automaton
+use Rattle.automaton.specs.Shape.{product, Bound}
+use Rattle.automaton.specs.ShapeLaws.{Positive}
+use Rattle.automaton.specs.Bands.{Band, rows-in, rows-with, band-step}
+use Rattle.token.specs.Lexeme.{is-built-in}
+use Rattle.program.specs.Syntax.{Program}
+use Rattle.grammar.specs.Checking.{words-after, names-after}
+use Rattle.semantics.specs.declared.Rule.{Rule}
+use Rattle.semantics.specs.Evaluation.{evaluate}
+use Rattle.semantics.specs.Stands.{Holds}
+use Rattle.stepper.specs.Fitting.{Sized}
+use Rattle.stepper.specs.Report as report
+use Rattle.services.specs.Calls.{NameForm}
+use Rattle.iteration.specs.declared.Report.{Report}
+use Rattle.iteration.specs.Stepwise.{told}
+use Rattle.band_call.specs.BandCall.{row-cells, BandAsked, band-ended, band-source, BandLent, band-left}
+
+-- `step_lent`: what is asked of an admitted call
+pub record LentFits (words : List ℕ) (rule : Rule) (sizes : List ℕ) (row : ℕ) (border : Bound) (b : Band) (rows room time : ℕ) : Type 0 where
+  pub rule-fits : Sized (length words) rule
+  pub dims : length sizes ≡ rule .dims
+  pub some-dims : 0 < length sizes
+  pub positive : Positive sizes
+  pub few-cells : product sizes ≤ 1048576
+  pub row-is : row ≡ row-cells sizes
+  pub order : b .first ≤ b .last
+  pub inside : b .last < getD sizes 0 0
+  pub near : (border .back ≤ getD sizes 0 0) × (border .ahead ≤ getD sizes 0 0)
+  pub rows-are : rows ≡ rows-with border b * row * rule .fields
+  pub room-is : room ≡ rows-in b * row * rule .fields
+  pub small : time < 2147483648
+
+-- the step of a band by a program, on the rows that are lent
+abbrev pub stepped-by : Program → ℕ → List ℕ → Bound → Band → List ℤ → ℕ → automaton.Step (List ℤ)
+stepped-by p fields sizes border b rows time = band-step (drop 1 sizes) fields (evaluate p) (rows-with border b) (border .back) (rows-in b) rows time
+
+-- whichever program stands in the table, the report with the room is that of its step
+pub record LentStepped (words : List ℕ) (rule : Rule) (sizes : List ℕ) (border : Bound) (b : Band) (rows room : List ℤ) (time : ℕ) (r : Report) (room′ : List ℤ) : Type 0 where
+  pub says : (p : Program) → Holds words rule p
+      → told r room′ ≡ band-ended (b .first * row-cells sizes) (length room) (stepped-by p (rule .fields) sizes border b rows time .fault) (stepped-by p (rule .fields) sizes border b rows time)
+
+-- `band_listed`: the report to a source, and what is left, whether or not the rooms fit
+pub record StepsSource (fit : Bool) (source words names : List ℕ) (q : BandAsked) (r : Report) (words′ names′ : List ℕ) (room′ : List ℤ) : Type 0 where
+  pub report : told r room′ ≡ band-source fit source q
+  pub words-are : words′ ≡ words-after fit source words
+  pub names-are : names′ ≡ names-after fit source names
+
+-- `step_band`: the report, and the memory that it leaves, are those of the definition
+pub record BandLeaves {N : Type 0} (form : NameForm N) (l : BandLent N) (r : Report) (words : List ℕ) (names : List N) (room : List ℤ) : Type 0 where
+  pub is : record { report = told r room; words = words; names = names } ≡ band-left form l
+
+-- what is asked, and what is lent
+abbrev pub band-asked : List ℕ → (first last held : ℕ) → List ℤ → List ℤ → ℤ → BandAsked
+band-asked sizes first last held rows room time = record { sizes = sizes; band = record { first = first; last = last }; held = held; rows = rows; room = room; time = time }
+
+abbrev pub band-lent : {N : Type 0} → List ℕ → List ℕ → List ℕ → List N → BandAsked → BandLent N
+band-lent source list words names q = record { source = source; list = list; words = words; names = names; asked = q }

@@ -1,0 +1,4 @@
+-- The laws by which the functions are proved, by topic.
+mod LendLaws
+pub mod OneBand
+pub mod AllBands

@@ -1,0 +1,2 @@
+-- The theorems of bands of rows.
+pub mod Theorems

@@ -1,0 +1,145 @@
+// Plans of bands of rows, and one band's call.
+ghost use Rattle.bands.specs.BorderCall.{borders-lent};
+ghost use Rattle.bands.specs.PlanCalls.{plan-lent};
+ghost use Rattle.band_call.specs.Contracts.Calling.{band-asked, band-lent};
+ghost use Rattle.cellang.specs.Told.{TellsBorders, TellsPlanCheck, TellsPlanned, TellsBand};
+use band_call::step_band;
+use entries::put_borders;
+use entries::put_planned;
+use entries::put_reply;
+use entries::put_report;
+use planner::borders_of;
+use planner::check_plan;
+use planner::plan_bands;
+use spelling::told_part;
+
+// How many border rows a band has: gives the reply's number. `reply` is told number, place, the rows before and behind, and the spelling: where it stands, its
+// first byte and its length.
+#[no_mangle]
+pub extern "C" fn cellang_border_rows(
+    source: &[u8],
+    list: &[u8],
+    words: &mut [u32],
+    names: &mut [u32],
+    sizes: &[u32],
+    reply: &mut [u32],
+) -> u32
+    ensures { λ r. ⌜ TellsBorders (borders-lent (now (source .entry)) (now (list .entry)) (now (words .entry)) (now (names .entry)) (now (sizes .entry))) (now (reply .entry)) r (now (words .exit)) (now (names .exit)) (now (reply .exit)) ⌝ }
+{
+    let told = borders_of(source, list, words, names, sizes);
+    let part = told_part(source, told.number, told.place);
+    put_borders(
+        reply,
+        told.number,
+        told.place,
+        told.before,
+        told.behind,
+        part.stands,
+        part.start,
+        part.len,
+    );
+    told.number
+}
+
+// Checks a plan, and gives the reply's number. `reply` is told number and place, and the spelling: where it stands, its first byte and its length.
+#[no_mangle]
+pub extern "C" fn cellang_check_plan(
+    source: &[u8],
+    list: &[u8],
+    words: &mut [u32],
+    names: &mut [u32],
+    sizes: &[u32],
+    held: u32,
+    plan: &[u32],
+    reply: &mut [u32],
+) -> u32
+    ensures { λ r. ⌜ TellsPlanCheck (plan-lent (now (source .entry)) (now (list .entry)) (now (words .entry)) (now (names .entry)) (now (sizes .entry)) held (now (plan .entry))) (now (reply .entry)) r (now (words .exit)) (now (names .exit)) (now (reply .exit)) ⌝ }
+{
+    let told = check_plan(source, list, words, names, sizes, held, plan);
+    let part = told_part(source, told.number, told.place);
+    put_reply(
+        reply,
+        told.number,
+        told.place,
+        part.stands,
+        part.start,
+        part.len,
+    );
+    told.number
+}
+
+// Plans the bands, and gives the reply's number. `reply` is told number, place and how many bands there are, and the spelling: where it stands, its first byte
+// and its length.
+#[no_mangle]
+pub extern "C" fn cellang_plan_bands(
+    source: &[u8],
+    list: &[u8],
+    words: &mut [u32],
+    names: &mut [u32],
+    sizes: &[u32],
+    held: u32,
+    bands: &mut [u32],
+    reply: &mut [u32],
+) -> u32
+    ensures { λ r. ⌜ TellsPlanned (plan-lent (now (source .entry)) (now (list .entry)) (now (words .entry)) (now (names .entry)) (now (sizes .entry)) held (now (bands .entry))) (now (reply .entry)) r (now (words .exit)) (now (names .exit)) (now (bands .exit)) (now (reply .exit)) ⌝ }
+{
+    let told = plan_bands(source, list, words, names, sizes, held, bands);
+    let part = told_part(source, told.number, told.place);
+    put_planned(
+        reply,
+        told.number,
+        told.place,
+        told.bands,
+        part.stands,
+        part.start,
+        part.len,
+    );
+    told.number
+}
+
+// One band's step, from the band's old rows with borders and the time alone: gives the reply's number. `report` is told as that of a run of one step.
+#[no_mangle]
+pub extern "C" fn cellang_step_band(
+    source: &[u8],
+    list: &[u8],
+    words: &mut [u32],
+    names: &mut [u32],
+    sizes: &[u32],
+    first: u32,
+    last: u32,
+    held: u32,
+    rows: &[i32],
+    room: &mut [i32],
+    time: i64,
+    report: &mut [u64],
+) -> u32
+    ensures { λ r. ⌜ TellsBand (band-lent (now (source .entry)) (now (list .entry)) (now (words .entry)) (now (names .entry)) (band-asked (now (sizes .entry)) first last held (now (rows .entry)) (now (room .entry)) time)) (now (report .entry)) r (now (words .exit)) (now (names .exit)) (now (room .exit)) (now (report .exit)) ⌝ }
+{
+    let told = step_band(
+        source,
+        list,
+        words,
+        names,
+        sizes,
+        first,
+        last,
+        held,
+        rows,
+        room,
+        time,
+    );
+    let part = told_part(source, told.number, told.place);
+    put_report(
+        report,
+        told.number,
+        told.place,
+        told.cell,
+        told.steps,
+        told.count,
+        part.stands,
+        part.start,
+        part.len,
+        told.line,
+    );
+    told.number
+}

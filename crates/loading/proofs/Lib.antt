@@ -1,0 +1,2 @@
+-- A source that a call has loaded: the theorem.
+pub mod Theorems

@@ -1,0 +1,2 @@
+-- A source that a call has loaded.
+pub mod Loaded
