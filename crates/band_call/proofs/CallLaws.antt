@@ -35,7 +35,7 @@ use Rattle.admission.proofs.RequestLaws.{good-start, good-total}
 use Rattle.bands.specs.Edge.{edge}
 use Rattle.bands.specs.OnSizes.{on-sizes}
 use Rattle.planner.specs.declared.opening.RowsOpened.{RowsOpened}
-use Rattle.planner.specs.Contracts.Borders.{bound}
+use Rattle.bands.specs.Edge.{bound}
 use Rattle.planner.specs.Contracts.Opening.{RowsOpen, OpensRows}
 use Rattle.stepping.specs.declared.Step.{Step}
 use Rattle.stepping.specs.declared.Step.the-variants as Gives

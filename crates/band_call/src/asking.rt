@@ -4,7 +4,7 @@ ghost use Prim.Native.Nat.{_≤_};
 ghost use lib.ListN.{length};
 ghost use Rattle.band_call.specs.BandCall.{row-cells, band-right, band-rooms};
 ghost use Rattle.bands.specs.Plans.{band};
-ghost use Rattle.planner.specs.Contracts.Borders.{bound};
+ghost use Rattle.bands.specs.Edge.{bound};
 ghost use Rattle.band_call.specs.Contracts.Asking.{Divisible, RefusesBand};
 use admission::cells;
 use admission::good_times;

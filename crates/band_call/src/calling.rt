@@ -4,7 +4,7 @@ ghost use mathlib.Core.Path.{_≡_};
 ghost use Rattle.grammar.specs.Checking.{rooms-fit};
 ghost use Rattle.services.specs.Calls.{flat-names};
 ghost use Rattle.bands.specs.Plans.{band};
-ghost use Rattle.planner.specs.Contracts.Borders.{bound};
+ghost use Rattle.bands.specs.Edge.{bound};
 ghost use Rattle.stepper.specs.Report.{refused};
 ghost use Rattle.iteration.specs.Stepwise.{told};
 ghost use mathlib.Core.List.{List};

@@ -32,7 +32,7 @@ use Rattle.stepping.specs.Stepping.{fault-in, count-in}
 use Rattle.stepping.specs.Turns.{given}
 use Rattle.stepping.specs.Rows.{RowsReady, RowsStepped}
 use Rattle.banding.specs.Contracts.Lending.{Lending, with-rows}
-use Rattle.banding.specs.Contracts.Bandwise.{borders, Bordered, Grounds, BandFits, BandEvaluated}
+use Rattle.banding.specs.Contracts.Bandwise.{Bordered, Grounds, BandFits, BandEvaluated}
 
 -- ---- lists
 

@@ -2,14 +2,15 @@
 ghost use lib.ListN.{length};
 ghost use Prim.Native.Nat.{suc, _-_, _*_};
 ghost use Rattle.stepping.specs.Stepping.{SteppedFor};
-ghost use Rattle.banding.specs.Contracts.Bandwise.{borders, Bordered, Grounds, BandFits, BandEvaluated, AllEvaluated, Planned, AllMarked};
+ghost use Rattle.bands.specs.Edge.{bound};
+ghost use Rattle.banding.specs.Contracts.Bandwise.{Bordered, Grounds, BandFits, BandEvaluated, AllEvaluated, Planned, AllMarked};
 use crate::lending::fill_room;
 use marked_cells::exchange::exchange_marked;
 use semantics::Rule;
 use stepping::Step;
 use stepping::rows::step_rows;
 
-// Evaluates one band of a grid, from its first row to its last, into its part of `scratch`. Its rows with borders are copied into the room first, and
+// Evaluates one band of a grid, from its first row to its last, into its part of `scratch`. Its rows with bound are copied into the room first, and
 // read from there. A fault's cell is counted from the band's first.
 fn evaluate_band(
     leaves: &[u32; 32776],
@@ -28,8 +29,8 @@ fn evaluate_band(
     time: u32,
     count: u64,
 ) -> Step
-    requires { ⌜ Grounds (now leaves) (now words) rule (now sizes) (now shape) row (borders before behind) (length (now grid)) (length (now scratch)) (length (now room)) time × BandFits (now sizes) (now shape) row (borders before behind) first last count ⌝ }
-    ensures { λ r. ⌜ BandEvaluated (Bordered (now (words .entry)) rule (borders before behind)) rule (now (sizes .entry)) (first * row) ((suc last - first) * row) (now (grid .entry)) (now (scratch .entry)) time count r (now (scratch .exit)) ⌝ }
+    requires { ⌜ Grounds (now leaves) (now words) rule (now sizes) (now shape) row (bound before behind) (length (now grid)) (length (now scratch)) (length (now room)) time × BandFits (now sizes) (now shape) row (bound before behind) first last count ⌝ }
+    ensures { λ r. ⌜ BandEvaluated (Bordered (now (words .entry)) rule (bound before behind)) rule (now (sizes .entry)) (first * row) ((suc last - first) * row) (now (grid .entry)) (now (scratch .entry)) time count r (now (scratch .exit)) ⌝ }
 {
     let fields = rule.fields as usize;
     let own = last + 1 - first;
@@ -69,8 +70,8 @@ fn evaluate_bands(
     time: u32,
     count: u64,
 ) -> Step
-    requires { ⌜ Grounds (now leaves) (now words) rule (now sizes) (now shape) row (borders before behind) (length (now grid)) (length (now scratch)) (length (now room)) time × Planned (now sizes) (now shape) (borders before behind) (now plan) count ⌝ }
-    ensures { λ r. ⌜ AllEvaluated (Bordered (now (words .entry)) rule (borders before behind)) rule (now (sizes .entry)) (now (grid .entry)) time count r (now (scratch .exit)) ⌝ }
+    requires { ⌜ Grounds (now leaves) (now words) rule (now sizes) (now shape) row (bound before behind) (length (now grid)) (length (now scratch)) (length (now room)) time × Planned (now sizes) (now shape) (bound before behind) (now plan) count ⌝ }
+    ensures { λ r. ⌜ AllEvaluated (Bordered (now (words .entry)) rule (bound before behind)) rule (now (sizes .entry)) (now (grid .entry)) time count r (now (scratch .exit)) ⌝ }
 {
     let mut total = count;
     let mut k: usize = 0;
@@ -127,8 +128,8 @@ pub fn step_under(
     time: u32,
     count: u64,
 ) -> Step
-    requires { ⌜ Grounds (now leaves) (now words) rule (now sizes) (now shape) row (borders before behind) (length (now grid)) (length (now scratch)) (length (now room)) time × Planned (now sizes) (now shape) (borders before behind) (now plan) count × AllMarked (now sizes) (now marks) ⌝ }
-    ensures { λ r. ⌜ SteppedFor (Bordered (now (words .entry)) rule (borders before behind)) rule (now (sizes .entry)) (now (grid .entry)) (now (scratch .entry)) (now (marks .entry)) time count r (now (grid .exit)) (now (scratch .exit)) ⌝ }
+    requires { ⌜ Grounds (now leaves) (now words) rule (now sizes) (now shape) row (bound before behind) (length (now grid)) (length (now scratch)) (length (now room)) time × Planned (now sizes) (now shape) (bound before behind) (now plan) count × AllMarked (now sizes) (now marks) ⌝ }
+    ensures { λ r. ⌜ SteppedFor (Bordered (now (words .entry)) rule (bound before behind)) rule (now (sizes .entry)) (now (grid .entry)) (now (scratch .entry)) (now (marks .entry)) time count r (now (grid .exit)) (now (scratch .exit)) ⌝ }
 {
     let done = evaluate_bands(
         leaves,

@@ -1,9 +1,14 @@
 -- The border rows of a program: how far its reach goes in the first dimension.
 use mathlib.Core.List.{List, [], _∷_}
+use Prim.Native.Nat.{ℕ}
 use lib.IntN.{ℤ, pos}
 use Rattle.automaton.specs.Shape.{Bound}
 use Rattle.program.specs.Syntax.{range, Program}
 use Rattle.stepper.specs.Reach.{own-only, widen, reach}
+
+-- so many border rows before and behind
+abbrev pub bound : ℕ → ℕ → Bound
+bound before behind = record { back = before; ahead = behind }
 
 -- the index in the first dimension
 abbrev pub first-index : List ℤ → ℤ

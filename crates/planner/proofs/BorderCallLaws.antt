@@ -16,7 +16,7 @@ use Rattle.bands.specs.OnSizes.{on-sizes}
 use Rattle.bands.specs.BorderCall.{Borders, no-borders, borders, borders-on, borders-source, BordersLent, borders-lent-fits, borders-left}
 use Rattle.planner.specs.declared.opening.RowsOpened.{RowsOpened}
 use Rattle.planner.specs.declared.border_call.BorderRows.{BorderRows}
-use Rattle.planner.specs.Contracts.Borders.{bound}
+use Rattle.bands.specs.Edge.{bound}
 use Rattle.planner.specs.Contracts.Opening.{RowsOpen, OpensRows}
 use Rattle.planner.specs.Contracts.BorderCall.{borders-in, BordersSource, BordersLeaves}
 

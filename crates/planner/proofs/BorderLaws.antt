@@ -22,7 +22,8 @@ use Rattle.stepper.specs.Fitting.{bound-at, bounds-of, place-at, places-of}
 use Rattle.bands.specs.Edge.{first-index, edge-of}
 use Rattle.bands.proofs.Theorems.EdgeTheorems.{edge-box}
 use Rattle.planner.specs.declared.borders.Border.{Border}
-use Rattle.planner.specs.Contracts.Borders.{bound, border-of, WidensBorder, ListedBorder, BordersOf}
+use Rattle.bands.specs.Edge.{bound}
+use Rattle.planner.specs.Contracts.Borders.{border-of, WidensBorder, ListedBorder, BordersOf}
 
 -- one index more
 pub widens : {b : Border} {word : ℕ} {r : Border} → r .before ≡ max (b .before) (below (decode-of word)) → r .behind ≡ max (b .behind) (above (decode-of word))

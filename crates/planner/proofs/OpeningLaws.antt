@@ -36,7 +36,8 @@ use Rattle.bands.specs.OnSizes.{no-grid, on-grid, on-sizes}
 use Rattle.bands.proofs.Theorems.EdgeTheorems.{edge-in-box}
 use Rattle.planner.specs.declared.borders.Border.{Border}
 use Rattle.planner.specs.declared.opening.RowsOpened.{RowsOpened}
-use Rattle.planner.specs.Contracts.Borders.{bound, BordersOf}
+use Rattle.bands.specs.Edge.{bound}
+use Rattle.planner.specs.Contracts.Borders.{BordersOf}
 use Rattle.planner.specs.Contracts.Opening.{RightSizes, OpensRows}
 use Rattle.planner.proofs.BorderLaws.{first-bound}
 

@@ -23,7 +23,7 @@ use Rattle.bands.specs.PlanCalls.{PlanLent, plan-lent-fits, check-plan-source, 
 use Rattle.bands.proofs.Theorems.PlanTheorems.{check-is, planned-is}
 use Rattle.planner.specs.declared.opening.RowsOpened.{RowsOpened}
 use Rattle.planner.specs.declared.planning.Planned.{Planned}
-use Rattle.planner.specs.Contracts.Borders.{bound}
+use Rattle.bands.specs.Edge.{bound}
 use Rattle.planner.specs.Contracts.Plans.{WritesPlan}
 use Rattle.planner.specs.Contracts.Opening.{RowsOpen, OpensRows}
 use Rattle.planner.specs.Contracts.Planning.{planned-of, plan-or-none, ChecksSource, CheckLeaves, PlansSource, PlannerLeaves}

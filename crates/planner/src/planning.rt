@@ -5,7 +5,7 @@ ghost use lib.ListN.{length};
 ghost use Rattle.grammar.specs.Checking.{rooms-fit};
 ghost use Rattle.services.specs.Calls.{flat-names};
 ghost use Rattle.bands.specs.PlanCalls.{plan-lent};
-ghost use Rattle.planner.specs.Contracts.Borders.{bound};
+ghost use Rattle.bands.specs.Edge.{bound};
 ghost use Rattle.planner.specs.Contracts.Planning.{planned-of, plan-or-none, ChecksSource, CheckLeaves, PlansSource, PlannerLeaves};
 use crate::opening::open_rows;
 use crate::plans::plan_accepted;

@@ -3,7 +3,7 @@ ghost use mathlib.Core.Path.{_≡_};
 ghost use Prim.Native.Nat.{_+_, _*_, _<_, _≤_, min};
 ghost use lib.ListN.{length};
 ghost use Rattle.bands.specs.Plans.{plan-right};
-ghost use Rattle.planner.specs.Contracts.Borders.{bound};
+ghost use Rattle.bands.specs.Edge.{bound};
 ghost use Rattle.planner.specs.Contracts.Plans.{band-runs, PutsBand, WritesPlan};
 
 // Whether a band begins at a row, is not empty, and can be held with its border rows.

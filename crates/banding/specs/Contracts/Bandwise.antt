@@ -15,15 +15,11 @@ use Rattle.semantics.specs.Leaves.{Leaves}
 use Rattle.semantics.specs.Stands.{Holds}
 use Rattle.stepper.specs.Fitting.{Sized, Shaped}
 use Rattle.stepper.specs.Locality.{Flagged}
-use Rattle.bands.specs.Edge.{edge}
+use Rattle.bands.specs.Edge.{bound, edge}
 use Rattle.bands.specs.Plans.{plan-right}
 use Rattle.stepping.specs.declared.Step.{Step}
 use Rattle.stepping.specs.Stepping.{fault-in, count-in}
 use Rattle.stepping.specs.Turns.{Roomed, given}
-
--- so many border rows before and behind
-abbrev pub borders : ℕ → ℕ → Bound
-borders before behind = record { back = before; ahead = behind }
 
 -- the programs of which a step by bands tells: they stand in the table, and have these border rows
 pub record Bordered (words : List ℕ) (rule : Rule) (border : Bound) (p : Program) : Type 0 where
@@ -47,7 +43,7 @@ pub record Grounds (leaves words : List ℕ) (rule : Rule) (sizes room-sizes : L
 
 -- ---- one band
 
--- the band is in the grid, and its rows with borders are in the room
+-- the band is in the grid, and its rows with bound are in the room
 pub record BandFits (sizes room-sizes : List ℕ) (row : ℕ) (border : Bound) (first last count : ℕ) : Type 0 where
   pub order : first ≤ last
   pub inside : last < getD sizes 0 0

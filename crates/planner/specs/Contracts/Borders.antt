@@ -9,13 +9,10 @@ use Rattle.program.specs.Syntax.{range}
 use Rattle.stepper.specs.declared.Reach.{Reach}
 use Rattle.stepper.specs.Reach.{widen, reach-from}
 use Rattle.stepper.specs.Fitting.{bounds-of, place-at, places-of}
-use Rattle.bands.specs.Edge.{edge-of}
+use Rattle.bands.specs.Edge.{bound, edge-of}
 use Rattle.planner.specs.declared.borders.Border.{Border}
 
 -- border rows as a bound
-abbrev pub bound : ℕ → ℕ → Bound
-bound before behind = record { back = before; ahead = behind }
-
 abbrev pub border-of : Border → Bound
 border-of b = bound (b .before) (b .behind)
 

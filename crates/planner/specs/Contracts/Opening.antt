@@ -19,7 +19,7 @@ use Rattle.bands.specs.Edge.{edge}
 use Rattle.bands.specs.OnSizes.{no-grid, on-grid, on-sizes}
 use Rattle.bands.specs.Plans.{rows}
 use Rattle.planner.specs.declared.opening.RowsOpened.{RowsOpened}
-use Rattle.planner.specs.Contracts.Borders.{bound}
+use Rattle.bands.specs.Edge.{bound}
 
 -- `right_sizes`: whether the sizes are right, for every program with so many dimensions
 pub record RightSizes (dims : ℕ) (sizes : List ℕ) (r : Bool) : Type 0 where

@@ -3,7 +3,7 @@ use lib.IntN.{ℤ, pos}
 use mir.Facts.{toZ-ofZ}
 use Rattle.stepper.specs.Admission.{good-times}
 use Rattle.bands.specs.Plans.{band}
-use Rattle.planner.specs.Contracts.Borders.{bound}
+use Rattle.bands.specs.Edge.{bound}
 use Rattle.band_call.proofs.AskingLaws.{right-knows, is-right, refuses-60, refuses-21, refuses-22, refuses-none}
 use borrow.Author.Needs.{needs}
 use Rattle.band_call.proofs.asking.refused_band.Statement.{statement}

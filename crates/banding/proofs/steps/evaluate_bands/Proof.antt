@@ -4,14 +4,15 @@ use lib.ListN.{length}
 use native.Mathlib.Omega.{arith}
 use native.Mathlib.Numerals.{add-one}
 use borrow.Author.Needs.{needs}
-use Rattle.banding.specs.Contracts.Bandwise.{borders, Bordered}
+use Rattle.bands.specs.Edge.{bound}
+use Rattle.banding.specs.Contracts.Bandwise.{Bordered}
 use Rattle.banding.proofs.AllBands.{Underway, under-start, under-next, under-grounds, under-fits, under-more, under-cell, under-stop, under-done}
 use Rattle.banding.proofs.steps.evaluate_bands.Statement.{statement}
 use Rattle.banding.proofs.steps.evaluate_bands.Tie as tie
 
 abbrev Inv-loop : tie.InvT-loop
 Inv-loop leaves words rule sizes shape row before behind plan grid scratch₀ room₀ time count total₀ k₀ scratch room total k =
-    Underway (Bordered words rule (borders before behind)) rule sizes shape row (borders before behind) plan grid scratch₀ room₀ time count k total scratch room
+    Underway (Bordered words rule (bound before behind)) rule sizes shape row (bound before behind) plan grid scratch₀ room₀ time count k total scratch room
 
 abbrev μ-loop : tie.MeasureT-loop
 μ-loop leaves words rule sizes shape row before behind plan grid scratch₀ room₀ time count total₀ k₀ scratch room total k =

@@ -1,6 +1,6 @@
 -- `planner::planning::put_plan` meets its contract.
 use mathlib.Core.Path.{refl}
-use Rattle.planner.specs.Contracts.Borders.{bound}
+use Rattle.bands.specs.Edge.{bound}
 use Rattle.planner.proofs.PlanningLaws.{no-plan, a-plan}
 use borrow.Author.Needs.{needs}
 use Rattle.planner.proofs.planning.put_plan.Statement.{statement}

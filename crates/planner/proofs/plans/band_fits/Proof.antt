@@ -1,6 +1,6 @@
 -- `planner::plans::band_fits` meets its contract.
 use borrow.Author.Needs.{needs}
-use Rattle.planner.specs.Contracts.Borders.{bound}
+use Rattle.bands.specs.Edge.{bound}
 use Rattle.planner.proofs.PlanLaws.{not-there, reversed, holds-rows}
 use Rattle.planner.proofs.plans.band_fits.Statement.{statement}
 use Rattle.planner.proofs.plans.band_fits.Tie as tie

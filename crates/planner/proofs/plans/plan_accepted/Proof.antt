@@ -6,7 +6,7 @@ use borrow.Author.Needs.{needs}
 use borrow.Author.Tests.{not-true, not-false}
 use lib.ListN.{length, drop}
 use Rattle.bands.specs.Plans.{plan-right}
-use Rattle.planner.specs.Contracts.Borders.{bound}
+use Rattle.bands.specs.Edge.{bound}
 use Rattle.planner.proofs.PlanLaws.{left-runs, all-left, odd, done, stops, goes-on}
 use Rattle.planner.proofs.plans.plan_accepted.Statement.{statement}
 use Rattle.planner.proofs.plans.plan_accepted.Tie as tie
