@@ -11,7 +11,7 @@ mkdir "$room/bin"
 cp target/bin/run_rule target/bin/check_one_move target/bin/compare_grids "$room/bin"
 cp tools/picture.py "$room/bin/picture.py"
 chmod +x "$room/bin/picture.py"
-for example in life shift edge difference refused fault archive badlist pause zeros one_move; do
+for example in life shift edge difference refused fault archive badlist pause zeros bands one_move; do
     cp -R "examples/$example" "$room/$example"
     (cd "$room/$example" && PATH="$room/bin:$PATH" sh ./command >wrote)
     cmp "$room/$example/wrote" "examples/$example/output"

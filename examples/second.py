@@ -4,8 +4,9 @@
 FOLDER is an example's folder in which its command has been run. The lines of its command that call run_rule say what is run; the reports and
 the grids that they wrote are compared with those of the second program. A resumed run is compared as the rest of the run before it: the second
 program runs the steps of both at once. A list of changes that was written must lead to the grid too: the second program sets it into the grid
-that was given, and must get the grid that was left. What is said of zeros is counted again in the second program's grid. What check_one_move
-says of a rule is held to what the second program says of it.
+that was given, and must get the grid that was left. What is said of zeros is counted again in the second program's grid. A run by bands of rows is compared
+with the full run of the second program; where there is no plan, the grid must be as it was given. What check_one_move says of a rule is held to
+what the second program says of it.
 """
 
 import json
@@ -67,7 +68,7 @@ def report_of(text):
 def grid_left(folder, out, text):
     """The grid that a call wrote, to a file or behind its report."""
     if out == "-":
-        return entries(text.split("cells evaluated:")[1].split("\n", 1)[1])
+        return entries(re.sub(r"^(bands|pause|zeros): .*$", "", text.split("cells evaluated:")[1].split("\n", 1)[1], flags=re.M))
     with open(os.path.join(folder, out)) as file:
         return entries(file.read())
 
@@ -79,6 +80,15 @@ def zeros_said(rule, shape, field, grid):
     said = "zeros: field %s, %d cells in rows 0 to %d" % (field, len(zeros), shape[0] - 1)
     row = len(grid) // len(names) // shape[0]
     return said + (", first in row %d" % (zeros[0] // row) if zeros else "")
+
+
+def without_options(words):
+    """The plain arguments of a call, and the options behind them by their names."""
+    options = {}
+    while words[-2] in ("--rows", "--zeros"):
+        options[words[-2]] = words[-1]
+        words = words[:-2]
+    return words, options
 
 
 def profiles_agree(root, folder, lines, wrote):
@@ -113,13 +123,16 @@ def main(root, folder):
         return 1
     whole = None
     for words, text in zip(calls, texts):
-        words, field = (words[:-2], words[-1]) if words[-2] == "--zeros" else (words, None)
+        words, options = without_options(words)
+        field = options.get("--zeros")
         manner, out = words[4], words[6]
         changes = (words[7:] + ["-", "-"])[1]
         run = call_of(folder, words), report_of(text)
         whole = joined(whole, run) if manner == "resume" else run
         way = "full" if manner == "full" else "quiet"
         left = grid_left(folder, out, text)
+        if run[1] == {"number": 59, "line": 0, "steps": 0, "count": 0} and "--rows" in options and left == run[0]["grid"]:
+            continue
         reports, second_left = second_run(root, whole[0])
         second = {name: int(reports[way][name]) for name in whole[1]}
         if second_left != left or second != whole[1]:

@@ -1,6 +1,6 @@
 /*
  * Checking and running correction rules written in Cellang, setting and writing values by timed lists, pausing and resuming runs,
- * counting the zeros of rows, telling rules that move a pixel once, stepping bands of rows, and comparing grids.
+ * counting the zeros of rows, telling rules that move a pixel once, steps and runs by bands of rows, and comparing grids.
  *
  * Link libcellang.a (x86-64 Linux). It needs memset and memcpy and nothing else, allocates nothing and keeps
  * nothing between calls; calls on different memory may run at the same time. A run, and the step of a band, takes
@@ -67,10 +67,9 @@ enum cellang_kind {
 /*
  * What a call gives back. 1, then 2, are tried before any token; then the smallest place wins, then
  * the lowest number, where 40 to 45 stand between 9 and 12. 20 to 24 are tried in this order once the source is accepted, then 61
- * in a run with row counts, and then 50 to 56 and 58
- * on the lines of a value list: the lowest line wins, then the lowest number. Calls on bands of rows say their own order. "At" says which
- * byte of the source the place names, where the end of the source stands at its length; where
- * nothing is said the place is 0.
+ * in a run with row counts, and then 50 to 56 and 58 on the lines of a value list: the lowest line wins, then the lowest number. In a run
+ * under a plan 60 is tried last; the other calls on bands of rows say their own order. "At" says which byte of the source the place names,
+ * where the end of the source stands at its length; where nothing is said the place is 0.
  */
 enum cellang_reply {
     CELLANG_DONE = 0, /* the source is accepted, or all steps are done */
@@ -102,8 +101,8 @@ enum cellang_reply {
 
     /* the source is accepted, but the run is not admitted */
     CELLANG_BAD_SHAPE = 20,        /* number or size of dimensions, or the total of cells, wrong */
-    CELLANG_LENT_LENGTH = 21,      /* grid or scratch not cells times fields, or marks not one byte a cell; a planner's room, or the rows or
-                                      the room of a band, of another length than the call says */
+    CELLANG_LENT_LENGTH = 21,      /* grid or scratch not cells times fields, or marks not one byte a cell; the room of a planner or of a run
+                                      under a plan, or the rows or the room of a band, of another length than the call says */
     CELLANG_BAD_TIMES = 22,        /* start or steps negative, or their sum over 2147483647 */
     CELLANG_INDEX_TOO_FAR = 23,    /* an index, or an end of an index variable's range, larger in size than its dimension; at its
                                       first token, first in source order */
@@ -150,6 +149,7 @@ enum cellang_reply {
  *   61        the program, then zero  as it was                 as they were
  *   50 to 56  the program, then zero  as it was                 as they were
  *   58        the program, then zero  as it was                 as they were
+ *   60        the program, then zero  as it was                 as they were
  *   30 to 33  the program, then zero  after the steps done      zero
  *   0         the program, then zero  after all steps           zero, even after 0 steps
  *
@@ -509,7 +509,9 @@ uint32_t cellang_first_zero_row(
  * the run's, with place and cell, and the counts up to it add up to the run's; the bands behind it play no part, and the old rows are the grid that is
  * left. Next rows must not be written over old rows that a later band is still to be lent.
  *
- * shape is that of the whole grid. All four calls leave words and names as cellang_check does.
+ * cellang_run_banded makes a run of such steps, for a caller who has the grid.
+ *
+ * shape is that of the whole grid. All these calls leave words and names as cellang_check does.
  */
 
 /* The entries that tell border rows. Where fewer are lent, the first ones are told; any others stay. */
@@ -597,6 +599,35 @@ uint32_t cellang_step_band(
     const int32_t *rows, size_t rows_length,
     int32_t *room, size_t room_length,
     int64_t time,
+    uint64_t *report, size_t report_length);
+
+/*
+ * Runs a source on a grid under a plan, as cellang_run_full_list does, or as cellang_run_full_counts if counted is not 0; but each step is made band by
+ * band. Gives the replies of that run, and 60.
+ *
+ * plan has two entries a band. room is for the old rows of one band with borders: exactly held rows, each with the fields of all its cells. A room of
+ * another length is refused 21, as grid, scratch and marks are. A plan that is not accepted is refused 60, with place 0, after everything else and also
+ * where steps is 0. What room holds on entry does not matter.
+ *
+ * Under an accepted plan the report and all that is left are those of the run without a plan, and room is zero, also after 0 steps and after a fault.
+ * After every refusal room is as it was. If counted is 0, counts and field play no part, and counts is as it was.
+ */
+uint32_t cellang_run_banded(
+    const uint8_t *source, size_t source_length,
+    const uint8_t *list, size_t list_length,
+    uint32_t *words, size_t words_length,
+    uint32_t *names, size_t names_length,
+    const uint32_t *shape, size_t shape_length,
+    int32_t *grid, size_t grid_length,
+    int32_t *scratch, size_t scratch_length,
+    uint8_t *marks, size_t marks_length,
+    const uint8_t *values, size_t values_length,
+    int64_t start, int64_t steps,
+    uint32_t *counts, size_t counts_length,
+    uint32_t counted, uint32_t field,
+    uint32_t held,
+    const uint32_t *plan, size_t plan_length,
+    int32_t *room, size_t room_length,
     uint64_t *report, size_t report_length);
 
 /* ---- writing a value list */

@@ -1,5 +1,5 @@
 #!/usr/bin/env bash
-# Makes all benchmarks of docs/BENCHMARKS.md again: reading, full runs, quiet runs, growth, value lists, and row counts.
+# Makes all benchmarks of docs/BENCHMARKS.md again: reading, full runs, quiet runs, growth, value lists, row counts, and bands of rows.
 set -eu
 cd "$(dirname "$0")/.."
 rt check check_vectors >&2

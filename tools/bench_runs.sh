@@ -1,7 +1,7 @@
 #!/bin/sh
 # Builds the static library of the proved calls, and times runs of it beside the second program's interpreter and loops written by hand.
 #
-#     tools/bench_runs.sh [TIMES [full|quiet|growth|lists|counts]]
+#     tools/bench_runs.sh [TIMES [full|quiet|growth|lists|counts|bands|memory]]
 #
 # The best of TIMES runs counts (default 3).
 set -e

@@ -1,5 +1,6 @@
 //! Times runs of the proved library beside the second program's interpreter and loops written by hand, in one run on one grid.
 
+mod bands;
 mod hand;
 mod proved;
 
@@ -66,6 +67,11 @@ fn branching() -> String {
         text += &format!("{word} cell = {state} then cell := ([0,1] + {added}) % 41\n");
     }
     text + "else cell := [0,1]\nend\n"
+}
+
+/// Half of the cells are alive.
+fn random_life() -> Vec<i32> {
+    rules().swap_remove(0).grid
 }
 
 fn rules() -> Vec<Rule> {
@@ -255,7 +261,7 @@ fn glider() -> Vec<i32> {
 
 fn quiet(times: usize) {
     let glider = glider();
-    let random = rules().swap_remove(0).grid;
+    let random = random_life();
     println!("quiet run, milliseconds a step");
     println!("| grid | quiet | full | ratio |");
     println!("|---|---|---|---|");
@@ -449,7 +455,7 @@ fn run_counting(mode: Mode, source: &str, grid: &[i32], steps: i64) -> Vec<i32> 
 
 /// What row counts cost in a step, by the difference of two runs with different numbers of steps.
 fn counts(times: usize) {
-    let (glider, random) = (glider(), rules().swap_remove(0).grid);
+    let (glider, random) = (glider(), random_life());
     println!("row counts, milliseconds a step");
     println!("| grid | without | with counts | ratio |");
     println!("|---|---|---|---|");
@@ -486,7 +492,7 @@ fn counts(times: usize) {
     }
 }
 
-/// `bench [TIMES [full|quiet|growth|lists|counts]]`: the best of so many runs counts.
+/// `bench [TIMES [full|quiet|growth|lists|counts|bands|memory]]`: the best of so many runs counts.
 fn main() {
     let words: Vec<String> = env::args().collect();
     let times = words.get(1).and_then(|word| word.parse().ok()).unwrap_or(3);
@@ -505,5 +511,11 @@ fn main() {
     }
     if ["", "counts"].contains(&which) {
         counts(times);
+    }
+    if ["", "bands"].contains(&which) {
+        bands::bands(times);
+    }
+    if ["", "memory"].contains(&which) {
+        bands::memory();
     }
 }

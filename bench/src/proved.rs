@@ -1,6 +1,8 @@
 //! Runs of the proved library, in memory that is kept from run to run.
 
-use cellang::{run_in, CountingLent, Done, Lent, Mode, Run, NAME_WORDS, WORDS};
+use cellang::{
+    run_in, BandedLent, BandedRun, CountingLent, Done, Held, Lent, Mode, Run, NAME_WORDS, WORDS,
+};
 
 /// The memory that a run is lent, beside the grid.
 pub struct Rooms {
@@ -66,5 +68,24 @@ pub fn run_counting(
     };
     let run = Run::new(source.as_bytes(), sizes, 0, steps, mode);
     let outcome = run.on_counting_in(grid, lent);
+    outcome.expect("every step is done")
+}
+
+/// A run from time 0 under a plan, two entries a band; the room has as many rows as can be held.
+pub fn run_banded(
+    held: Held,
+    plan: &[u32],
+    grid: &mut [i32],
+    rooms: &mut Rooms,
+    room: &mut [i32],
+    steps: i64,
+) -> Done {
+    let lent = BandedLent {
+        lent: rooms.lent(),
+        plan,
+        room,
+        counts: None,
+    };
+    let outcome = BandedRun::new(held, 0, steps).on_in(grid, lent);
     outcome.expect("every step is done")
 }

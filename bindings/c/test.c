@@ -257,6 +257,10 @@ static void another_list(void) {
                                  CELLANG_NAME_WORDS, shape, 1, 0, 0, 1, pair, 1, grid, 1, 0, report, CELLANG_REPORT_LENGTH)
                        == CELLANG_ROOM_LENGTH
                    && memcmp(report, told_of_run, sizeof told_of_run) == 0, "another list beside a band");
+        expect(cellang_run_banded((const uint8_t *)source, strlen(source), list, strlen(lists[i]), words, CELLANG_WORDS, names,
+                                  CELLANG_NAME_WORDS, shape, 1, grid, 1, scratch, 1, marks, 1, (const uint8_t *)"x", 1, 0, 1, &count, 1,
+                                  1, 9, 1, whole, 2, scratch + 1, 1, report, CELLANG_REPORT_LENGTH) == CELLANG_ROOM_LENGTH
+                   && memcmp(report, told_of_run, sizeof told_of_run) == 0 && count == UNTOUCHED, "another list in a run under a plan");
         expect(all_bytes(words, sizeof words, UNTOUCHED) && all_bytes(names, sizeof names, UNTOUCHED)
                    && all_bytes(grid, sizeof grid, UNTOUCHED) && all_bytes(scratch, sizeof scratch, UNTOUCHED)
                    && all_bytes(marks, sizeof marks, UNTOUCHED) && all_bytes(room, sizeof room, UNTOUCHED),
@@ -304,6 +308,8 @@ static void lengths(void) {
            "nothing lent to the planner");
     expect(cellang_step_band(NULL, 0, NULL, 0, NULL, 0, NULL, 0, NULL, 0, 0, 0, 0, NULL, 0, NULL, 0, 0, NULL, 0) == CELLANG_ROOM_LENGTH,
            "nothing lent to a band");
+    expect(cellang_run_banded(NULL, 0, NULL, 0, NULL, 0, NULL, 0, NULL, 0, NULL, 0, NULL, 0, NULL, 0, NULL, 0, 0, 0, NULL, 0, 0, 0, 0, NULL,
+                              0, NULL, 0, NULL, 0) == CELLANG_ROOM_LENGTH, "nothing lent to a run under a plan");
 }
 
 static void name_list(void) {
@@ -1142,7 +1148,175 @@ static void step_by_bands(const char *source, const uint32_t *shape, size_t dime
     told[CELLANG_REPORT_COUNT] = count;
 }
 
-/* Steps a grid by the planner's bands, whatever can be held, and holds it to the full run of one step. */
+/* A run under a plan, and what it is to tell and leave. counts_after is of a run that began and counts; where counted is 0 the counts are to be as
+ * they were. */
+struct banded_run {
+    const char *what;
+    const char *source;
+    uint32_t shape[2];
+    size_t dimensions, entries, cells;
+    int32_t grid[STRIP];
+    int64_t start, steps;
+    const char *list;
+    uint32_t counted, field;
+    size_t counts;
+    uint32_t held, plan[10];
+    size_t plan_length, room_length;
+    uint64_t number, place, cell, steps_done, count, line;
+    int32_t grid_after[STRIP];
+    uint32_t counts_after[ROW];
+};
+
+#define PLAIN "", 0, 0, 0
+#define TWO_BANDS 4, {0, 1, 2, 4}, 4, 4
+#define THREE_BANDS 2, {0, 0, 1, 2, 3, 4}, 6, 2
+#define NUMBERS {5, 6, 7, 8, 9}
+#define SHIFTED {9, 5, 6, 7, 8}
+#define FIVE_CELLS {5}, 1, 5, 5
+#define TWO_FIELDS "2 dimensions of a, b of 0..9 end cell.a := [-1,1].b cell.b := [1,0].a"
+
+static const struct banded_run banded_runs[] = {
+    {"one step", FROM_BEFORE, FIVE_CELLS, NUMBERS, 0, 1, PLAIN, TWO_BANDS, 0, 0, 0, 1, 5, 0, SHIFTED, {0}},
+    {"three steps, from time 7 on", FROM_BEFORE, FIVE_CELLS, NUMBERS, 7, 3, PLAIN, TWO_BANDS, 0, 0, 0, 3, 15, 0, {7, 8, 9, 5, 6}, {0}},
+    {"0 steps", FROM_BEFORE, FIVE_CELLS, NUMBERS, 0, 0, PLAIN, TWO_BANDS, 0, 0, 0, 0, 0, 0, NUMBERS, {0}},
+    {"0 steps, a block and counts", FROM_BEFORE, FIVE_CELLS, NUMBERS, 1, 0, "1\n[0] = 0\n", 1, 0, 5, TWO_BANDS, 0, 0, 0, 0, 0, 0,
+     {0, 6, 7, 8, 9}, {1, 0, 0, 0, 0}},
+    {"a list", FROM_BEFORE, FIVE_CELLS, NUMBERS, 0, 2, "0\n[1] = 3\n1\n[0] = 0\n2\n[4] = 1\n", 0, 0, 0, TWO_BANDS, 0, 0, 0, 2, 10, 0,
+     {8, 0, 5, 3, 1}, {0}},
+    {"a list and counts", FROM_BEFORE, FIVE_CELLS, NUMBERS, 0, 2, "0\n[1] = 3\n1\n[0] = 0\n2\n[4] = 1\n", UINT32_MAX, 0, 5, TWO_BANDS, 0, 0,
+     0, 2, 10, 0, {8, 0, 5, 3, 1}, {0, 1, 0, 0, 0}},
+    {"counts that are not asked for", FROM_BEFORE, FIVE_CELLS, NUMBERS, 0, 1, "", 0, 9, 3, TWO_BANDS, 0, 0, 0, 1, 5, 0, SHIFTED, {0}},
+    {"one row a band", FROM_BEFORE, FIVE_CELLS, NUMBERS, 0, 1, PLAIN, 2, {0, 0, 1, 1, 2, 2, 3, 3, 4, 4}, 10, 2, 0, 0, 0, 1, 5, 0, SHIFTED,
+     {0}},
+    {"one band", FROM_BEFORE, FIVE_CELLS, NUMBERS, 0, 1, PLAIN, 6, {0, 4}, 2, 6, 0, 0, 0, 1, 5, 0, SHIFTED, {0}},
+    {"more rows than there are", FROM_BEFORE, FIVE_CELLS, NUMBERS, 0, 1, PLAIN, 13, {0, 4}, 2, 13, 0, 0, 0, 1, 5, 0, SHIFTED, {0}},
+    {"rows that repeat", TENS "cell := ([-3] + [3] + [1]) % 10", {3}, 1, 3, 3, {1, 5, 9}, 0, 1, PLAIN, 7, {0, 0, 1, 1, 2, 2}, 6, 7, 0, 0, 0, 1,
+     3, 0, {7, 9, 9}, {0}},
+    {"two fields, the second counted", TWO_FIELDS, {2, 2}, 2, 8, 4, {1, 2, 3, 0, 5, 6, 0, 8}, 0, 1, "", 1, 1, 2, 3, {0, 0, 1, 1}, 4, 12, 0, 0, 0,
+     1, 4, 0, {8, 5, 6, 0, 0, 1, 2, 3}, {1, 0}},
+    /* faults */
+    {"a fault in the second band", COUNT, FIVE_CELLS, {0, 3, 1, 3, 2}, 0, 1, PLAIN, THREE_BANDS, CELLANG_VALUE_OUTSIDE_FIELD, 26, 1, 0, 2, 0,
+     {0, 3, 1, 3, 2}, {0}},
+    {"a fault in the first band", COUNT, FIVE_CELLS, {3, 3, 1, 3, 2}, 0, 1, PLAIN, THREE_BANDS, CELLANG_VALUE_OUTSIDE_FIELD, 26, 0, 0, 1, 0,
+     {3, 3, 1, 3, 2}, {0}},
+    {"a fault in the last band, a step on, behind a block", COUNT, FIVE_CELLS, {0, 1, 0, 0, 0}, 0, 4, "1\n[4] = 3\n[0] = 0\n", 1, 0, 5,
+     THREE_BANDS, CELLANG_VALUE_OUTSIDE_FIELD, 26, 4, 1, 10, 0, {0, 2, 1, 1, 3}, {1, 0, 0, 0, 0}},
+    /* refusals, in their order */
+    {"a source that is refused", TENS "cell := [6] + x", {5, 1}, 2, 5, 5, {5, 6, 7, 8, 10}, -1, 1, "x", 1, 9, 4, 4, {0}, 0, 3,
+     CELLANG_NAME_UNKNOWN, 35, 0, 0, 0, 0, {5, 6, 7, 8, 10}, {0}},
+    {"sizes", TENS "cell := [6]", {5, 1}, 2, 5, 5, {5, 6, 7, 8, 10}, -1, 1, "x", 1, 9, 4, 4, {0}, 0, 3, CELLANG_BAD_SHAPE, 0, 0, 0, 0, 0,
+     {5, 6, 7, 8, 10}, {0}},
+    {"marks", TENS "cell := [6]", {5}, 1, 5, 4, {5, 6, 7, 8, 10}, -1, 1, "x", 1, 9, 4, 4, {0}, 0, 4, CELLANG_LENT_LENGTH, 0, 0, 0, 0, 0,
+     {5, 6, 7, 8, 10}, {0}},
+    {"the room", TENS "cell := [6]", FIVE_CELLS, {5, 6, 7, 8, 10}, -1, 1, "x", 1, 9, 4, 4, {0}, 0, 3, CELLANG_LENT_LENGTH, 0, 0, 0, 0, 0,
+     {5, 6, 7, 8, 10}, {0}},
+    {"times", TENS "cell := [6]", FIVE_CELLS, {5, 6, 7, 8, 10}, -1, 1, "x", 1, 9, 4, 4, {0}, 0, 4, CELLANG_BAD_TIMES, 0, 0, 0, 0, 0,
+     {5, 6, 7, 8, 10}, {0}},
+    {"an index", TENS "cell := [6]", FIVE_CELLS, {5, 6, 7, 8, 10}, 0, 1, "x", 1, 9, 4, 4, {0}, 0, 4, CELLANG_INDEX_TOO_FAR, 30, 0, 0, 0, 0,
+     {5, 6, 7, 8, 10}, {0}},
+    {"an entry", FROM_BEFORE, FIVE_CELLS, {5, 6, 7, 8, 10}, 0, 1, "x", 1, 9, 4, 4, {0}, 0, 4, CELLANG_ENTRY_OUT_OF_RANGE, 4, 0, 0, 0, 0,
+     {5, 6, 7, 8, 10}, {0}},
+    {"no such field", FROM_BEFORE, FIVE_CELLS, NUMBERS, 0, 1, "x", 1, 1, 5, 4, {0}, 0, 4, CELLANG_BAD_COUNTS, 0, 0, 0, 0, 0, NUMBERS, {0}},
+    {"counts too few", FROM_BEFORE, FIVE_CELLS, NUMBERS, 0, 1, "x", 1, 0, 4, 4, {0}, 0, 4, CELLANG_BAD_COUNTS, 0, 0, 0, 0, 0, NUMBERS, {0}},
+    {"a list that is refused", FROM_BEFORE, FIVE_CELLS, NUMBERS, 0, 1, "0\n[5] = 1\n", 1, 0, 5, 4, {0}, 0, 4, CELLANG_LIST_OUTSIDE_GRID, 0, 0,
+     0, 0, 2, NUMBERS, {0}},
+    {"no plan", FROM_BEFORE, FIVE_CELLS, NUMBERS, 0, 1, "0\n[4] = 1\n", 1, 0, 5, 4, {0}, 0, 4, CELLANG_BAD_PLAN, 0, 0, 0, 0, 0, NUMBERS, {0}},
+    /* 60, also of 0 steps */
+    {"no plan for 0 steps", FROM_BEFORE, FIVE_CELLS, NUMBERS, 0, 0, PLAIN, 4, {0}, 0, 4, CELLANG_BAD_PLAN, 0, 0, 0, 0, 0, NUMBERS, {0}},
+    {"an early end", FROM_BEFORE, FIVE_CELLS, NUMBERS, 0, 1, PLAIN, 4, {0, 1, 2, 3}, 4, 4, CELLANG_BAD_PLAN, 0, 0, 0, 0, 0, NUMBERS, {0}},
+    {"an odd plan", FROM_BEFORE, FIVE_CELLS, NUMBERS, 0, 1, PLAIN, 4, {0, 1, 2, 4, 0}, 5, 4, CELLANG_BAD_PLAN, 0, 0, 0, 0, 0, NUMBERS, {0}},
+    {"a band too long", FROM_BEFORE, FIVE_CELLS, NUMBERS, 0, 1, PLAIN, 3, {0, 1, 2, 4}, 4, 3, CELLANG_BAD_PLAN, 0, 0, 0, 0, 0, NUMBERS, {0}},
+    {"no rows held", FROM_BEFORE, FIVE_CELLS, NUMBERS, 0, 1, PLAIN, 0, {0, 4}, 2, 0, CELLANG_BAD_PLAN, 0, 0, 0, 0, 0, NUMBERS, {0}},
+    {"a plan before a fault", COUNT, FIVE_CELLS, {3, 3, 1, 3, 2}, 0, 1, PLAIN, 1, {0, 1, 2, 4}, 4, 1, CELLANG_BAD_PLAN, 0, 0, 0, 0, 0,
+     {3, 3, 1, 3, 2}, {0}},
+    /* 21 for the room */
+    {"a room too short", FROM_BEFORE, FIVE_CELLS, NUMBERS, 0, 1, PLAIN, 4, {0, 1, 2, 4}, 4, 3, CELLANG_LENT_LENGTH, 0, 0, 0, 0, 0, NUMBERS, {0}},
+    {"a room too long", FROM_BEFORE, FIVE_CELLS, NUMBERS, 0, 1, PLAIN, 4, {0, 1, 2, 4}, 4, 5, CELLANG_LENT_LENGTH, 0, 0, 0, 0, 0, NUMBERS, {0}},
+    {"no room", FROM_BEFORE, FIVE_CELLS, NUMBERS, 0, 1, PLAIN, 4, {0, 1, 2, 4}, 4, 0, CELLANG_LENT_LENGTH, 0, 0, 0, 0, 0, NUMBERS, {0}},
+    {"a room of one field", TWO_FIELDS, {2, 2}, 2, 8, 4, {1, 2, 3, 0, 5, 6, 0, 8}, 0, 1, PLAIN, 3, {0, 0, 1, 1}, 4, 6, CELLANG_LENT_LENGTH, 0, 0,
+     0, 0, 0, {1, 2, 3, 0, 5, 6, 0, 8}, {0}},
+    {"a room that no memory can be", FROM_BEFORE, FIVE_CELLS, NUMBERS, 0, 1, PLAIN, UINT32_MAX, {0, 4}, 2, 4, CELLANG_LENT_LENGTH, 0, 0, 0, 0, 0,
+     NUMBERS, {0}},
+};
+
+/* Makes a run under a plan, by reports of any length. */
+static void expect_banded(const struct banded_run *c) {
+    for (size_t lent = 0; lent <= CELLANG_REPORT_LENGTH + 1; lent++) {
+        const size_t size = c->entries * sizeof(int32_t), room_size = c->room_length * sizeof(int32_t);
+        const uint8_t left = began(c->number) ? 0 : UNTOUCHED;
+        uint64_t told[CELLANG_REPORT_LENGTH] = {c->number, c->place, c->cell, c->steps_done, c->count, 0, 0, 0, c->line};
+        uint64_t report[CELLANG_REPORT_LENGTH + 1];
+        int32_t run_grid[STRIP], run_scratch[STRIP], room[STRIP];
+        uint8_t run_marks[STRIP];
+        uint32_t counts[ROW];
+        for (size_t i = 0; i <= CELLANG_REPORT_LENGTH; i++) {
+            report[i] = UNTOUCHED;
+        }
+        memcpy(run_grid, c->grid, sizeof run_grid);
+        memset(run_scratch, UNTOUCHED, sizeof run_scratch);
+        memset(run_marks, UNTOUCHED, sizeof run_marks);
+        memset(counts, UNTOUCHED, sizeof counts);
+        memset(room, UNTOUCHED, sizeof room);
+        check_beside(c->source);
+        for (size_t i = 0; i < 3; i++) {
+            told[CELLANG_REPORT_SPELLING + i] = checked[CELLANG_REPLY_SPELLING + i];
+        }
+        expect(cellang_run_banded((const uint8_t *)c->source, strlen(c->source), LIST, words, CELLANG_WORDS, names, CELLANG_NAME_WORDS,
+                                  c->shape, c->dimensions, run_grid, c->entries, run_scratch, c->entries, run_marks, c->cells,
+                                  (const uint8_t *)c->list, strlen(c->list), c->start, c->steps, counts, c->counts, c->counted, c->field,
+                                  c->held, c->plan, c->plan_length, room, c->room_length, report, lent) == c->number, c->what);
+        for (size_t i = 0; i <= CELLANG_REPORT_LENGTH; i++) {
+            expect(report[i] == (i < lent && i < CELLANG_REPORT_LENGTH ? told[i] : UNTOUCHED), c->what);
+        }
+        expect(memcmp(run_grid, c->grid_after, sizeof run_grid) == 0 && left_as_checked(), c->what);
+        expect(all_bytes(run_scratch, size, left) && all_bytes(run_marks, c->cells, left) && all_bytes(room, room_size, left), c->what);
+        expect(all_bytes(room + c->room_length, sizeof room - room_size, UNTOUCHED), c->what);
+        if (began(c->number) && c->counted != 0) {
+            expect(memcmp(counts, c->counts_after, c->counts * sizeof *counts) == 0, c->what);
+        } else {
+            expect(all_bytes(counts, sizeof counts, UNTOUCHED), c->what);
+        }
+    }
+}
+
+/* Makes runs of some steps under a plan, and holds report, grid, scratch, marks and counts to those of the full run. A plan of no bands is to be
+ * refused. */
+static void expect_run_by_bands(const char *source, const uint32_t *shape, size_t dimensions, size_t row, size_t cells, const int32_t *old,
+                                int64_t time, uint32_t held, const uint32_t *plan, uint32_t bands) {
+    const char *list = "";
+    const size_t entries = shape[0] * row, size = entries * sizeof *old;
+    for (int64_t steps = 0; steps <= 3; steps++) {
+        uint64_t full[CELLANG_REPORT_LENGTH], told[CELLANG_REPORT_LENGTH], refused[CELLANG_REPORT_LENGTH] = {CELLANG_BAD_PLAN};
+        int32_t after[STRIP], after_scratch[STRIP], left[STRIP], left_scratch[STRIP], room[4 * STRIP];
+        uint8_t after_marks[STRIP], left_marks[STRIP];
+        uint32_t counts[STRIP], left_counts[STRIP];
+        memcpy(after, old, size);
+        memcpy(left, old, size);
+        memset(left_scratch, UNTOUCHED, sizeof left_scratch);
+        memset(left_marks, UNTOUCHED, sizeof left_marks);
+        memset(left_counts, UNTOUCHED, sizeof left_counts);
+        memset(room, UNTOUCHED, sizeof room);
+        cellang_run_full_counts((const uint8_t *)source, strlen(source), LIST, words, CELLANG_WORDS, names, CELLANG_NAME_WORDS, shape,
+                                dimensions, after, entries, after_scratch, entries, after_marks, cells, (const uint8_t *)list, 0, time, steps,
+                                counts, shape[0], 0, full, CELLANG_REPORT_LENGTH);
+        cellang_run_banded((const uint8_t *)source, strlen(source), LIST, words, CELLANG_WORDS, names, CELLANG_NAME_WORDS, shape, dimensions,
+                           left, entries, left_scratch, entries, left_marks, cells, (const uint8_t *)list, 0, time, steps, left_counts,
+                           shape[0], 1, 0, held, plan, 2 * bands, room, held * row, told, CELLANG_REPORT_LENGTH);
+        if (bands == 0) {
+            expect(memcmp(told, refused, sizeof told) == 0 && memcmp(left, old, size) == 0, source);
+            expect(all_bytes(left_scratch, size, UNTOUCHED) && all_bytes(left_marks, cells, UNTOUCHED), source);
+            expect(all_bytes(left_counts, sizeof left_counts, UNTOUCHED) && all_bytes(room, sizeof room, UNTOUCHED), source);
+            continue;
+        }
+        expect(began(full[0]) && memcmp(told, full, sizeof full) == 0 && memcmp(left, after, size) == 0, source);
+        expect(memcmp(left_scratch, after_scratch, size) == 0 && memcmp(left_marks, after_marks, cells) == 0, source);
+        expect(memcmp(left_counts, counts, shape[0] * sizeof *counts) == 0, source);
+        expect(all_bytes(room, held * row * sizeof *room, 0), source);
+        expect(all_bytes(room + held * row, sizeof room - held * row * sizeof *room, UNTOUCHED), source);
+    }
+}
+
+/* Steps a grid by the planner's bands, whatever can be held, and holds it to the full run of one step; and makes runs under that plan. */
 static void expect_step_by_bands(const char *source, const uint32_t *shape, size_t dimensions, size_t row, size_t cells,
                                  const int32_t *old, int64_t time, uint32_t before, uint32_t behind) {
     const size_t entries = shape[0] * row;
@@ -1162,6 +1336,7 @@ static void expect_step_by_bands(const char *source, const uint32_t *shape, size
                                             shape, dimensions, held, plan, 2 * shape[0], planned, CELLANG_PLANNED_LENGTH);
         if (held <= before + behind) {
             expect(given == CELLANG_NO_PLAN, source);
+            expect_run_by_bands(source, shape, dimensions, row, cells, old, time, held, NULL, 0);
             continue;
         }
         expect(given == CELLANG_DONE, source);
@@ -1170,6 +1345,7 @@ static void expect_step_by_bands(const char *source, const uint32_t *shape, size
         step_by_bands(source, shape, dimensions, row, held, plan, planned[CELLANG_PLANNED_BANDS], border, old, next, time, told);
         expect(memcmp(told, full, sizeof full) == 0, source);
         expect(full[0] != CELLANG_DONE || memcmp(next, after, entries * sizeof *next) == 0, source);
+        expect_run_by_bands(source, shape, dimensions, row, cells, old, time, held, plan, planned[CELLANG_PLANNED_BANDS]);
     }
 }
 
@@ -1180,6 +1356,9 @@ static void bands_of_rows(void) {
     plans();
     for (size_t i = 0; i < sizeof band_calls / sizeof *band_calls; i++) {
         expect_band(&band_calls[i]);
+    }
+    for (size_t i = 0; i < sizeof banded_runs / sizeof *banded_runs; i++) {
+        expect_banded(&banded_runs[i]);
     }
     expect_step_by_bands(FROM_BEFORE, five, 1, 1, 5, numbers, 0, 1, 0);
     expect_step_by_bands(TENS "cell := ([-2] + cell + [1] + time) % 10", five, 1, 1, 5, numbers, 7, 2, 1);

@@ -1,10 +1,11 @@
-//! Plan checks, planner calls, band calls, and runs under a plan: the cases,
-//! their answers, and their binary form.
+//! Plan checks, planner calls, band calls, runs under a plan, and border rows:
+//! the cases, their answers, and their binary form.
 //!
 //! The binary form. Every number has its lowest byte first, four bytes where
 //! nothing else is said. All but a run begin so:
 //!
-//! - 0 for a plan check, 1 for a planner call, 2 for a band call;
+//! - 0 for a plan check, 1 for a planner call, 2 for a band call, 4 for border
+//!   rows;
 //! - the length of the source, and the source;
 //! - the length of the word table, in words, and of the name list, in records;
 //! - the number of sizes, and the sizes;
@@ -15,7 +16,8 @@
 //! - of a plan check: the number of the plan's numbers, and these;
 //! - of a planner call: the length of the room;
 //! - of a band call: the first row, the last row, the length of the room; the
-//!   time, eight bytes; the length of the rows lent, and their entries.
+//!   time, eight bytes; the length of the rows lent, and their entries;
+//! - of border rows: nothing. The number of rows that can be held plays no part.
 //!
 //! A run under a plan is written as a run in a manner (`call_case`), with 3 in
 //! place of the 2 that it begins with, and another tail:
@@ -30,10 +32,11 @@
 //! planner's room have at most 8,200 numbers, the room of a run 16,400, and all
 //! other rooms and grids 4,100.
 //!
-//! A case is answered by one line: a plan check by
+//! A case is answered by one line: a plan check, and border rows, by
 //!
 //! ```text
 //! number place
+//! number place before behind
 //! ```
 //!
 //! a planner call and a band call by what was returned, and the room as it is
@@ -53,7 +56,7 @@
 
 use crate::admission::{Read, Refusal, Report, WORDS};
 use crate::banded::run_banded;
-use crate::bands::{check_plan, plan_bands, step_band, Band, Held};
+use crate::bands::{border_rows, check_plan, plan_bands, step_band, Band, Held};
 use crate::call_case::{Call, Left};
 use crate::case::{began, put_asked, put_grid, put_read, put_u32};
 use crate::case::{report_text, row_text, scratch_on_entry, word};
@@ -66,7 +69,7 @@ pub const MOST_NUMBERS: usize = 8_200;
 /// No room of a run under a plan is longer.
 pub const MOST_HELD: usize = 16_400;
 
-/// What the three calls without a grid are lent alike.
+/// What the calls without a grid are lent alike.
 #[derive(Clone, Debug)]
 pub struct Asked {
     pub source: Vec<u8>,
@@ -131,8 +134,7 @@ impl PlanCase {
     }
 
     pub fn line(&self) -> String {
-        let (number, place) = self.made();
-        format!("{number} {place}\n")
+        plan_line(self.made())
     }
 
     pub fn put(&self, out: &mut Vec<u8>) {
@@ -140,6 +142,11 @@ impl PlanCase {
         put_u32(out, self.plan.len() as u32);
         put_numbers(out, &self.plan);
     }
+}
+
+/// The line that answers a plan check.
+pub fn plan_line((number, place): (u32, u32)) -> String {
+    format!("{number} {place}\n")
 }
 
 /// A planner call.
@@ -156,6 +163,14 @@ pub struct Planned {
     pub place: u32,
     pub bands: u32,
     pub room: Vec<u32>,
+}
+
+impl Planned {
+    /// The line that answers the call.
+    pub fn line(&self) -> String {
+        let room = row_text(&self.room);
+        format!("{} {} {} :{room}\n", self.number, self.place, self.bands)
+    }
 }
 
 /// What stands in a planner's room on entry.
@@ -180,9 +195,7 @@ impl PlannerCase {
     }
 
     pub fn line(&self) -> String {
-        let made = self.made();
-        let room = row_text(&made.room);
-        format!("{} {} {} :{room}\n", made.number, made.place, made.bands)
+        self.made().line()
     }
 
     pub fn put(&self, out: &mut Vec<u8>) {
@@ -212,7 +225,7 @@ impl BandCase {
 
     pub fn line(&self) -> String {
         let (report, room) = self.made();
-        format!("{} :{}\n", report_text(&report), row_text(&room))
+        band_line(&report, &room)
     }
 
     pub fn put(&self, out: &mut Vec<u8>) {
@@ -221,6 +234,11 @@ impl BandCase {
         out.extend_from_slice(&self.time.to_le_bytes());
         put_grid(out, &self.rows);
     }
+}
+
+/// The line that answers a band call.
+pub fn band_line(report: &Report, room: &[i32]) -> String {
+    format!("{} :{}\n", report_text(report), row_text(room))
 }
 
 /// A run under a plan: what is lent to the full run, and what is lent beside it.
@@ -264,7 +282,7 @@ impl BandedCase {
 
     pub fn line(&self) -> String {
         let (left, room) = self.made();
-        left.line(&format!("{} {room}", left.scratch))
+        banded_line(&left, room)
     }
 
     pub fn put(&self, out: &mut Vec<u8>) {
@@ -279,5 +297,57 @@ impl BandedCase {
         out.extend_from_slice(&call.marks);
         put_numbers(out, &call.counts);
         put_numbers(out, &self.plan);
+    }
+}
+
+/// The line that answers a run under a plan, with the word for its room.
+pub fn banded_line(left: &Left, room: &str) -> String {
+    left.line(&format!("{} {room}", left.scratch))
+}
+
+/// A question for the border rows.
+#[derive(Clone, Debug)]
+pub struct BorderCase {
+    pub asked: Asked,
+}
+
+/// What is told of border rows.
+#[derive(Clone, Copy, Debug, PartialEq, Eq)]
+pub struct Bordered {
+    pub number: u32,
+    pub place: u32,
+    pub before: u32,
+    pub behind: u32,
+}
+
+impl Bordered {
+    /// The line that answers the question.
+    pub fn line(&self) -> String {
+        let told = [self.number, self.place, self.before, self.behind];
+        format!("{}\n", row_text(&told).trim_start())
+    }
+}
+
+impl BorderCase {
+    pub fn made(&self) -> Bordered {
+        let (number, place, before, behind) = match border_rows(&self.asked.lent()) {
+            // No more than the grid has rows.
+            Ok(border) => (0, 0, border.before as u32, border.behind as u32),
+            Err(Refusal { number, place }) => (number, place, 0, 0),
+        };
+        Bordered {
+            number,
+            place,
+            before,
+            behind,
+        }
+    }
+
+    pub fn line(&self) -> String {
+        self.made().line()
+    }
+
+    pub fn put(&self, out: &mut Vec<u8>) {
+        self.asked.put(4, out);
     }
 }

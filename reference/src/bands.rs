@@ -1,4 +1,5 @@
-//! Bands of rows: the check of a plan, the planner, and one band's call.
+//! Bands of rows: the border rows, the check of a plan, the planner, and one
+//! band's call.
 //!
 //! A row is a row of the first dimension. A plan is lent as numbers, two for
 //! each band: its first and its last row.
@@ -105,13 +106,21 @@ pub fn longest(rows: u32, border: Border, held: u32) -> Option<Vec<Band>> {
     Some(bands)
 }
 
-/// What is lent to the three calls: the source, the sizes, and how many rows
-/// can be held.
+/// What is lent to these calls: the source, the sizes, and how many rows can be
+/// held.
 #[derive(Clone, Copy)]
 pub struct Held<'a> {
     pub read: Read<'a>,
     pub shape: &'a [u32],
     pub held: u32,
+}
+
+/// The border rows, as a call tells them. How many rows can be held plays no part.
+pub fn border_rows(lent: &Held) -> Result<Border, Refusal> {
+    let program = program_of(&lent.read)?;
+    admit_sizes(&program, lent.shape)?;
+    admit_indices(&program, lent.shape)?;
+    Ok(border(&program))
 }
 
 /// The number and place of a plan check: 0 if the plan is accepted.

@@ -3,6 +3,7 @@
 
 pub mod admission;
 pub mod band_case;
+pub mod band_file;
 pub mod banded;
 pub mod bands;
 pub mod blocks;
@@ -50,8 +51,10 @@ pub mod written;
 pub mod written_bands;
 pub mod written_calls;
 pub mod written_counts;
+pub mod written_edges;
 pub mod written_lists;
 pub mod written_moves;
+pub mod written_orders;
 
 pub use admission::{Lent, Report};
 pub use interpret::run_full;

@@ -289,42 +289,48 @@ fn write_vectors(folder: &Path) -> io::Result<ExitCode> {
         ("check.stdout", &files.check_out),
         ("run.stdin", &files.run_in),
         ("run.stdout", &files.run_out),
+        ("bands.cases", &files.bands_in),
+        ("bands.answers", &files.bands_out),
     ];
     for (name, content) in contents {
         std::fs::write(folder.join(name), content)?;
         println!("{name}: {} bytes", content.len());
     }
     println!(
-        "{} checks, {} runs, {} writings, {} runs in a manner",
-        files.checks, files.runs, files.writings, files.calls
+        "{} checks, {} runs, {} writings, {} runs in a manner, {} calls on bands of rows",
+        files.checks, files.runs, files.writings, files.calls, files.bands
     );
     Ok(ExitCode::SUCCESS)
 }
 
+/// Where each file of vectors stands, and what the second program gives.
+fn stored(files: &vectors::Files) -> [(&'static str, &[u8]); 6] {
+    [
+        ("crates/check_vectors/stdin", &files.check_in),
+        ("crates/check_vectors/stdout", &files.check_out),
+        ("crates/run_vectors/stdin", &files.run_in),
+        ("crates/run_vectors/stdout", &files.run_out),
+        ("bindings/rust/tests/stored/bands.cases", &files.bands_in),
+        ("bindings/rust/tests/stored/bands.answers", &files.bands_out),
+    ]
+}
+
 fn verify(root: &Path) -> io::Result<ExitCode> {
     let files = vectors::files();
-    let crates = [
-        ("check_vectors", &files.check_in, &files.check_out),
-        ("run_vectors", &files.run_in, &files.run_out),
-    ];
-    for (name, input, output) in crates {
-        let folder = root.join("crates").join(name);
-        for (file, expected) in [("stdin", input), ("stdout", output)] {
-            let title = format!("crates/{name}/{file}");
-            let stored = match std::fs::read(folder.join(file)) {
-                Ok(stored) => stored,
-                Err(error) => {
-                    println!("{title}: {error}");
-                    return Ok(ExitCode::from(1));
-                }
-            };
-            if stored != *expected {
-                let same = stored.iter().zip(expected).take_while(|(a, b)| a == b);
-                println!("{title}: differs from byte {}", same.count());
+    for (title, expected) in stored(&files) {
+        let stored = match std::fs::read(root.join(title)) {
+            Ok(stored) => stored,
+            Err(error) => {
+                println!("{title}: {error}");
                 return Ok(ExitCode::from(1));
             }
-            println!("{title}: the same, {} bytes", stored.len());
+        };
+        if stored != expected {
+            let same = stored.iter().zip(expected).take_while(|(a, b)| a == b);
+            println!("{title}: differs from byte {}", same.count());
+            return Ok(ExitCode::from(1));
         }
+        println!("{title}: the same, {} bytes", stored.len());
     }
     Ok(ExitCode::SUCCESS)
 }

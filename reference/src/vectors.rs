@@ -1,6 +1,7 @@
 //! The stored vectors, and rows of generated cases.
 
-use crate::band_case::{BandCase, BandedCase, PlanCase, PlannerCase};
+use crate::band_case::{BandCase, BandedCase, BorderCase, PlanCase, PlannerCase};
+use crate::band_file::AnyCase;
 use crate::call_case::{call_line, put_call, Call};
 use crate::case::{check_answer, put_check, put_run, run_lines, RunCase};
 use crate::chains::{self, Chain};
@@ -22,10 +23,13 @@ use crate::text::{any_style, write, Style};
 use crate::write_case::{put_writing, writing_line, WriteCase};
 use crate::writings;
 use crate::written;
+use crate::written_bands;
 use crate::written_calls;
 use crate::written_counts;
+use crate::written_edges;
 use crate::written_lists;
 use crate::written_moves;
+use crate::written_orders;
 
 /// A generated source. In `small` ones there are at most about 120 tokens.
 pub fn any_check(random: &mut Random, small: bool) -> Vec<u8> {
@@ -188,6 +192,11 @@ pub fn banded(seed: u64, count: usize, small: bool) -> impl Iterator<Item = Band
     (0..count).map(move |_| strips::any_banded(&mut random, small))
 }
 
+/// Generated questions for border rows, in order: those of plan checks.
+pub fn borders(seed: u64, count: usize) -> impl Iterator<Item = BorderCase> {
+    plans(seed, count).map(|case| BorderCase { asked: case.asked })
+}
+
 /// Sources from the papers' own examples.
 const EXAMPLES: [&str; 40] = [
     "",
@@ -338,16 +347,70 @@ pub fn stored_moving() -> Vec<Call> {
     row
 }
 
+/// The cases on bands of rows that are written by hand, those of a kind together.
+fn written_on_bands() -> Vec<AnyCase> {
+    /// Those of a kind that are in order, without their numbers.
+    fn plain<C>(ordered: Vec<(u32, C)>) -> impl Iterator<Item = C> {
+        ordered.into_iter().map(|(_, case)| case)
+    }
+    let borders = plain(written_orders::borders()).chain(written_edges::borders());
+    let plans = plain(written_orders::plans())
+        .chain(written_bands::plans())
+        .chain(written_edges::plans());
+    let planners = plain(written_orders::planners())
+        .chain(written_bands::planners())
+        .chain(written_edges::planners())
+        // One of the longest rooms is enough.
+        .filter(|case| case.room < 8_192 || case.asked.held == 2);
+    let bands = plain(written_orders::bands())
+        .chain(written_bands::bands())
+        .chain(written_edges::bands());
+    let runs = plain(written_orders::runs())
+        .chain(written_bands::runs())
+        .chain(written_edges::runs());
+    borders
+        .map(AnyCase::Border)
+        .chain(plans.map(AnyCase::Plan))
+        .chain(planners.map(AnyCase::Planner))
+        .chain(bands.map(AnyCase::Band))
+        .chain(runs.map(AnyCase::Run))
+        .collect()
+}
+
+/// Whether a generated case is short enough to be stored.
+fn is_short(case: &AnyCase) -> bool {
+    let mut bytes = Vec::new();
+    case.put(&mut bytes);
+    bytes.len() + case.line().len() <= 1_200
+}
+
+/// The stored cases on bands of rows. No proved program reads them: they are held
+/// to the library by the tests of the Rust crate.
+pub fn stored_bands() -> Vec<AnyCase> {
+    let mut row = written_on_bands();
+    let generated = borders(37, 100)
+        .map(AnyCase::Border)
+        .chain(plans(38, 300).map(AnyCase::Plan))
+        .chain(planners(39, 300).map(AnyCase::Planner))
+        .chain(bands(40, 400).map(AnyCase::Band))
+        .chain(banded(41, 500, true).map(AnyCase::Run));
+    row.extend(generated.filter(is_short));
+    row
+}
+
 /// The files of vectors.
 pub struct Files {
     pub check_in: Vec<u8>,
     pub check_out: Vec<u8>,
     pub run_in: Vec<u8>,
     pub run_out: Vec<u8>,
+    pub bands_in: Vec<u8>,
+    pub bands_out: Vec<u8>,
     pub checks: usize,
     pub runs: usize,
     pub writings: usize,
     pub calls: usize,
+    pub bands: usize,
 }
 
 pub fn files() -> Files {
@@ -364,15 +427,19 @@ pub fn files() -> Files {
     if STORED.moving {
         calls.extend(stored_moving());
     }
+    let bands = stored_bands();
     let mut files = Files {
         check_in: Vec::new(),
         check_out: Vec::new(),
         run_in: Vec::new(),
         run_out: Vec::new(),
+        bands_in: Vec::new(),
+        bands_out: Vec::new(),
         checks: checks.len(),
         runs: runs.len(),
         writings: writings.len(),
         calls: calls.len(),
+        bands: bands.len(),
     };
     for source in &checks {
         put_check(&mut files.check_in, source);
@@ -389,6 +456,10 @@ pub fn files() -> Files {
     for call in &calls {
         put_call(&mut files.run_in, call);
         files.run_out.extend(call_line(&call.made()).bytes());
+    }
+    for case in &bands {
+        case.put(&mut files.bands_in);
+        files.bands_out.extend(case.line().bytes());
     }
     files
 }

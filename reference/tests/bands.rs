@@ -2,6 +2,7 @@
 //! plans there are, and properties over generated cases.
 
 use reference::band_case::{Asked, BandCase, BandedCase, MOST_HELD, MOST_NUMBERS};
+use reference::band_file::{self, AnyCase};
 use reference::bands::{accepted, border, longest, numbers_of, row_entries, rows_lent};
 use reference::bands::{Band, Border};
 use reference::call_case::MOST_ENTRIES;
@@ -9,7 +10,7 @@ use reference::case::began;
 use reference::interpret::step;
 use reference::pausing::Manner;
 use reference::tree::Program;
-use reference::{check, vectors, written_bands};
+use reference::{check, vectors, written_bands, written_edges, written_orders};
 use std::collections::BTreeSet;
 
 fn program(source: &str) -> Program {
@@ -575,4 +576,124 @@ fn written_cases() {
     for number in [0, 21, 22, 24, 33, 50, 53, 60, 61] {
         assert!(seen[number] > 0, "{number}");
     }
+}
+
+/// Calls that are wrong in several ways are refused with the first number.
+#[test]
+fn refusals_in_order() {
+    for (number, source) in written_orders::refused_sources() {
+        let reply = check(&source).reply;
+        assert_eq!(reply.number, number, "{}", String::from_utf8_lossy(&source));
+    }
+    for (number, case) in written_orders::borders() {
+        assert_eq!(case.made().number, number, "{case:?}");
+    }
+    for (number, case) in written_orders::plans() {
+        assert_eq!(case.made().0, number, "{case:?}");
+    }
+    for (number, case) in written_orders::planners() {
+        assert_eq!(case.made().number, number, "{case:?}");
+    }
+    for (number, case) in written_orders::bands() {
+        assert_eq!(case.made().0.number, number, "{case:?}");
+    }
+    let mut seen = [0; 64];
+    for (number, case) in written_orders::runs() {
+        assert_as_full(&case, &mut seen);
+        let given = case.made().0.report.number;
+        assert_eq!(given, number, "{case:?}");
+    }
+    let numbers = (0..=9).chain(12..=15).chain(20..=24).chain(40..=45);
+    for number in numbers.chain(50..=56).chain([58, 60, 61]) {
+        assert!(seen[number] > 0, "{number}");
+    }
+}
+
+/// At the edges: a plan for the least number of rows, and none for one row less;
+/// a fault in every row of three bands.
+#[test]
+fn edges() {
+    let mut seen = [0; 64];
+    for case in written_edges::planners() {
+        let borders = border(&check(&case.asked.source).program.unwrap());
+        let least = borders.before + borders.behind + 1;
+        let number = case.made().number;
+        assert_eq!(number == 59, u64::from(case.asked.held) < least, "{case:?}");
+        seen[number as usize] += 1;
+    }
+    for case in written_edges::plans() {
+        seen[case.made().0 as usize] += 1;
+    }
+    for case in written_edges::bands() {
+        seen[case.made().0.number as usize] += 1;
+    }
+    assert!(written_edges::borders()
+        .iter()
+        .all(|case| case.made().number == 0));
+    assert!(seen[0] > 200 && seen[31] > 20, "{seen:?}");
+    assert!(seen[59] == 14 && seen[60] > 20, "{seen:?}");
+    let mut seen = [0; 64];
+    let (mut bands, mut later, mut listed, mut counted) = ([0; 3], 0, 0, 0);
+    for case in written_edges::runs() {
+        let began = assert_as_full(&case, &mut seen);
+        listed += usize::from(began && !case.call.run.values.is_empty());
+        counted += usize::from(began && case.call.counted);
+        let report = case.made().0.report;
+        if report.number == 31 {
+            let row = report.cell as usize * case.call.run.shape[0] as usize / case.call.run.marks;
+            bands[row.min(2)] += 1;
+            later += usize::from(report.steps > 0);
+        }
+    }
+    assert!(seen[0] > 100 && seen[31] > 20 && seen[60] > 20, "{seen:?}");
+    assert!(
+        bands.iter().all(|&count| count >= 5) && later >= 5,
+        "{bands:?} {later}"
+    );
+    assert!(listed > 30 && counted > 50, "{listed} {counted}");
+}
+
+/// The stored cases are read back as they are, and every kind gives every reply
+/// that it can give.
+#[test]
+fn stored_cases() {
+    let mut bytes = Vec::new();
+    let cases = vectors::stored_bands();
+    for case in &cases {
+        case.put(&mut bytes);
+    }
+    let read = band_file::read(&bytes).expect("cases");
+    assert_eq!(read.len(), cases.len());
+    let mut seen = [[0; 64]; 5];
+    for (case, read) in cases.iter().zip(&read) {
+        assert_eq!(format!("{read:?}"), format!("{case:?}"));
+        let line = read.line();
+        let number: usize = line.split(' ').next().unwrap().parse().unwrap();
+        let kind = match read {
+            AnyCase::Border(_) => 0,
+            AnyCase::Plan(_) => 1,
+            AnyCase::Planner(_) => 2,
+            AnyCase::Band(_) => 3,
+            AnyCase::Run(_) => 4,
+        };
+        seen[kind][number] += 1;
+    }
+    let source = || (3..=9).chain(12..=15).chain(40..=45).chain([0, 1, 20, 23]);
+    let others: [&[usize]; 5] = [
+        &[],
+        &[60],
+        &[21, 59],
+        &[21, 22, 24, 30, 31, 32, 33, 60],
+        &[
+            2, 21, 22, 24, 30, 31, 32, 33, 50, 51, 52, 53, 54, 55, 56, 58, 60, 61,
+        ],
+    ];
+    for (kind, others) in others.into_iter().enumerate() {
+        for number in source().chain(others.iter().copied()) {
+            assert!(seen[kind][number] > 0, "{kind}: {number}");
+        }
+    }
+    // Neither a part of the file nor another one is read.
+    assert!(band_file::read(&bytes[..bytes.len() - 1]).is_none());
+    assert!(band_file::read(&[9, 0, 0, 0]).is_none());
 }

@@ -1,5 +1,6 @@
 //! Bands of rows: border rows, plans, and the step of one band.
 
+use crate::banded::BandedRun;
 use crate::calls::BUILT_IN;
 use crate::counting::rows_of;
 use crate::foreign;
@@ -81,6 +82,9 @@ impl Border {
 /// up to the run's; the old rows are the grid that is left. A next row must not be
 /// put in the place of an old one as long as a later band reads that.
 ///
+/// [`run_banded`](Held::run_banded) makes a run of such steps on a grid that the
+/// caller has, and [`BandedRun`] one with a value list or row counts.
+///
 /// ```
 /// use cellang::{Band, Border, Held, Rooms, Stop};
 ///
@@ -106,9 +110,9 @@ impl Border {
 /// ```
 #[derive(Clone, Copy, Debug)]
 pub struct Held<'a, 'l> {
-    source: &'a [u8],
-    shape: &'l [u32],
-    rows: u32,
+    pub(crate) source: &'a [u8],
+    pub(crate) shape: &'l [u32],
+    pub(crate) rows: u32,
 }
 
 impl<'a, 'l> Held<'a, 'l> {
@@ -155,9 +159,7 @@ impl<'a, 'l> Held<'a, 'l> {
     /// assert_eq!(long, Err(NotPlanned::NotAdmitted(Objection::BadPlan)));
     /// ```
     pub fn check_plan(&self, plan: &[Band], rooms: &mut Rooms) -> Result<(), NotPlanned<'a>> {
-        let entries = plan.iter().flat_map(|band| [band.first, band.last]);
-        let plan: Vec<u32> = entries.collect();
-        self.check_plan_in(&plan, &mut rooms.words, &mut rooms.names)
+        self.check_plan_in(&entries_of(plan), &mut rooms.words, &mut rooms.names)
     }
 
     /// Checks a plan as [`check_plan`](Held::check_plan) does, in memory of the
@@ -264,6 +266,41 @@ impl<'a, 'l> Held<'a, 'l> {
     ) -> Outcome<'a> {
         let lent = BandLent { rows, next, time };
         self.step_lent(BUILT_IN, band, lent, words, names)
+    }
+
+    /// Makes a full run on a grid, whose steps are made of those of a plan's bands:
+    /// `steps` steps, the first at time `start`. Outcome and grid are those of
+    /// [`run`](crate::run) in [`Mode::Full`](crate::Mode::Full), but that a plan
+    /// that is not accepted is refused last of all:
+    /// [`Objection::BadPlan`](crate::Objection::BadPlan), 60.
+    ///
+    /// It allocates scratch, marks, and a room for the rows that are held.
+    /// [`BandedRun`] makes such a run with a value list, with row counts, or in
+    /// memory of the caller's.
+    ///
+    /// ```
+    /// use cellang::{Band, Held, Objection, Rooms, Stop};
+    ///
+    /// let mut rooms = Rooms::new();
+    /// let held = Held::new(b"1 dimensions of 0..9 cell := [-1]", &[5], 4);
+    /// let plan = [Band { first: 0, last: 1 }, Band { first: 2, last: 4 }];
+    /// let mut grid = [5, 6, 7, 8, 9];
+    /// let done = held.run_banded(&plan, &mut grid, 0, 2, &mut rooms)?;
+    /// assert_eq!((done.steps, done.count, grid), (2, 10, [8, 9, 5, 6, 7]));
+    ///
+    /// let stop = held.run_banded(&plan[..1], &mut grid, 0, 2, &mut rooms).unwrap_err();
+    /// assert_eq!(stop, Stop::NotAdmitted(Objection::BadPlan));
+    /// # Ok::<(), Stop>(())
+    /// ```
+    pub fn run_banded(
+        &self,
+        plan: &[Band],
+        grid: &mut [i32],
+        start: i64,
+        steps: i64,
+        rooms: &mut Rooms,
+    ) -> Outcome<'a> {
+        BandedRun::new(*self, start, steps).on(plan, grid, rooms)
     }
 
     /// Tells the border rows where a built-in list is lent beside the source.
@@ -404,6 +441,12 @@ impl<'a, 'l> Held<'a, 'l> {
         }
         run_answer(self.source, list, report)
     }
+}
+
+/// A plan as it is lent: two entries a band.
+pub(crate) fn entries_of(plan: &[Band]) -> Vec<u32> {
+    let entries = plan.iter().flat_map(|band| [band.first, band.last]);
+    entries.collect()
 }
 
 /// What the step of a band is lent beside the source, the word table and the name

@@ -1,8 +1,8 @@
 //! Checks sources written in Cellang, a small language for cellular automata,
-//! runs them on grids, also with timed value lists, in slices and with row
-//! counts, writes such lists, steps grids of which a few rows are held at a time,
-//! tells rules that move a pixel once, and compares grids, by a library that is
-//! proved to do what the rules say.
+//! runs them on grids, also with timed value lists, in slices, with row counts and
+//! band by band, writes such lists, steps grids of which a few rows are held at a
+//! time, tells rules that move a pixel once, and compares grids, by a library that
+//! is proved to do what the rules say.
 //!
 //! ```
 //! use cellang::{check, run, Cell, Fault, FaultKind, Mode, Place, Rooms, Stop};
@@ -47,6 +47,7 @@
 #![forbid(unsafe_op_in_unsafe_fn)]
 #![warn(missing_docs)]
 
+mod banded;
 mod bands;
 mod calls;
 mod comparing;
@@ -59,6 +60,7 @@ mod replies;
 mod rooms;
 mod writing;
 
+pub use banded::{BandedLent, BandedRun};
 pub use bands::{Band, Border, Held};
 pub use calls::{check, check_in, run, run_in, Lent, Mode, Run, BUILT_IN};
 pub use comparing::{compare, compare_flat, Difference, NotCompared};

@@ -216,7 +216,9 @@ pub enum Objection {
     /// 21: grid or scratch is not cells times fields long, or marks not one
     /// byte a cell. Of [`Held`](crate::Held): the planner's room does not have two
     /// entries a row, the rows lent are not the band's with borders, or the room
-    /// for the next ones is not as long as the band.
+    /// for the next ones is not as long as the band. Of
+    /// [`BandedRun`](crate::BandedRun): the room does not have as many rows as can be
+    /// held.
     LentLength,
     /// 22: start or steps is negative, or their sum over 2147483647.
     BadTimes,

@@ -2,16 +2,16 @@
 //! and generated grids that are stepped by bands and as a whole.
 
 use cellang::{
-    check, Band, Border, Cell, Done, Entry, Fault, FaultKind, Held, Mode, NotPlanned, Objection,
-    Outcome, Place, Rooms, Run, Stop, NAME_WORDS, WORDS,
+    Band, Border, Cell, Done, Entry, Fault, FaultKind, Held, Mode, NotPlanned, Objection, Outcome,
+    Place, Rooms, Run, Stop, NAME_WORDS, WORDS,
 };
+use plans::{any_plan, as_checked, band, BEFORE};
 use reference::random::Random;
 use reference::vectors;
 
-const RUNS: usize = 12_000;
+mod plans;
 
-/// What the rooms hold on entry.
-const BEFORE: u32 = 0x5A5A_5A5A;
+const RUNS: usize = 12_000;
 
 /// Every cell takes the value of the one before it.
 const SHIFT: &[u8] = b"1 dimensions of 0..9 cell := [-1]";
@@ -22,10 +22,6 @@ const UNKNOWN: &[u8] = b"1 dimensions of 0..9 cell := [6] + x";
 
 const BAD_PLAN: NotPlanned<'static> = NotPlanned::NotAdmitted(Objection::BadPlan);
 
-fn band(first: u32, last: u32) -> Band {
-    Band { first, last }
-}
-
 /// Bands by the entries of a plan.
 fn bands(entries: &[u32]) -> Vec<Band> {
     let pairs = entries.chunks(2);
@@ -34,17 +30,6 @@ fn bands(entries: &[u32]) -> Vec<Band> {
 
 fn number_of<T>(answer: Result<T, NotPlanned>) -> u32 {
     answer.err().map_or(0, |not_planned| not_planned.number())
-}
-
-/// Holds word table and name list, which held [`BEFORE`], to what a check leaves.
-fn as_checked(source: &[u8], words: &[u32], names: &[u32]) {
-    let mut rooms = Rooms::new();
-    if source.len() > 65_535 {
-        assert!(words.iter().chain(names).all(|&word| word == BEFORE));
-        return;
-    }
-    let _ = check(source, &mut rooms);
-    assert!(words == rooms.words() && names == rooms.name_words());
 }
 
 /// Plans in a room of this length that holds 9s; the number of bands, and the room.
@@ -643,19 +628,6 @@ fn by_bands<'a>(
     }
     grid.copy_from_slice(&after);
     Ok(Done { steps: 1, count })
-}
-
-/// A plan whose bands have from one row to `most` rows.
-fn any_plan(random: &mut Random, rows: u32, most: u32) -> Vec<Band> {
-    let mut plan = Vec::new();
-    let mut first = 0;
-    while first < rows {
-        let own = 1 + random.below(most as usize) as u32;
-        let last = (first + own).min(rows) - 1;
-        plan.push(band(first, last));
-        first = last + 1;
-    }
-    plan
 }
 
 #[test]

@@ -37,10 +37,11 @@ use Rattle.planner.specs.Contracts.BorderCall.{BordersLeaves}
 use Rattle.planner.specs.declared.planning.Planned.{Planned}
 use Rattle.planner.specs.Contracts.Planning.{CheckLeaves, PlannerLeaves}
 use Rattle.band_call.specs.Contracts.Calling.{BandLeaves, band-asked, band-lent}
+use Rattle.band_run.specs.Contracts.Running.{BandedLeaves, banded-lent}
 use Rattle.entries.specs.Over.{over}
 use Rattle.comparison.specs.declared.Comparison.{Comparison}
 use Rattle.comparison.specs.Contracts.Comparing.{Compares}
-use Rattle.cellang.specs.Told.{reply-entries, TellsCheck, profile-entries, TellsProfile, report-entries, TellsRun, written-entries, TellsWritten, border-entries, TellsBorders, plan-entries, TellsPlanCheck, planned-entries, TellsPlanned, TellsBand, comparison-entries, TellsComparison, row-entries, TellsRows}
+use Rattle.cellang.specs.Told.{reply-entries, TellsCheck, profile-entries, TellsProfile, report-entries, TellsRun, written-entries, TellsWritten, border-entries, TellsBorders, plan-entries, TellsPlanCheck, planned-entries, TellsPlanned, TellsBand, TellsBanded, comparison-entries, TellsComparison, row-entries, TellsRows}
 
 -- ---- a check
 
@@ -174,6 +175,21 @@ tells-band {source} {list} {ws} {ns} {sizes} {first} {last} {held} {rows} {room}
       room-is = ap (λ x. x .report .grid) (k .is);
       words-are = ap (λ x. x .words) (k .is);
       names-are = ap (λ x. x .names) (k .is);
+    }
+
+pub tells-banded : {source list sizes values plan : List ℕ} {m m′ : Memory ℕ} {start steps : ℤ} {counted : Bool} {field held : ℕ} {room room′ : List ℤ} {entries entries′ : List ℕ} {said : Report} {t : Told} → SFits w64 start → SFits w64 steps
+    → BandedLeaves flat-names (banded-lent (lent source list sizes m values (toZ w64 (ofZ w64 start)) (toZ w64 (ofZ w64 steps)) counted field) held plan room) said m′ room′
+    → told-entries t ≡ part-entries (part-at source (said .number) (said .place))
+    → entries′ ≡ over (said .number ∷ said .place ∷ said .cell ∷ said .steps ∷ said .count ∷ told-entries t ++ said .line ∷ []) entries
+    → TellsBanded (banded-lent (lent source list sizes m values start steps counted field) held plan room) entries (said .number) m′ room′ entries′
+tells-banded {source} {list} {sizes} {values} {plan} {m} {m′} {start} {steps} {counted} {field} {held} {room} {room′} {entries} {said = said} a b h p e =
+    let k = subst₂ (λ (y z : ℤ). BandedLeaves flat-names (banded-lent (lent source list sizes m values y z counted field) held plan room) said m′ room′) (toZ-ofZ a) (toZ-ofZ b) h in
+    record {
+      number = ap (λ x. x .left .report .number) (k .is);
+      told = e ∙ ap (λ (l : List ℕ). over (said .number ∷ said .place ∷ said .cell ∷ said .steps ∷ said .count ∷ l ++ said .line ∷ []) entries) p
+          ∙ ap (λ x. over (report-entries source (x .left .report)) entries) (k .is);
+      memory = ap (λ x. x .left .memory) (k .is);
+      room-is = ap (λ x. x .room) (k .is);
     }
 
 -- ---- a comparison

@@ -1,9 +1,10 @@
 -- What the calls tell: the number that is given back, every entry of the slice for a call's numbers, and the rest of the memory that is lent.
 use mathlib.Core.Path.{_≡_}
-use mathlib.Core.Bool.{Bool}
+use mathlib.Core.Bool.{Bool, not}
 use mathlib.Core.List.{List, [], _∷_, _++_}
 use Prim.Native.Nat.{ℕ}
 use lib.IntN.{ℤ}
+use lib.Dec.{eqb}
 use Rattle.spelling.specs.Spelling.{part-at, part-entries}
 use Rattle.grammar.specs.Complaint.{Complaint}
 use Rattle.grammar.specs.Checking.{check, words-after, names-after}
@@ -18,6 +19,7 @@ use Rattle.bands.specs.BorderCall.{Borders, BordersLent, borders-left}
 use Rattle.bands.specs.Plans.{Planned}
 use Rattle.bands.specs.PlanCalls.{PlanLent, plan-check-left, planner-left}
 use Rattle.band_call.specs.BandCall.{BandLent, band-left}
+use Rattle.band_run.specs.BandedRun.{BandedLent, banded-left}
 use Rattle.entries.specs.Over.{over}
 use Rattle.row_counts.specs.RowQueries.{RowReply}
 use Rattle.comparison.specs.declared.Comparison.{Comparison}
@@ -113,6 +115,17 @@ pub record TellsBand (l : BandLent ℕ) (entries : List ℕ) (r : ℕ) (ws′ ns
   pub room-is : room′ ≡ band-left flat-names l .report .grid
   pub words-are : ws′ ≡ band-left flat-names l .words
   pub names-are : ns′ ≡ band-left flat-names l .names
+
+-- counts are asked for by a number that is not 0
+abbrev pub is-asked : ℕ → Bool
+is-asked n = not (eqb n 0)
+
+-- a run under a plan tells its numbers as a run does
+pub record TellsBanded (l : BandedLent ℕ) (entries : List ℕ) (r : ℕ) (m : Memory ℕ) (room′ : List ℤ) (entries′ : List ℕ) : Type 0 where
+  pub number : r ≡ banded-left flat-names l .left .report .number
+  pub told : entries′ ≡ over (report-entries (l .run .source) (banded-left flat-names l .left .report)) entries
+  pub memory : m ≡ banded-left flat-names l .left .memory
+  pub room-is : room′ ≡ banded-left flat-names l .room
 
 -- ---- a comparison
 

@@ -15,6 +15,7 @@ mod writing;
 pub use banding::cellang_border_rows;
 pub use banding::cellang_check_plan;
 pub use banding::cellang_plan_bands;
+pub use banding::cellang_run_banded;
 pub use banding::cellang_step_band;
 pub use checking::cellang_check;
 pub use comparing::cellang_compare;

@@ -18,6 +18,7 @@ pub use exports::cellang_check_plan;
 pub use exports::cellang_compare;
 pub use exports::cellang_first_zero_row;
 pub use exports::cellang_plan_bands;
+pub use exports::cellang_run_banded;
 pub use exports::cellang_run_full;
 pub use exports::cellang_run_full_counts;
 pub use exports::cellang_run_full_list;

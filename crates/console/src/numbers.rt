@@ -24,6 +24,12 @@ pub enum Entry {
     Bad,
 }
 
+// A count, or no whole number from 0 to 2147483647.
+pub enum Count {
+    Is(u32),
+    Bad,
+}
+
 // Nothing is read yet.
 pub fn before() -> Number {
     Number {
@@ -123,4 +129,16 @@ pub fn value_in(text: &[u8]) -> Entry {
         i += 1;
     }
     value_of(number)
+}
+
+// The count that a whole text is.
+pub fn count_in(text: &[u8]) -> Count {
+    let Entry::Is(n) = value_in(text) else {
+        return Count::Bad;
+    };
+    if n < 0 {
+        return Count::Bad;
+    }
+    let value = Value { n };
+    Count::Is(value.encode())
 }

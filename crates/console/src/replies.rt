@@ -65,6 +65,16 @@ fn say_list(number: u32) {
     }
 }
 
+// What a refusal of a run with row counts or by bands of rows means.
+fn say_rows(number: u32) {
+    match number {
+        59 => say(b"no plan: fewer rows can be held than a band of one row needs"),
+        60 => say(b"the plan of bands is not right"),
+        61 => say(b"no such field for the row counts, or not one count a row"),
+        _ => say(b"a reply without a meaning"),
+    }
+}
+
 // What a reply means.
 pub fn say_meaning(number: u32) {
     if number == 0 {
@@ -77,7 +87,9 @@ pub fn say_meaning(number: u32) {
         say_fault(number);
     } else if number < 50 {
         say_source(number);
-    } else {
+    } else if number < 59 {
         say_list(number);
+    } else {
+        say_rows(number);
     }
 }

@@ -40,6 +40,22 @@ pub fn text_room() -> [u8; 3145728]
     [0; 3145728]
 }
 
+// A room for the rows of a band with its border rows: as much as the stack has beside the other rooms.
+pub const ROWS: usize = 32768;
+
+pub fn rows_room() -> [i32; ROWS]
+    ensures { λ r. ⌜ 32768 ≡ length r ⌝ }
+{
+    [0; ROWS]
+}
+
+// A room for a plan: two entries for each row, of which a grid has 4096 at most.
+pub fn plan_room() -> [u32; 8192]
+    ensures { λ r. ⌜ 8192 ≡ length r ⌝ }
+{
+    [0; 8192]
+}
+
 // A word table of the right length.
 pub fn table_room() -> [u32; 16384]
     ensures { λ r. ⌜ 16384 ≡ length r ⌝ }

@@ -134,3 +134,20 @@ pub fn row(sizes: &[u32], entries: usize, cells: usize) -> usize {
     }
     times(fields_of(entries, cells) as u64, sizes[sizes.len() - 1]) as usize
 }
+
+// How many rows of the first dimension there are.
+pub fn rows_of(sizes: &[u32]) -> u32 {
+    if sizes.len() == 0 {
+        return 0;
+    }
+    sizes[0]
+}
+
+// How many entries so many rows of the first dimension have; a number over the room stands for any such.
+pub fn entries_of_rows(sizes: &[u32], entries: usize, rows: u32) -> usize {
+    let all = rows_of(sizes) as usize;
+    if all == 0 {
+        return 0;
+    }
+    times((entries / all) as u64, rows) as usize
+}

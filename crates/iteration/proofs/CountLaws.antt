@@ -18,7 +18,7 @@ use Rattle.stepper.specs.declared.Reach.{Reach}
 use Rattle.stepper.specs.Reach.{running}
 use Rattle.stepping.specs.declared.Step.{Step}
 use Rattle.stepping.specs.declared.Step.the-variants as Gives
-use Rattle.stepping.specs.Stepping.{Stepped}
+use Rattle.stepping.specs.Stepping.{SteppedFor}
 use Rattle.row_counts.specs.Contracts.Counting.{Countable, Movable}
 use Rattle.iteration.specs.declared.blocks.Next.{Next}
 use Rattle.iteration.specs.Blockwise.{is-due, DueSet}
@@ -57,10 +57,10 @@ module _ {words : List ℕ} {rule : Rule} {sizes : List ℕ} {r : Reach} {grid�
   }
 
   -- the counts for a step that did not fault
-  pub movable : {grid scratch grid′ scratch′ : List ℤ} {marks counts : List ℕ} {time count done : ℕ} {said : Step} → length counts ≡ rows → length grid ≡ length grid₀ → length scratch ≡ length grid₀ → length marks ≡ product sizes
-      → Stepped words rule sizes grid scratch marks time count said grid′ scratch′ → said ≡ Gives.Done done → {counts₀ : List ℕ} → Filled counted sizes (rule .fields) field grid counts₀ counts
+  pub movable : {Held : Program → Type 0} {grid scratch grid′ scratch′ : List ℤ} {marks counts : List ℕ} {time count done : ℕ} {said : Step} → length counts ≡ rows → length grid ≡ length grid₀ → length scratch ≡ length grid₀ → length marks ≡ product sizes
+      → SteppedFor Held rule sizes grid scratch marks time count said grid′ scratch′ → said ≡ Gives.Done done → {counts₀ : List ℕ} → Filled counted sizes (rule .fields) field grid counts₀ counts
       → counted ≡ true → Movable marks sizes (rule .fields) field scratch′ grid′ counts
-  movable {grid} {scratch} {grid′} {scratch′} {marks} {counts} {time} {count} {done} {said} n g s m step e tally c =
+  movable {Held} {grid} {scratch} {grid′} {scratch′} {marks} {counts} {time} {count} {done} {said} n g s m step e tally c =
       record {
         countable = subst (Countable sizes (rule .fields) field (length grid′)) (sym n) (countable c (step .grid-size ∙ g));
         old-fits = step .scratch-size ∙ s ∙ sym g ∙ sym (step .grid-size);
@@ -71,8 +71,8 @@ module _ {words : List ℕ} {rule : Rule} {sizes : List ℕ} {r : Reach} {grid�
         counted = tally .fills c;
       }
     where
-      over : Stepped words rule sizes grid scratch marks time count (Gives.Done done) grid′ scratch′
-      over = subst (λ (x : Step). Stepped words rule sizes grid scratch marks time count x grid′ scratch′) e step
+      over : SteppedFor Held rule sizes grid scratch marks time count (Gives.Done done) grid′ scratch′
+      over = subst (λ (x : Step). SteppedFor Held rule sizes grid scratch marks time count x grid′ scratch′) e step
 
 module _ {counted : Bool} {sizes : List ℕ} {fields field : ℕ} {counts₀ counts : List ℕ} where
   -- behind the block of a time
@@ -104,17 +104,17 @@ module _ {words : List ℕ} {rule : Rule} {sizes : List ℕ} {r : Reach} {all-op
   counts-from first rest = record { tells = λ p runs. counts-moved first (rest .tells p runs) }
 
   -- a step that faults leaves the grid, and so the counts
-  pub counts-stop : {grid scratch grid′ scratch′ : List ℤ} {marks : List ℕ} {time count cell number place total : ℕ} {said : Step} → Stepped words rule sizes grid scratch marks time count said grid′ scratch′ → said ≡ Gives.Fault cell number place total
+  pub counts-stop : {Held : Program → Type 0} → ((p : Program) → Runs words rule r all-open p → Held p) → {grid scratch grid′ scratch′ : List ℤ} {marks : List ℕ} {time count cell number place total : ℕ} {said : Step} → SteppedFor Held rule sizes grid scratch marks time count said grid′ scratch′ → said ≡ Gives.Fault cell number place total
       → Filled counted sizes (rule .fields) field grid counts₀ counts → Tallied words rule sizes r all-open counted field grid′ counts₀ counts
   unfolding quiet-step
-  counts-stop {grid} {scratch} {grid′} {scratch′} {marks} {time} {count} {cell} {number} {place} {total} {said} step e tally =
+  counts-stop {Held} tells {grid} {scratch} {grid′} {scratch′} {marks} {time} {count} {cell} {number} {place} {total} {said} step e tally =
       record { tells = λ p runs. record { fills = λ c. tally .fills c ∙ ap (row-counts sizes (rule .fields) field) (sym (same p runs)); stays = tally .stays } }
     where
-      over : Stepped words rule sizes grid scratch marks time count (Gives.Fault cell number place total) grid′ scratch′
-      over = subst (λ (x : Step). Stepped words rule sizes grid scratch marks time count x grid′ scratch′) e step
+      over : SteppedFor Held rule sizes grid scratch marks time count (Gives.Fault cell number place total) grid′ scratch′
+      over = subst (λ (x : Step). SteppedFor Held rule sizes grid scratch marks time count x grid′ scratch′) e step
 
       same : (p : Program) → Runs words rule r all-open p → grid′ ≡ grid
-      same p runs = over .grid-is p (runs .holds) ∙ ap (λ (f : Fault). grid-after (running p sizes) f grid (quiet-outcome (running p sizes) marks grid time)) (sym (over .fault p (runs .holds)))
+      same p runs = over .grid-is p (tells p runs) ∙ ap (λ (f : Fault). grid-after (running p sizes) f grid (quiet-outcome (running p sizes) marks grid time)) (sym (over .fault p (tells p runs)))
 
 -- ---- the loop
 

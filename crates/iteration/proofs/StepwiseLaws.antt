@@ -34,15 +34,18 @@ use Rattle.stepper.specs.Fitting.{held-fields, Shaped}
 use Rattle.stepping.specs.declared.Step.{Step}
 use Rattle.stepping.specs.declared.Step.the-variants as Gives
 use Rattle.stepping.specs.Stepping as stepping
-use Rattle.stepping.specs.Stepping.{Stepped}
+use Rattle.stepping.specs.Stepping.{SteppedFor}
+use Rattle.stepping.proofs.StepLaws.{stepped-of}
 use Rattle.marking.specs.Opened as marking
 use Rattle.marking.specs.Opened.{opened, pending-is, indices-of, Prepared, Ways, Marks, Sound, WayOf}
 use Rattle.token.specs.Promises.{Sorts}
 use Rattle.lists.specs.Setting.{set-block}
 use Rattle.iteration.specs.declared.Report.{Report}
+use Rattle.iteration.specs.declared.Bands.{Bands}
 use Rattle.iteration.specs.declared.blocks.Next.{Next}
 use Rattle.iteration.specs.Blockwise.{NextOf, is-due, Settable, DueSet}
 use Rattle.iteration.specs.Stepwise.{Copying, from-lent, pending-in, Started, Begins, blocks-in, Runs, Renewed, Standing, Halfway, Begun, Underway, Placed, told, without-fault, steps-give, report-in, RanMarked}
+use Rattle.iteration.specs.OneStep.{border-in, ToldBy, Steppable, Making}
 use Rattle.iteration.proofs.BlockLaws.{Follows, follows-start, follows-within, follows-stay, follows-set}
 
 -- ---- marks
@@ -239,10 +242,15 @@ runs-sound {words} {rule} {r} {all-open} {p} h = record {
 pub copying : {words : List ℕ} {rule : Rule} {sizes : List ℕ} {r : Reach} {grid scratch : List ℤ} {marks text : List ℕ} {start steps : ℕ} → Begins words rule sizes r grid scratch marks text start steps → Copying grid scratch
 copying b = record { alike = b .scratch-fits; few = entries-few (b .shaped .entries) (b .shaped .cells) (b .rule-fits .fields) }
 
--- the leaf table can be filled
+-- the leaf table can be filled, for the sizes of the grid or of the room
 pub fill-ready : {words : List ℕ} {rule : Rule} {sizes : List ℕ} {r : Reach} {grid scratch : List ℤ} {marks text : List ℕ} {start steps : ℕ} → Begins words rule sizes r grid scratch marks text start steps
-    → (4 * rule .tokens ≤ length words) × (rule .tokens ≤ 4096) × (length sizes ≤ 3) × Positive sizes
-fill-ready b = (b .rule-fits .table, b .rule-fits .tokens, omega (arith, b .shaped .dims, b .rule-fits .dims), b .shaped .positive)
+    → {shape : List ℕ} {bands : Bands} {plan : List ℕ} {all-open : Bool} {lent : ℕ} → Making words rule sizes shape bands plan r all-open lent
+    → (4 * rule .tokens ≤ length words) × (rule .tokens ≤ 4096) × (length shape ≤ 3) × Positive shape
+fill-ready {words} {rule} {sizes} b {shape} {bands} by = (b .rule-fits .table, b .rule-fits .tokens, omega (arith, each (bands .banded) refl .0, b .rule-fits .dims), each (bands .banded) refl .1)
+  where
+    each : (t : Bool) → bands .banded ≡ t → (length shape ≡ rule .dims) × Positive shape
+    each true e = (by .by-bands e .roomed .dims, by .by-bands e .roomed .positive)
+    each false e = (ap length (by .whole e) ∙ b .shaped .dims, subst Positive (sym (by .whole e)) (b .shaped .positive))
 
 -- the way that the open cells are marked can be set
 pub prepared : {words : List ℕ} {rule : Rule} {sizes : List ℕ} {r : Reach} {grid scratch : List ℤ} {marks text : List ℕ} {start steps : ℕ} → Begins words rule sizes r grid scratch marks text start steps
@@ -445,6 +453,35 @@ module _ {words : List ℕ} {rule : Rule} {sizes : List ℕ} {r : Reach} {all-op
           noted = noted;
         }
 
+    -- of the whole grid, or by bands
+    pub steppable : {leaves shape plan : List ℕ} {bands : Bands} {lent : ℕ} → Leaves leaves words shape (rule .tokens) (rule .fields) (rule .slots) → Making words rule sizes shape bands plan r all-open lent → done < steps
+        → Steppable leaves words rule sizes shape bands plan grid scratch lent marks (start + done) count
+    steppable {leaves} noted by more =
+        record {
+          whole = λ e. step-ready (subst (λ (s : List ℕ). Leaves leaves words s (rule .tokens) (rule .fields) (rule .slots)) (by .whole e) noted) more;
+          by-bands = λ e.
+              let b = by .by-bands e in (
+                record {
+                  rule-fits = begins .rule-fits;
+                  shaped = subst (Shaped rule sizes) (sym (so .grid-size)) (begins .shaped);
+                  some-dims = omega (arith, begins .shaped .dims, begins .some-dims);
+                  row-is = b .row-is;
+                  near = b .near;
+                  scratch-fits = so .scratch-size ∙ sym (so .grid-size);
+                  roomed = b .roomed;
+                  room-dims = omega (arith, b .roomed .dims, begins .some-dims);
+                  alike = b .alike;
+                  small = omega (arith, begins .times);
+                  noted = noted;
+                },
+                record { right = b .right; countable = omega (arith, so .few-cells, so .few-steps, begins .times, begins .shaped .cells) },
+                record {
+                  marks-fit = so .marks-size;
+                  all = λ c l. ap (λ (ms : List ℕ). marked ms c) (so .standing .all-marked (b .all)) ∙ marked-marks-of every-cell (product sizes) c l;
+                },
+              );
+        }
+
     -- ---- the last step
 
     pub ends : done ≡ steps → RanMarked words rule sizes r all-open text start steps grid₀ marks₀ (without-fault steps count) grid marks
@@ -459,14 +496,14 @@ module _ {words : List ℕ} {rule : Rule} {sizes : List ℕ} {r : Reach} {all-op
     module _ (more : done < steps) where
       -- ---- a step that faults
 
-      pub stops : {said : Step} {cell number place counted : ℕ} {grid′ scratch′ : List ℤ} {marks′ : List ℕ} → Stepped words rule sizes grid scratch marks (start + done) count said grid′ scratch′ → said ≡ Gives.Fault cell number place counted
+      pub stops : {said : Step} {cell number place counted : ℕ} {grid′ scratch′ : List ℤ} {marks′ : List ℕ} → SteppedFor (Runs words rule r all-open) rule sizes grid scratch marks (start + done) count said grid′ scratch′ → said ≡ Gives.Fault cell number place counted
           → marks′ ≡ replicate (length marks) 0
           → RanMarked words rule sizes r all-open text start steps grid₀ marks₀ (record { number = number; place = place; line = 0; cell = cell; steps = done; count = counted }) grid′ marks′
       stops {said} {cell} {number} {place} {counted} {grid′} {scratch′} {marks′} s₀ e cleared =
           record { from = λ o b. record { says = λ p runs. report-is o b p runs; stand = λ p runs. none p ∙ ap (λ (q : Quiet (List ℤ)). q .marks) (sym (is o b p runs)) } }
         where
-          s : Stepped words rule sizes grid scratch marks (start + done) count (Gives.Fault cell number place counted) grid′ scratch′
-          s = subst (λ (t : Step). Stepped words rule sizes grid scratch marks (start + done) count t grid′ scratch′) e s₀
+          s : SteppedFor (Runs words rule r all-open) rule sizes grid scratch marks (start + done) count (Gives.Fault cell number place counted) grid′ scratch′
+          s = subst (λ (t : Step). SteppedFor (Runs words rule r all-open) rule sizes grid scratch marks (start + done) count t grid′ scratch′) e s₀
 
           none : (p : Program) → marks′ ≡ marks-of no-cell (running p sizes .cells)
           none p = unfold running automaton in cleared ∙ ap (λ (n : ℕ). replicate n 0) (so .marks-size) ∙ all-alike false (product sizes)
@@ -475,19 +512,19 @@ module _ {words : List ℕ} {rule : Rule} {sizes : List ℕ} {r : Reach} {all-op
               → steps-give p sizes (blocks-in sizes rule text) o steps start grid₀ ≡ record { run = record { fault = fault-at cell number place; steps = done; grid = quiet-step (running p sizes) marks grid (start + done) .grid }; count = count + quiet-step (running p sizes) marks grid (start + done) .count; marks = marks-of no-cell (running p sizes .cells) }
           is o b p runs =
               let g = now .goes .is p runs o b in
-              going-stop (running p sizes) (blocks-in sizes rule text) o steps start grid₀ (g .2) grid (now .set-is) marks (unfold running automaton in g .1) more cell number place (sym (s .fault p (runs .holds)))
+              going-stop (running p sizes) (blocks-in sizes rule text) o steps start grid₀ (g .2) grid (now .set-is) marks (unfold running automaton in g .1) more cell number place (sym (s .fault p runs))
 
           report-is : (o : ℕ → Bool) → Begun sizes all-open marks₀ o → (p : Program) (runs : Runs words rule r all-open p)
               → told (record { number = number; place = place; line = 0; cell = cell; steps = done; count = counted }) grid′ ≡ report-in (steps-give p sizes (blocks-in sizes rule text) o steps start grid₀)
           report-is o b p runs =
-              (λ i. record { number = number; place = place; line = 0; cell = cell; steps = done; count = s .count-is p (runs .holds) i; grid = s .grid-is p (runs .holds) i })
+              (λ i. record { number = number; place = place; line = 0; cell = cell; steps = done; count = s .count-is p runs i; grid = s .grid-is p runs i })
               ∙ ap report-in (sym (is o b p runs))
 
       -- ---- a step that does not
 
-      module _ {said : Step} {counted : ℕ} {grid′ scratch′ : List ℤ} (s₀ : Stepped words rule sizes grid scratch marks (start + done) count said grid′ scratch′) (is-done : said ≡ Gives.Done counted) where
-        s : Stepped words rule sizes grid scratch marks (start + done) count (Gives.Done counted) grid′ scratch′
-        s = subst (λ (t : Step). Stepped words rule sizes grid scratch marks (start + done) count t grid′ scratch′) is-done s₀
+      module _ {said : Step} {counted : ℕ} {grid′ scratch′ : List ℤ} (s₀ : SteppedFor (Runs words rule r all-open) rule sizes grid scratch marks (start + done) count said grid′ scratch′) (is-done : said ≡ Gives.Done counted) where
+        s : SteppedFor (Runs words rule r all-open) rule sizes grid scratch marks (start + done) count (Gives.Done counted) grid′ scratch′
+        s = subst (λ (t : Step). SteppedFor (Runs words rule r all-open) rule sizes grid scratch marks (start + done) count t grid′ scratch′) is-done s₀
 
         chosen : ℕ → Bool → List ℤ
         chosen c b = cond b (cell-of (rule .fields) grid c) (cell-of (rule .fields) scratch c)
@@ -570,7 +607,7 @@ module _ {words : List ℕ} {rule : Rule} {sizes : List ℕ} {r : Reach} {all-op
                       let g = now .goes .is p runs o b in (
                         touched M grid grid′,
                         next .opens p runs,
-                        going-on M (blocks-in sizes rule text) o steps start grid₀ (g .2) grid (now .set-is) marks (unfold running automaton in g .1) more counted grid′ (sym (s .fault p (runs .holds))) (s .grid-is p (runs .holds)) (s .count-is p (runs .holds)),
+                        going-on M (blocks-in sizes rule text) o steps start grid₀ (g .2) grid (now .set-is) marks (unfold running automaton in g .1) more counted grid′ (sym (s .fault p runs)) (s .grid-is p runs) (s .count-is p runs),
                       );
                 };
               }
@@ -580,31 +617,55 @@ module _ {words : List ℕ} {rule : Rule} {sizes : List ℕ} {r : Reach} {all-op
 
 -- ---- one turn of the loop: the block is set, and then the step is done
 
+-- ---- one step, of the whole grid or by bands
+
+-- what a step tells, by whether it is made of bands
+pub step-by : (b : Bool) (bands : Bands) (words : List ℕ) {rule : Rule} {sizes : List ℕ} {grid scratch : List ℤ} {marks : List ℕ} {time count : ℕ} {said : Step} {grid′ scratch′ : List ℤ} → bands .banded ≡ b
+    → SteppedFor (ToldBy b words rule (border-in bands)) rule sizes grid scratch marks time count said grid′ scratch′
+    → SteppedFor (ToldBy (bands .banded) words rule (border-in bands)) rule sizes grid scratch marks time count said grid′ scratch′
+step-by b bands words {rule} {sizes} {grid} {scratch} {marks} {time} {count} {said} {grid′} {scratch′} e told =
+    subst (λ (t : Bool). SteppedFor (ToldBy t words rule (border-in bands)) rule sizes grid scratch marks time count said grid′ scratch′) (sym e) told
+
+-- a run whose steps are of the whole grid asks no more
+pub making-whole : {words : List ℕ} {rule : Rule} {sizes : List ℕ} {bands : Bands} {plan : List ℕ} {r : Reach} {all-open : Bool} {lent : ℕ} → bands .banded ≡ false → Making words rule sizes sizes bands plan r all-open lent
+making-whole e = record { whole = λ _. refl; by-bands = λ t. never (sym e ∙ t) }
+
+-- a run tells of its program what its steps tell
+pub told-by : {words : List ℕ} {rule : Rule} {sizes shape : List ℕ} {bands : Bands} {plan : List ℕ} {r : Reach} {all-open : Bool} {lent : ℕ} → Making words rule sizes shape bands plan r all-open lent
+    → (p : Program) → Runs words rule r all-open p → ToldBy (bands .banded) words rule (border-in bands) p
+told-by {words} {rule} {sizes} {shape} {bands} by p runs = each (bands .banded) refl
+  where
+    each : (b : Bool) → bands .banded ≡ b → ToldBy b words rule (border-in bands) p
+    each true e = record { holds = runs .holds; flagged = runs .flagged; border-is = by .by-bands e .borders p runs }
+    each false e = runs .holds
+
 -- what holds at the head of the loop
 pub record Looping (words : List ℕ) (rule : Rule) (sizes : List ℕ) (r : Reach) (all-open : Bool) (text : List ℕ) (grid₀ scratch₀ : List ℤ) (marks₀ : List ℕ) (start steps : ℕ) (leaves backs : List ℕ)
-    (listed : ℕ) (kinds : List ℕ) (next : Next) (done count : ℕ) (grid scratch : List ℤ) (marks : List ℕ) : Type 0 where
+    (listed : ℕ) (kinds shape : List ℕ) (bands : Bands) (plan : List ℕ) (lent : ℕ) (next : Next) (done count : ℕ) (grid scratch : List ℤ) (marks : List ℕ) : Type 0 where
   pub begins : Begins words rule sizes r grid₀ scratch₀ marks₀ text start steps
   pub underway : Underway words rule sizes r all-open text grid₀ marks₀ start steps done count grid scratch marks
   pub follows : Follows sizes (rule .fields) text (start + done) next
-  pub noted : Leaves leaves words sizes (rule .tokens) (rule .fields) (rule .slots)
+  pub noted : Leaves leaves words shape (rule .tokens) (rule .fields) (rule .slots)
+  pub by : Making words rule sizes shape bands plan r all-open lent
   pub way : WayOf sizes r backs listed
   pub sorts : Sorts kinds
 
-module _ {words : List ℕ} {rule : Rule} {sizes : List ℕ} {r : Reach} {all-open : Bool} {grid₀ scratch₀ : List ℤ} {marks₀ text : List ℕ} {start steps : ℕ} {leaves backs : List ℕ} {listed : ℕ} {kinds : List ℕ} where
-  pub loop-start : Begins words rule sizes r grid₀ scratch₀ marks₀ text start steps → Standing rule sizes all-open grid₀ scratch₀ marks₀ → Leaves leaves words sizes (rule .tokens) (rule .fields) (rule .slots)
-      → WayOf sizes r backs listed → Sorts kinds → {next : Next} → NextOf text 0 next
-      → Looping words rule sizes r all-open text grid₀ scratch₀ marks₀ start steps leaves backs listed kinds next 0 0 grid₀ scratch₀ marks₀
-  loop-start b s l w k {next} n = record {
+module _ {words : List ℕ} {rule : Rule} {sizes : List ℕ} {r : Reach} {all-open : Bool} {grid₀ scratch₀ : List ℤ} {marks₀ text : List ℕ} {start steps : ℕ} {leaves backs : List ℕ} {listed : ℕ} {kinds shape : List ℕ} {bands : Bands} {plan : List ℕ} {lent : ℕ} where
+  pub loop-start : Begins words rule sizes r grid₀ scratch₀ marks₀ text start steps → Standing rule sizes all-open grid₀ scratch₀ marks₀ → Leaves leaves words shape (rule .tokens) (rule .fields) (rule .slots)
+      → WayOf sizes r backs listed → Making words rule sizes shape bands plan r all-open lent → Sorts kinds → {next : Next} → NextOf text 0 next
+      → Looping words rule sizes r all-open text grid₀ scratch₀ marks₀ start steps leaves backs listed kinds shape bands plan lent next 0 0 grid₀ scratch₀ marks₀
+  loop-start b s l w m k {next} n = record {
     begins = b;
     underway = start-underway b s;
     follows = subst (λ (t : ℕ). Follows sizes (rule .fields) text t next) (sym (add-zero start)) (follows-start (rule .fields) (b .listed) n);
     noted = l;
+    by = m;
     way = w;
     sorts = k;
   }
 
   module _ {next : Next} {done count : ℕ} {grid scratch : List ℤ} {marks : List ℕ}
-      (now : Looping words rule sizes r all-open text grid₀ scratch₀ marks₀ start steps leaves backs listed kinds next done count grid scratch marks) where
+      (now : Looping words rule sizes r all-open text grid₀ scratch₀ marks₀ start steps leaves backs listed kinds shape bands plan lent next done count grid scratch marks) where
     pub loop-settable : Settable text kinds sizes (r .bounds) backs listed (rule .fields) grid scratch marks next
     loop-settable = settable (now .begins) (now .underway) (now .sorts) (now .way) (now .follows)
 
@@ -632,25 +693,29 @@ module _ {words : List ℕ} {rule : Rule} {sizes : List ℕ} {r : Reach} {all-op
             below : (d n : ℕ) → d ≤ n → (d ≡ n → ⊥) → d < n
             below d n l o = omega (arith, l, o)
 
-        pub loop-step : stepping.Ready leaves words rule sizes grid′ scratch′ marks′ (start + done) count
-        loop-step = step-ready (now .begins) (after .placed) (now .noted) more
+        pub loop-step : {lent′ : ℕ} → lent′ ≡ lent → Steppable leaves words rule sizes shape bands plan grid′ scratch′ lent′ marks′ (start + done) count
+        loop-step e = subst (λ (n : ℕ). Steppable leaves words rule sizes shape bands plan grid′ scratch′ n marks′ (start + done) count) (sym e) (steppable (now .begins) (after .placed) (now .noted) (now .by) more)
 
-        module _ {said : Step} {grid″ scratch″ : List ℤ} (s : Stepped words rule sizes grid′ scratch′ marks′ (start + done) count said grid″ scratch″) where
+        module _ {said : Step} {grid″ scratch″ : List ℤ} (told : SteppedFor (ToldBy (bands .banded) words rule (border-in bands)) rule sizes grid′ scratch′ marks′ (start + done) count said grid″ scratch″) where
+          stepped : SteppedFor (Runs words rule r all-open) rule sizes grid′ scratch′ marks′ (start + done) count said grid″ scratch″
+          stepped = stepped-of (told-by (now .by)) told
+
           pub loop-stops : {cell number place counted : ℕ} → said ≡ Gives.Fault cell number place counted → {marks″ : List ℕ} → marks″ ≡ replicate (length marks′) 0
               → RanMarked words rule sizes r all-open text start steps grid₀ marks₀ (record { number = number; place = place; line = 0; cell = cell; steps = done; count = counted }) grid″ marks″
-          loop-stops e m = stops (now .begins) (after .placed) more s e m
+          loop-stops e m = stops (now .begins) (after .placed) more stepped e m
 
           module _ {counted : ℕ} (e : said ≡ Gives.Done counted) where
             pub loop-mark : marking.Ready sizes (r .bounds) backs listed (rule .fields) scratch″ grid″ marks′
-            loop-mark = mark-ready (now .begins) (after .placed) more s e (now .way)
+            loop-mark = mark-ready (now .begins) (after .placed) more stepped e (now .way)
 
             pub loop-again : {marks″ : List ℕ} → Renewed sizes (r .bounds) backs listed all-open (rule .fields) scratch″ grid″ marks′ marks″
-                → Looping words rule sizes r all-open text grid₀ scratch₀ marks₀ start steps leaves backs listed kinds next′ (done + 1) counted grid″ scratch″ marks″
+                → Looping words rule sizes r all-open text grid₀ scratch₀ marks₀ start steps leaves backs listed kinds shape bands plan lent next′ (done + 1) counted grid″ scratch″ marks″
             loop-again renewed = record {
               begins = now .begins;
-              underway = again (now .begins) (after .placed) more s e (now .way) renewed;
+              underway = again (now .begins) (after .placed) more stepped e (now .way) renewed;
               follows = subst (λ (t : ℕ). Follows sizes (rule .fields) text t next′) (add-assoc start done 1) (after .follows);
               noted = now .noted;
+              by = now .by;
               way = now .way;
               sorts = now .sorts;
             }

@@ -2,3 +2,4 @@
 pub mod Blockwise
 pub mod Stepwise
 pub mod Countwise
+pub mod OneStep

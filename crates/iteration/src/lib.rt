@@ -2,8 +2,10 @@
 
 mod blocks;
 mod counting;
+mod single;
 mod steps;
 
+pub use steps::run_by;
 pub use steps::run_steps;
 
 // The manner of a run: all cells in each step; the open ones; the open ones, with the marks left standing; or the same, begun from lent marks.
@@ -12,6 +14,15 @@ pub enum Manner {
     Quiet,
     Pausing,
     Resuming,
+}
+
+// How a run makes its steps: of the whole grid; or, `banded`, of bands of rows, each with so many border rows before and behind it. `row` is the number of
+// cells of a row.
+pub struct Bands {
+    pub banded: bool,
+    pub row: usize,
+    pub before: usize,
+    pub behind: usize,
 }
 
 // The report of a run: the reply's number and place, the line of the value list, the faulting cell, the steps done, and the count of the cells

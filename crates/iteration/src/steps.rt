@@ -5,13 +5,16 @@ ghost use Rattle.semantics.specs.Leaves.{Leaves};
 ghost use Rattle.marking.specs.Opened.{WayOf};
 ghost use lib.ListN.{length};
 ghost use Rattle.iteration.specs.Countwise.{CountsFit, Filled, Tallied};
+ghost use Rattle.iteration.specs.OneStep.{Making};
 ghost use Rattle.iteration.specs.Stepwise.{without-fault, Copying, from-lent, pending-in, Started, Begins, Standing, Renewed, RanMarked, Ran};
+use crate::Bands;
 use crate::Report;
 use crate::blocks::next_block;
 use crate::blocks::set_due;
 use crate::counting::fill_asked;
 use crate::counting::move_asked;
 use crate::counting::recounts;
+use crate::single::one_step;
 use leaf_table::fill_leaves;
 use marked_cells::rooms::clear_marks;
 use marked_cells::rooms::copy_numbers;
@@ -23,7 +26,6 @@ use semantics::Rule;
 use stepper::Bounds;
 use stepper::Reach;
 use stepping::Step;
-use stepping::steps::step;
 use token::bytes::kind_table;
 
 // The report of a run without a fault.
@@ -86,7 +88,8 @@ fn renew_marks(
 
 // Runs so many steps from a time on, up to the first that faults. Before each the block of its time is set, and behind the last the block of the time then
 // reached. In the first step the marked cells are open, and those that its block opens; later all, or those that the step before or a block since then
-// opened. Each step evaluates the open cells alone. Behind the last step the marks of the cells stand that one more would open, at a fault none.
+// opened. Each step evaluates the open cells alone, of the whole grid or by bands: then under the plan, with a room of the sizes `shape`. Behind the last
+// step the marks of the cells stand that one more would open, at a fault none.
 fn run_marked(
     leaves: &[u32; 32776],
     words: &[u32],
@@ -105,8 +108,12 @@ fn run_marked(
     counts: &mut [u32],
     counted: bool,
     field: u32,
+    shape: &[u32],
+    bands: Bands,
+    plan: &[u32],
+    room: &mut [i32],
 ) -> Report
-    requires { ⌜ (Begins (now words) rule (now sizes) reach (now grid) (now scratch) (now marks) (now values) start steps) × (Standing rule (now sizes) all_open (now grid) (now scratch) (now marks)) × (Leaves (now leaves) (now words) (now sizes) (rule .tokens) (rule .fields) (rule .slots)) × (WayOf (now sizes) reach (now backs) listed) × (CountsFit counted (rule .fields) (now sizes) field (length (now counts))) × (Filled counted (now sizes) (rule .fields) field (now grid) (now counts) (now counts)) ⌝ }
+    requires { ⌜ (Begins (now words) rule (now sizes) reach (now grid) (now scratch) (now marks) (now values) start steps) × (Standing rule (now sizes) all_open (now grid) (now scratch) (now marks)) × (Leaves (now leaves) (now words) (now shape) (rule .tokens) (rule .fields) (rule .slots)) × (WayOf (now sizes) reach (now backs) listed) × (CountsFit counted (rule .fields) (now sizes) field (length (now counts))) × (Filled counted (now sizes) (rule .fields) field (now grid) (now counts) (now counts)) × (Making (now words) rule (now sizes) (now shape) bands (now plan) reach all_open (length (now room))) ⌝ }
     ensures { λ r. ⌜ RanMarked (now (words .entry)) rule (now (sizes .entry)) reach all_open (now (values .entry)) start steps (now (grid .entry)) (now (marks .entry)) r (now (grid .exit)) (now (marks .exit)) ⌝ }
     ensures counts { λ _. ⌜ Tallied (now (words .entry)) rule (now (sizes .entry)) reach all_open counted field (now (grid .exit)) (now (counts .entry)) (now (counts .exit)) ⌝ }
 {
@@ -136,13 +143,17 @@ fn run_marked(
         if done == steps {
             return ended(steps, count);
         }
-        match step(
+        match one_step(
             leaves,
             words,
             rule,
             sizes,
+            shape,
+            bands,
+            plan,
             grid,
             scratch,
+            room,
             marks,
             start + done,
             count,
@@ -191,8 +202,8 @@ fn run_marked(
 
 // Runs so many steps from a time on, with their blocks, up to the first that faults. In the first step all cells are open; where the run is resumed, those
 // with a lent mark that is not 0, and those that its block opens. The marks that are left are those of the cells that one more step would open, at a
-// fault none.
-pub fn run_steps(
+// fault none. The steps are of the whole grid, and `shape` has its sizes; or by bands, under the plan, and `shape` has the sizes of the room.
+pub fn run_by(
     words: &[u32],
     rule: Rule,
     sizes: &[u32],
@@ -208,15 +219,19 @@ pub fn run_steps(
     counts: &mut [u32],
     counted: bool,
     field: u32,
+    shape: &[u32],
+    bands: Bands,
+    plan: &[u32],
+    room: &mut [i32],
 ) -> Report
-    requires { ⌜ Begins (now words) rule (now sizes) reach (now grid) (now scratch) (now marks) (now values) start steps × CountsFit counted (rule .fields) (now sizes) field (length (now counts)) ⌝ }
+    requires { ⌜ Begins (now words) rule (now sizes) reach (now grid) (now scratch) (now marks) (now values) start steps × CountsFit counted (rule .fields) (now sizes) field (length (now counts)) × Making (now words) rule (now sizes) (now shape) bands (now plan) reach all_open (length (now room)) ⌝ }
     ensures { λ r. ⌜ Ran (now (words .entry)) rule (now (sizes .entry)) reach all_open (now (values .entry)) start steps (pending-in resumed (now (marks .entry))) (now (grid .entry)) r (now (grid .exit)) (now (marks .exit)) ⌝ }
     ensures counts { λ _. ⌜ Tallied (now (words .entry)) rule (now (sizes .entry)) reach all_open counted field (now (grid .exit)) (now (counts .entry)) (now (counts .exit)) ⌝ }
 {
     let mut leaves = [0u32; 32776];
     fill_leaves(
         words,
-        sizes,
+        shape,
         rule.tokens,
         rule.fields as usize,
         rule.slots as usize,
@@ -244,5 +259,60 @@ pub fn run_steps(
         counts,
         counted,
         field,
+        shape,
+        bands,
+        plan,
+        room,
+    )
+}
+
+// The same, each step of the whole grid.
+pub fn run_steps(
+    words: &[u32],
+    rule: Rule,
+    sizes: &[u32],
+    reach: Reach,
+    all_open: bool,
+    grid: &mut [i32],
+    scratch: &mut [i32],
+    marks: &mut [u8],
+    values: &[u8],
+    start: u32,
+    steps: u32,
+    resumed: bool,
+    counts: &mut [u32],
+    counted: bool,
+    field: u32,
+) -> Report
+    requires { ⌜ Begins (now words) rule (now sizes) reach (now grid) (now scratch) (now marks) (now values) start steps × CountsFit counted (rule .fields) (now sizes) field (length (now counts)) ⌝ }
+    ensures { λ r. ⌜ Ran (now (words .entry)) rule (now (sizes .entry)) reach all_open (now (values .entry)) start steps (pending-in resumed (now (marks .entry))) (now (grid .entry)) r (now (grid .exit)) (now (marks .exit)) ⌝ }
+    ensures counts { λ _. ⌜ Tallied (now (words .entry)) rule (now (sizes .entry)) reach all_open counted field (now (grid .exit)) (now (counts .entry)) (now (counts .exit)) ⌝ }
+{
+    let mut none = [0i32; 1];
+    run_by(
+        words,
+        rule,
+        sizes,
+        reach,
+        all_open,
+        grid,
+        scratch,
+        marks,
+        values,
+        start,
+        steps,
+        resumed,
+        counts,
+        counted,
+        field,
+        sizes,
+        Bands {
+            banded: false,
+            row: 0,
+            before: 0,
+            behind: 0,
+        },
+        sizes,
+        &mut none,
     )
 }

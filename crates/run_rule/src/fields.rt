@@ -1,11 +1,51 @@
-// Which field of a rule a report speaks of.
+// The fields of a rule, and which of them a report speaks of.
 use console::places::remainder;
+use console::rooms;
+use iteration::Manner;
 use iteration::Report;
+use naming::Ran;
 use program::word_at;
+use records::Name;
 use token::kind;
 
 // More than any field's number.
 const NONE: u32 = 8;
+
+// The records of the names of a source: those of a run that is refused for its one size, 0, once the source is accepted.
+pub fn records_of(source: &[u8]) -> Ran {
+    let list = spelling::BUILT_IN;
+    let mut words = rooms::table_room();
+    let sizes = [0u32; 1];
+    let mut grid = [0i32; 1];
+    let mut scratch = [0i32; 1];
+    let mut marks = [0u8; 1];
+    let values = [0u8; 1];
+    let mut counts = [0u32; 1];
+    naming::run(
+        source,
+        &list,
+        &mut words,
+        naming::no_names(),
+        &sizes,
+        &mut grid,
+        &mut scratch,
+        &mut marks,
+        &values,
+        0,
+        0,
+        Manner::Full,
+        &mut counts,
+        false,
+        0,
+    )
+}
+
+// The record of the field of a source that has a number, the zero record if there is none.
+pub fn record_of(source: &[u8], field: u32) -> Name {
+    let ran = records_of(source);
+    let rows = ran.rows;
+    naming::field_record(rows, field)
+}
 
 // The `:=` at a place, with the token i more.
 fn assignment(words: &[u32; 16384], i: usize, place: u32, found: usize) -> usize {

@@ -1,14 +1,16 @@
 // Runs a rule on a grid, called as
-//     run_rule RULE SHAPE START STEPS full|quiet|pause|resume GRID OUT [LIST [CHANGES [PAUSE]]] [--zeros FIELD]
+//     run_rule RULE SHAPE START STEPS full|quiet|pause|resume GRID OUT [LIST [CHANGES [PAUSE]]] [--rows R] [--zeros FIELD]
 // It writes the report of the run in words to standard output, the grid that is left to OUT, and the value list that leads there from the grid
 // that was given to CHANGES. LIST is the value list of the run. A run that pauses writes the marks that stand to PAUSE, and one that resumes begins
-// from those that it reads there. With --zeros it says how many cells are left with 0 in a field. Where an argument or a file cannot be taken it says so on standard error, and writes nothing else.
+// from those that it reads there. With --rows the run is made of bands of rows, each evaluated by R rows alone. With --zeros it says how many cells are left with
+// 0 in a field. Where an argument or a file cannot be taken it says so on standard error, and writes nothing else.
 ghost use mathlib.Core.Path.{_≡_};
 ghost use lib.ListN.{length};
 ghost use Rattle.runner.specs.Sourcewise.{manner-of};
 ghost use Rattle.run_rule.specs.Runs.{Runs};
 
 mod arguments;
+mod banded;
 mod changes;
 mod fields;
 mod pauses;
@@ -124,7 +126,7 @@ fn run_and_tell(
     report
 }
 
-// Runs a source on a grid, with a count for each row if zeros are counted, else with none.
+// Runs a source on a grid, by bands of rows if that is asked for, with a count for each row if zeros are counted, else with none.
 fn run_counted(
     source: &[u8],
     sizes: &[u32],
@@ -136,6 +138,18 @@ fn run_counted(
 ) -> Report {
     let mut counts = [0u32; 4096];
     let counted = rooms::of_words(zeros::counts_of(sizes, order), &counts);
+    if order.banded {
+        return banded::run_and_tell(
+            source,
+            sizes,
+            grid,
+            scratch,
+            marks,
+            values,
+            order,
+            &mut counts[..counted],
+        );
+    }
     run_and_tell(
         source,
         sizes,
@@ -206,7 +220,7 @@ fn run_on_grid(source: &[u8], sizes: &[u32], cells: usize, values: &[u8], order:
     let Grid::Taken(count) = grids::grid_argument(6, b"run_rule: GRID", &mut grid) else {
         return;
     };
-    if changes::can_be_kept(count) {
+    if changes::can_be_kept(count) && banded::can_be_held(sizes, count, order) {
         run_and_compare(source, sizes, cells, &mut grid, count, values, order);
     }
 }

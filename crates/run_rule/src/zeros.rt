@@ -1,15 +1,15 @@
 // The cells that are left with 0 in a field, which is named behind `--zeros`.
 use crate::arguments::Order;
 use crate::arguments::Orders;
-use crate::arguments::has_zeros;
+use crate::arguments::option_place;
+use crate::fields::records_of;
 use crate::reports::has_begun;
 use console::places::wide;
-use console::rooms;
+use console::shapes::rows_of;
 use console::texts::argument;
 use console::texts::complain;
 use console::texts::say;
 use console::texts::say_number;
-use iteration::Manner;
 use iteration::Report;
 use names::folded;
 use records::Name;
@@ -23,13 +23,9 @@ const UNNAMED: u32 = 4294967294;
 
 const UNREAD: u32 = 4294967293;
 
-// The place of the name of the field among the arguments: the last.
+// The place of the name of the field among the arguments, 0 if the zeros are not asked for.
 fn name_place() -> usize {
-    let count = os::arg_count();
-    if count == 0 {
-        return 0;
-    }
-    count - 1
+    option_place(b"--zeros")
 }
 
 // Whether two texts spell the same, without letter case.
@@ -90,33 +86,9 @@ fn find_field(source: &[u8], rows: [Name; 256], name: &[u8]) -> u32 {
     field
 }
 
-// The field of a source that has a name. The records are those of a run that is refused for its one size, 0, once the source is accepted.
+// The field of a source that has a name.
 fn field_named(source: &[u8], name: &[u8]) -> u32 {
-    let list = spelling::BUILT_IN;
-    let mut words = rooms::table_room();
-    let sizes = [0u32; 1];
-    let mut grid = [0i32; 1];
-    let mut scratch = [0i32; 1];
-    let mut marks = [0u8; 1];
-    let values = [0u8; 1];
-    let mut counts = [0u32; 1];
-    let ran = naming::run(
-        source,
-        &list,
-        &mut words,
-        naming::no_names(),
-        &sizes,
-        &mut grid,
-        &mut scratch,
-        &mut marks,
-        &values,
-        0,
-        0,
-        Manner::Full,
-        &mut counts,
-        false,
-        0,
-    );
+    let ran = records_of(source);
     let report = ran.report;
     if report.number != 20 {
         return UNREAD;
@@ -133,14 +105,15 @@ fn complain_name(name: &[u8]) {
     complain(b"`\n");
 }
 
-// What is asked of a run, with the field that the last argument names, if any. If there is no such field, that is said. A rule that is refused has no
+// What is asked of a run, with the field that is named, if any. If there is no such field, that is said. A rule that is refused has no
 // fields, and is run to tell why.
 pub fn with_zeros(source: &[u8], order: Order) -> Orders {
-    if !has_zeros() {
+    let place = name_place();
+    if place == 0 {
         return Orders::Taken(order);
     }
     let mut text = io::buffer();
-    let n = argument(name_place(), &mut text);
+    let n = argument(place, &mut text);
     let field = field_named(source, &text[..n]);
     if field == NONE {
         complain_name(&text[..n]);
@@ -153,15 +126,9 @@ pub fn with_zeros(source: &[u8], order: Order) -> Orders {
         manner,
         counted: field != UNREAD,
         field,
+        banded: order.banded,
+        held: order.held,
     })
-}
-
-// How many rows a grid has.
-fn rows_of(sizes: &[u32]) -> u32 {
-    if sizes.len() == 0 {
-        return 0;
-    }
-    sizes[0]
 }
 
 // How many counts a run is lent: one for each row, if zeros are counted.

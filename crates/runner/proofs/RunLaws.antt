@@ -205,7 +205,7 @@ module _ {fit : Bool} {source : List ℕ} {q : Asked} {words : List ℕ} {rule :
       sym (ap (marks-read manner source q old) (b .is) ∙ ap (λ (t : Bool). if t then marks-admitted manner (b .read .program) q old else old) (eq-eqb _ 0 (b .admits)))
 
 -- marks after a run that did not begin
-marks-kept : (manner : Manner) (fit : Bool) (source : List ℕ) (q : Asked) (old : List ℕ) → run-begins source q (read-source fit source) ≡ false → old ≡ marks-after manner fit source q old
+pub marks-kept : (manner : Manner) (fit : Bool) (source : List ℕ) (q : Asked) (old : List ℕ) → run-begins source q (read-source fit source) ≡ false → old ≡ marks-after manner fit source q old
 unfolding marks-after
 marks-kept manner fit source q old e = by (read-source fit source) e
   where
@@ -214,7 +214,7 @@ marks-kept manner fit source q old e = by (read-source fit source) e
     by (checking.refused n p) f = refl
     by (accepted a) f = sym (ap (λ (t : Bool). if t then marks-admitted manner (a .program) q old else old) f)
 
-counts-kept : (manner : Manner) (fit : Bool) (source : List ℕ) (q : Asked) (old : List ℕ) → run-begins source q (read-source fit source) ≡ false → old ≡ counts-after manner fit source q old
+pub counts-kept : (manner : Manner) (fit : Bool) (source : List ℕ) (q : Asked) (old : List ℕ) → run-begins source q (read-source fit source) ≡ false → old ≡ counts-after manner fit source q old
 unfolding counts-after
 counts-kept manner fit source q old e = by (read-source fit source) e
   where
@@ -242,7 +242,7 @@ room-cleared : {A : Type 0} (zero : A) (fit : Bool) (source : List ℕ) (q : Ask
 unfolding room-after
 room-cleared zero fit source q old e = rw e
 
-room-kept : {A : Type 0} (zero : A) (fit : Bool) (source : List ℕ) (q : Asked) (old : List A) → run-begins source q (read-source fit source) ≡ false → old ≡ room-after zero fit source q old
+pub room-kept : {A : Type 0} (zero : A) (fit : Bool) (source : List ℕ) (q : Asked) (old : List A) → run-begins source q (read-source fit source) ≡ false → old ≡ room-after zero fit source q old
 unfolding room-after
 room-kept zero fit source q old e = rw e
 

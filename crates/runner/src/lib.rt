@@ -1,6 +1,6 @@
 // Running a source on a grid.
 
-mod opening;
+pub mod opening;
 mod running;
 
 pub use running::run;

@@ -1,9 +1,12 @@
-// Plans of bands of rows, and one band's call.
+// Plans of bands of rows, one band's call, and a run under a plan.
 ghost use Rattle.bands.specs.BorderCall.{borders-lent};
 ghost use Rattle.bands.specs.PlanCalls.{plan-lent};
 ghost use Rattle.band_call.specs.Contracts.Calling.{band-asked, band-lent};
-ghost use Rattle.cellang.specs.Told.{TellsBorders, TellsPlanCheck, TellsPlanned, TellsBand};
+ghost use Rattle.services.specs.Calls.{memory, lent};
+ghost use Rattle.band_run.specs.Contracts.Running.{banded-lent};
+ghost use Rattle.cellang.specs.Told.{TellsBorders, TellsPlanCheck, TellsPlanned, TellsBand, is-asked, TellsBanded};
 use band_call::step_band;
+use band_run::run_banded;
 use entries::put_borders;
 use entries::put_planned;
 use entries::put_reply;
@@ -127,6 +130,65 @@ pub extern "C" fn cellang_step_band(
         rows,
         room,
         time,
+    );
+    let part = told_part(source, told.number, told.place);
+    put_report(
+        report,
+        told.number,
+        told.place,
+        told.cell,
+        told.steps,
+        told.count,
+        part.stands,
+        part.start,
+        part.len,
+        told.line,
+    );
+    told.number
+}
+
+// A full run under a plan, with a value list; it keeps row counts if `counted` is not 0: gives the reply's number. `report` is told as that of a run.
+#[no_mangle]
+pub extern "C" fn cellang_run_banded(
+    source: &[u8],
+    list: &[u8],
+    words: &mut [u32],
+    names: &mut [u32],
+    sizes: &[u32],
+    grid: &mut [i32],
+    scratch: &mut [i32],
+    marks: &mut [u8],
+    values: &[u8],
+    start: i64,
+    steps: i64,
+    counts: &mut [u32],
+    counted: u32,
+    field: u32,
+    held: u32,
+    plan: &[u32],
+    room: &mut [i32],
+    report: &mut [u64],
+) -> u32
+    ensures { λ r. ⌜ TellsBanded (banded-lent (lent (now (source .entry)) (now (list .entry)) (now (sizes .entry)) (memory (now (words .entry)) (now (names .entry)) (now (grid .entry)) (now (scratch .entry)) (now (marks .entry)) (now (counts .entry))) (now (values .entry)) start steps (is-asked counted) field) held (now (plan .entry)) (now (room .entry))) (now (report .entry)) r (memory (now (words .exit)) (now (names .exit)) (now (grid .exit)) (now (scratch .exit)) (now (marks .exit)) (now (counts .exit))) (now (room .exit)) (now (report .exit)) ⌝ }
+{
+    let told = run_banded(
+        source,
+        list,
+        words,
+        names,
+        sizes,
+        grid,
+        scratch,
+        marks,
+        values,
+        start,
+        steps,
+        counts,
+        counted != 0,
+        field,
+        held,
+        plan,
+        room,
     );
     let part = told_part(source, told.number, told.place);
     put_report(

@@ -1,19 +1,20 @@
-use mathlib.Core.Path.{sym, _∙_, refl}
+use mathlib.Core.Path.{_≡_, _∙_, refl}
 use Prim.Native.Nat.{_-_, _+_}
+use lib.ListN.{length}
 use native.Mathlib.Omega.{arith}
 use Rattle.iteration.proofs.StepwiseLaws as laws
-use Rattle.iteration.proofs.StepwiseLaws.{Looping, loop-start, loop-settable, placed-grid, placed-scratch, placed-marks, loop-ends, loop-step, loop-stops, loop-mark}
+use Rattle.iteration.proofs.StepwiseLaws.{Looping, loop-start, loop-settable, placed-grid, placed-scratch, placed-marks, loop-ends, loop-step, loop-stops, loop-mark, told-by}
 use Rattle.iteration.proofs.CountLaws.{movable, counts-end, counts-stop, Keeping, keep-start, keep-block, keep-step, block-countable}
 use borrow.Author.Needs.{needs}
 use Rattle.iteration.proofs.steps.run_marked.Statement.{statement}
 use Rattle.iteration.proofs.steps.run_marked.Tie as tie
 
 abbrev Inv-loop : tie.InvT-loop
-Inv-loop leaves words rule sizes reach backs listed all-open grid₀ scratch₀ marks₀ values start steps counts₀ counted field kinds next₀ done₀ count₀ grid scratch marks counts next done count =
-    Looping words rule sizes reach all-open values grid₀ scratch₀ marks₀ start steps leaves backs listed kinds next done count grid scratch marks × Keeping counted rule sizes field grid counts₀ counts
+Inv-loop leaves words rule sizes reach backs listed all-open grid₀ scratch₀ marks₀ values start steps counts₀ counted field shape bands plan room₀ kinds next₀ done₀ count₀ grid scratch marks counts room next done count =
+    Looping words rule sizes reach all-open values grid₀ scratch₀ marks₀ start steps leaves backs listed kinds shape bands plan (length room₀) next done count grid scratch marks × Keeping counted rule sizes field grid counts₀ counts × (length room ≡ length room₀)
 
 abbrev μ-loop : tie.MeasureT-loop
-μ-loop leaves words rule sizes reach backs listed all-open grid₀ scratch₀ marks₀ values start steps counts₀ counted field kinds next₀ done₀ count₀ grid scratch marks counts next done count =
+μ-loop leaves words rule sizes reach backs listed all-open grid₀ scratch₀ marks₀ values start steps counts₀ counted field shape bands plan room₀ kinds next₀ done₀ count₀ grid scratch marks counts room next done count =
     steps + 1 - done
 
 kind-table-requires : tie.Need-kind-table-requires Inv-loop μ-loop
@@ -23,7 +24,7 @@ next-block-requires : tie.Need-next-block-requires Inv-loop μ-loop
 next-block-requires c κs = search needs
 
 loop-holds : tie.Need-loop-holds Inv-loop μ-loop
-loop-holds c = let s = c .before .before .before .before .before .before .before .before .before in (loop-start (s .pre .0) (s .pre .1) (s .pre .2) (s .pre .3) (c .before .before .kind-table .ensures) (c .next-block .ensures), keep-start (s .pre .4) (s .pre .5))
+loop-holds c = (loop-start (c .before .before .before .before .before .before .before .before .before .before .before .pre .0) (c .before .before .before .before .before .before .before .before .before .before .before .pre .1) (c .before .before .before .before .before .before .before .before .before .before .before .pre .2) (c .before .before .before .before .before .before .before .before .before .before .before .pre .3) (c .before .before .before .before .before .before .before .before .before .before .before .pre .6) (c .before .before .kind-table .ensures) (c .next-block .ensures), keep-start (c .before .before .before .before .before .before .before .before .before .before .before .pre .4) (c .before .before .before .before .before .before .before .before .before .before .before .pre .5), refl)
 
 add-recounts : tie.Need-add-recounts Inv-loop μ-loop
 add-recounts c = search needs
@@ -55,14 +56,17 @@ same-length-3 c = placed-marks (c .before .before .before .before .before .befor
 same-length-4 : tie.Need-same-length-4 Inv-loop μ-loop
 same-length-4 c = (keep-block (c .before .before .before .before .before .before .before .before .before .before .before .before .before .before .before .before .before .before .before .loop .inv .1) (c .before .before .before .before .before .before .before .before .before .before .before .set-due .ensures) (c .before .before .before .before .before .before .before .before .before .before .before .before .before .before .before .before .recounts .ensures) (c .before .before .before .before .fill-asked .ensures) (omega (arith, c .before .before .before .before .fill-asked .kept .1 .1 .1 .1 .1 .0))) .size
 
+same-length-5 : tie.Need-same-length-5 Inv-loop μ-loop
+same-length-5 c = c .before .before .before .before .before .before .before .before .before .before .before .before .before .before .before .before .before .before .before .loop .inv .2
+
 returns : tie.Need-returns Inv-loop μ-loop
 returns c = (loop-ends (c .before .before .before .before .before .before .before .before .before .before .before .before .before .before .before .before .before .before .before .loop .inv .0) (c .before .before .before .before .before .before .before .before .before .before .before .set-due .ensures) (omega (arith, c .before .before .before .before .before .before .before .before .before .before .before .set-due .kept .1 .1 .1 .1 .1 .1 .1 .1 .0)) (c .before .if1 .taken) (c .ended .ensures), counts-end ((keep-block (c .before .before .before .before .before .before .before .before .before .before .before .before .before .before .before .before .before .before .before .loop .inv .1) (c .before .before .before .before .before .before .before .before .before .before .before .set-due .ensures) (c .before .before .before .before .before .before .before .before .before .before .before .before .before .before .before .before .recounts .ensures) (c .before .before .before .before .fill-asked .ensures) (omega (arith, c .before .before .before .before .fill-asked .kept .1 .1 .1 .1 .1 .0))) .tally))
 
-add-step : tie.Need-add-step Inv-loop μ-loop
-add-step c = record { fits = omega (arith, c .before .before .before .before .before .before .before .before .before .before .before .before .before .before .before .before .before .before .before .before .loop-test .taken, c .before .before .before .before .before .before .before .before .before .before .before .before .before .before .before .before .before .before .before .before .before .before .before .before .before .before .before .before .before .before .before .pre .0 .times) }
+add-one-step : tie.Need-add-one-step Inv-loop μ-loop
+add-one-step c = record { fits = omega (arith, c .before .before .before .before .before .before .before .before .before .before .before .before .before .before .before .before .before .before .before .before .before .loop-test .taken, c .before .before .before .before .before .before .before .before .before .before .before .before .before .before .before .before .before .before .before .before .before .before .before .before .before .before .before .before .before .before .before .before .before .before .pre .0 .times) }
 
-step-requires : tie.Need-step-requires Inv-loop μ-loop
-step-requires c κs = loop-step (c .before .before .before .before .before .before .before .before .before .before .before .before .before .before .before .before .before .before .before .before .before .loop .inv .0) (c .before .before .before .before .before .before .before .before .before .before .before .before .before .set-due .ensures) (omega (arith, c .before .before .before .before .before .before .before .before .before .before .before .before .before .set-due .kept .1 .1 .1 .1 .1 .1 .1 .1 .0)) (c .before .before .before .if1 .left)
+one-step-requires : tie.Need-one-step-requires Inv-loop μ-loop
+one-step-requires c κs = loop-step (c .before .before .before .before .before .before .before .before .before .before .before .before .before .before .before .before .before .before .before .before .before .before .loop .inv .0) (c .before .before .before .before .before .before .before .before .before .before .before .before .before .before .set-due .ensures) (omega (arith, c .before .before .before .before .before .before .before .before .before .before .before .before .before .before .set-due .kept .1 .1 .1 .1 .1 .1 .1 .1 .0)) (c .before .before .before .before .if1 .left) (c .before .before .before .before .before .before .before .before .before .before .before .before .before .before .before .before .before .before .before .before .before .before .loop .inv .2)
 
 enum-known-counted : tie.Need-enum-known-counted Inv-loop μ-loop
 enum-known-counted c = search needs
@@ -73,55 +77,61 @@ enum-known-cell c = search needs
 clear-marks-requires : tie.Need-clear-marks-requires Inv-loop μ-loop
 clear-marks-requires c κs = search needs
 
-same-length-5 : tie.Need-same-length-5 Inv-loop μ-loop
-same-length-5 c = c .before .before .before .before .before .before .before .before .before .step .ensures .grid-size ∙ placed-grid (c .before .before .before .before .before .before .before .before .before .before .before .before .before .before .before .before .before .before .before .before .before .before .before .before .before .before .before .before .before .before .before .loop .inv .0) (c .before .before .before .before .before .before .before .before .before .before .before .before .before .before .before .before .before .before .before .before .before .before .before .set-due .ensures) (omega (arith, c .before .before .before .before .before .before .before .before .before .before .before .before .before .before .before .before .before .before .before .before .before .before .before .set-due .kept .1 .1 .1 .1 .1 .1 .1 .1 .0))
-
 same-length-6 : tie.Need-same-length-6 Inv-loop μ-loop
-same-length-6 c = c .before .before .before .before .before .before .before .before .before .step .ensures .scratch-size ∙ placed-scratch (c .before .before .before .before .before .before .before .before .before .before .before .before .before .before .before .before .before .before .before .before .before .before .before .before .before .before .before .before .before .before .before .loop .inv .0) (c .before .before .before .before .before .before .before .before .before .before .before .before .before .before .before .before .before .before .before .before .before .before .before .set-due .ensures) (omega (arith, c .before .before .before .before .before .before .before .before .before .before .before .before .before .before .before .before .before .before .before .before .before .before .before .set-due .kept .1 .1 .1 .1 .1 .1 .1 .1 .0))
+same-length-6 c = c .before .before .before .before .before .before .before .before .before .before .one-step .ensures .grid-size ∙ placed-grid (c .before .before .before .before .before .before .before .before .before .before .before .before .before .before .before .before .before .before .before .before .before .before .before .before .before .before .before .before .before .before .before .before .before .loop .inv .0) (c .before .before .before .before .before .before .before .before .before .before .before .before .before .before .before .before .before .before .before .before .before .before .before .before .before .set-due .ensures) (omega (arith, c .before .before .before .before .before .before .before .before .before .before .before .before .before .before .before .before .before .before .before .before .before .before .before .before .before .set-due .kept .1 .1 .1 .1 .1 .1 .1 .1 .0))
 
 same-length-7 : tie.Need-same-length-7 Inv-loop μ-loop
-same-length-7 c = omega (arith, c .before .before .clear-marks .kept, placed-marks (c .before .before .before .before .before .before .before .before .before .before .before .before .before .before .before .before .before .before .before .before .before .before .before .before .before .before .before .before .before .before .before .loop .inv .0) (c .before .before .before .before .before .before .before .before .before .before .before .before .before .before .before .before .before .before .before .before .before .before .before .set-due .ensures) (omega (arith, c .before .before .before .before .before .before .before .before .before .before .before .before .before .before .before .before .before .before .before .before .before .before .before .set-due .kept .1 .1 .1 .1 .1 .1 .1 .1 .0)))
+same-length-7 c = c .before .before .before .before .before .before .before .before .before .before .one-step .ensures .scratch-size ∙ placed-scratch (c .before .before .before .before .before .before .before .before .before .before .before .before .before .before .before .before .before .before .before .before .before .before .before .before .before .before .before .before .before .before .before .before .before .loop .inv .0) (c .before .before .before .before .before .before .before .before .before .before .before .before .before .before .before .before .before .before .before .before .before .before .before .before .before .set-due .ensures) (omega (arith, c .before .before .before .before .before .before .before .before .before .before .before .before .before .before .before .before .before .before .before .before .before .before .before .before .before .set-due .kept .1 .1 .1 .1 .1 .1 .1 .1 .0))
 
 same-length-8 : tie.Need-same-length-8 Inv-loop μ-loop
-same-length-8 c = (keep-block (c .before .before .before .before .before .before .before .before .before .before .before .before .before .before .before .before .before .before .before .before .before .before .before .before .before .before .before .before .before .before .before .loop .inv .1) (c .before .before .before .before .before .before .before .before .before .before .before .before .before .before .before .before .before .before .before .before .before .before .before .set-due .ensures) (c .before .before .before .before .before .before .before .before .before .before .before .before .before .before .before .before .before .before .before .before .before .before .before .before .before .before .before .before .recounts .ensures) (c .before .before .before .before .before .before .before .before .before .before .before .before .before .before .before .before .fill-asked .ensures) (omega (arith, c .before .before .before .before .before .before .before .before .before .before .before .before .before .before .before .before .fill-asked .kept .1 .1 .1 .1 .1 .0))) .size
+same-length-8 c = omega (arith, c .before .before .clear-marks .kept, placed-marks (c .before .before .before .before .before .before .before .before .before .before .before .before .before .before .before .before .before .before .before .before .before .before .before .before .before .before .before .before .before .before .before .before .before .loop .inv .0) (c .before .before .before .before .before .before .before .before .before .before .before .before .before .before .before .before .before .before .before .before .before .before .before .before .before .set-due .ensures) (omega (arith, c .before .before .before .before .before .before .before .before .before .before .before .before .before .before .before .before .before .before .before .before .before .before .before .before .before .set-due .kept .1 .1 .1 .1 .1 .1 .1 .1 .0)))
+
+same-length-9 : tie.Need-same-length-9 Inv-loop μ-loop
+same-length-9 c = (keep-block (c .before .before .before .before .before .before .before .before .before .before .before .before .before .before .before .before .before .before .before .before .before .before .before .before .before .before .before .before .before .before .before .before .before .loop .inv .1) (c .before .before .before .before .before .before .before .before .before .before .before .before .before .before .before .before .before .before .before .before .before .before .before .before .before .set-due .ensures) (c .before .before .before .before .before .before .before .before .before .before .before .before .before .before .before .before .before .before .before .before .before .before .before .before .before .before .before .before .before .before .recounts .ensures) (c .before .before .before .before .before .before .before .before .before .before .before .before .before .before .before .before .before .before .fill-asked .ensures) (omega (arith, c .before .before .before .before .before .before .before .before .before .before .before .before .before .before .before .before .before .before .fill-asked .kept .1 .1 .1 .1 .1 .0))) .size
+
+same-length-10 : tie.Need-same-length-10 Inv-loop μ-loop
+same-length-10 c = (omega (arith, c .before .before .before .before .before .before .before .before .before .before .one-step .kept .1 .1 .1 .1 .1 .1 .1 .1 .1 .0)) ∙ c .before .before .before .before .before .before .before .before .before .before .before .before .before .before .before .before .before .before .before .before .before .before .before .before .before .before .before .before .before .before .before .before .before .loop .inv .2
 
 returns-2 : tie.Need-returns-2 Inv-loop μ-loop
-returns-2 c = (loop-stops (c .before .before .before .before .before .before .before .before .before .before .before .before .before .before .before .before .before .before .before .before .before .before .before .before .before .before .before .before .before .before .before .loop .inv .0) (c .before .before .before .before .before .before .before .before .before .before .before .before .before .before .before .before .before .before .before .before .before .before .before .set-due .ensures) (omega (arith, c .before .before .before .before .before .before .before .before .before .before .before .before .before .before .before .before .before .before .before .before .before .before .before .set-due .kept .1 .1 .1 .1 .1 .1 .1 .1 .0)) (c .before .before .before .before .before .before .before .before .before .before .before .before .before .if1 .left) (c .before .before .before .before .before .before .before .before .before .step .ensures) (c .before .before .before .before .before .cell .given .1) (c .before .before .clear-marks .ensures), counts-stop (c .before .before .before .before .before .before .before .before .before .step .ensures) (c .before .before .before .before .before .cell .given .1) ((keep-block (c .before .before .before .before .before .before .before .before .before .before .before .before .before .before .before .before .before .before .before .before .before .before .before .before .before .before .before .before .before .before .before .loop .inv .1) (c .before .before .before .before .before .before .before .before .before .before .before .before .before .before .before .before .before .before .before .before .before .before .before .set-due .ensures) (c .before .before .before .before .before .before .before .before .before .before .before .before .before .before .before .before .before .before .before .before .before .before .before .before .before .before .before .before .recounts .ensures) (c .before .before .before .before .before .before .before .before .before .before .before .before .before .before .before .before .fill-asked .ensures) (omega (arith, c .before .before .before .before .before .before .before .before .before .before .before .before .before .before .before .before .fill-asked .kept .1 .1 .1 .1 .1 .0))) .tally))
+returns-2 c = (loop-stops (c .before .before .before .before .before .before .before .before .before .before .before .before .before .before .before .before .before .before .before .before .before .before .before .before .before .before .before .before .before .before .before .before .before .loop .inv .0) (c .before .before .before .before .before .before .before .before .before .before .before .before .before .before .before .before .before .before .before .before .before .before .before .before .before .set-due .ensures) (omega (arith, c .before .before .before .before .before .before .before .before .before .before .before .before .before .before .before .before .before .before .before .before .before .before .before .before .before .set-due .kept .1 .1 .1 .1 .1 .1 .1 .1 .0)) (c .before .before .before .before .before .before .before .before .before .before .before .before .before .before .before .if1 .left) (c .before .before .before .before .before .before .before .before .before .before .one-step .ensures) (c .before .before .before .before .before .cell .given .1) (c .before .before .clear-marks .ensures), counts-stop (told-by (c .before .before .before .before .before .before .before .before .before .before .before .before .before .before .before .before .before .before .before .before .before .before .before .before .before .before .before .before .before .before .before .before .before .loop .inv .0 .by)) (c .before .before .before .before .before .before .before .before .before .before .one-step .ensures) (c .before .before .before .before .before .cell .given .1) ((keep-block (c .before .before .before .before .before .before .before .before .before .before .before .before .before .before .before .before .before .before .before .before .before .before .before .before .before .before .before .before .before .before .before .before .before .loop .inv .1) (c .before .before .before .before .before .before .before .before .before .before .before .before .before .before .before .before .before .before .before .before .before .before .before .before .before .set-due .ensures) (c .before .before .before .before .before .before .before .before .before .before .before .before .before .before .before .before .before .before .before .before .before .before .before .before .before .before .before .before .before .before .recounts .ensures) (c .before .before .before .before .before .before .before .before .before .before .before .before .before .before .before .before .before .before .fill-asked .ensures) (omega (arith, c .before .before .before .before .before .before .before .before .before .before .before .before .before .before .before .before .before .before .fill-asked .kept .1 .1 .1 .1 .1 .0))) .tally))
 
 move-asked-requires : tie.Need-move-asked-requires Inv-loop μ-loop
 move-asked-requires c κs =
-    let k = (keep-block (c .before .before .before .before .before .before .before .before .before .before .before .before .before .before .before .before .before .before .before .before .before .before .before .before .before .before .before .before .before .before .before .loop .inv .1) (c .before .before .before .before .before .before .before .before .before .before .before .before .before .before .before .before .before .before .before .before .before .before .before .set-due .ensures) (c .before .before .before .before .before .before .before .before .before .before .before .before .before .before .before .before .before .before .before .before .before .before .before .before .before .before .before .before .recounts .ensures) (c .before .before .before .before .before .before .before .before .before .before .before .before .before .before .before .before .fill-asked .ensures) (omega (arith, c .before .before .before .before .before .before .before .before .before .before .before .before .before .before .before .before .fill-asked .kept .1 .1 .1 .1 .1 .0))) in
-    movable (c .before .before .before .before .before .before .before .before .before .before .before .before .before .before .before .before .before .before .before .before .before .before .before .before .before .before .before .before .before .before .before .loop .inv .0 .begins) (k .fit) refl (placed-grid (c .before .before .before .before .before .before .before .before .before .before .before .before .before .before .before .before .before .before .before .before .before .before .before .before .before .before .before .before .before .before .before .loop .inv .0) (c .before .before .before .before .before .before .before .before .before .before .before .before .before .before .before .before .before .before .before .before .before .before .before .set-due .ensures) (omega (arith, c .before .before .before .before .before .before .before .before .before .before .before .before .before .before .before .before .before .before .before .before .before .before .before .set-due .kept .1 .1 .1 .1 .1 .1 .1 .1 .0))) (placed-scratch (c .before .before .before .before .before .before .before .before .before .before .before .before .before .before .before .before .before .before .before .before .before .before .before .before .before .before .before .before .before .before .before .loop .inv .0) (c .before .before .before .before .before .before .before .before .before .before .before .before .before .before .before .before .before .before .before .before .before .before .before .set-due .ensures) (omega (arith, c .before .before .before .before .before .before .before .before .before .before .before .before .before .before .before .before .before .before .before .before .before .before .before .set-due .kept .1 .1 .1 .1 .1 .1 .1 .1 .0)) ∙ c .before .before .before .before .before .before .before .before .before .before .before .before .before .before .before .before .before .before .before .before .before .before .before .before .before .before .before .before .before .before .before .loop .inv .0 .begins .scratch-fits) (placed-marks (c .before .before .before .before .before .before .before .before .before .before .before .before .before .before .before .before .before .before .before .before .before .before .before .before .before .before .before .before .before .before .before .loop .inv .0) (c .before .before .before .before .before .before .before .before .before .before .before .before .before .before .before .before .before .before .before .before .before .before .before .set-due .ensures) (omega (arith, c .before .before .before .before .before .before .before .before .before .before .before .before .before .before .before .before .before .before .before .before .before .before .before .set-due .kept .1 .1 .1 .1 .1 .1 .1 .1 .0)) ∙ c .before .before .before .before .before .before .before .before .before .before .before .before .before .before .before .before .before .before .before .before .before .before .before .before .before .before .before .before .before .before .before .loop .inv .0 .begins .marks-fit) (c .before .before .before .before .before .before .before .before .before .step .ensures) (c .before .before .before .before .before .counted .given .1) (k .tally)
+    let k = (keep-block (c .before .before .before .before .before .before .before .before .before .before .before .before .before .before .before .before .before .before .before .before .before .before .before .before .before .before .before .before .before .before .before .before .before .loop .inv .1) (c .before .before .before .before .before .before .before .before .before .before .before .before .before .before .before .before .before .before .before .before .before .before .before .before .before .set-due .ensures) (c .before .before .before .before .before .before .before .before .before .before .before .before .before .before .before .before .before .before .before .before .before .before .before .before .before .before .before .before .before .before .recounts .ensures) (c .before .before .before .before .before .before .before .before .before .before .before .before .before .before .before .before .before .before .fill-asked .ensures) (omega (arith, c .before .before .before .before .before .before .before .before .before .before .before .before .before .before .before .before .before .before .fill-asked .kept .1 .1 .1 .1 .1 .0))) in
+    movable (c .before .before .before .before .before .before .before .before .before .before .before .before .before .before .before .before .before .before .before .before .before .before .before .before .before .before .before .before .before .before .before .before .before .loop .inv .0 .begins) (k .fit) refl (placed-grid (c .before .before .before .before .before .before .before .before .before .before .before .before .before .before .before .before .before .before .before .before .before .before .before .before .before .before .before .before .before .before .before .before .before .loop .inv .0) (c .before .before .before .before .before .before .before .before .before .before .before .before .before .before .before .before .before .before .before .before .before .before .before .before .before .set-due .ensures) (omega (arith, c .before .before .before .before .before .before .before .before .before .before .before .before .before .before .before .before .before .before .before .before .before .before .before .before .before .set-due .kept .1 .1 .1 .1 .1 .1 .1 .1 .0))) (placed-scratch (c .before .before .before .before .before .before .before .before .before .before .before .before .before .before .before .before .before .before .before .before .before .before .before .before .before .before .before .before .before .before .before .before .before .loop .inv .0) (c .before .before .before .before .before .before .before .before .before .before .before .before .before .before .before .before .before .before .before .before .before .before .before .before .before .set-due .ensures) (omega (arith, c .before .before .before .before .before .before .before .before .before .before .before .before .before .before .before .before .before .before .before .before .before .before .before .before .before .set-due .kept .1 .1 .1 .1 .1 .1 .1 .1 .0)) ∙ c .before .before .before .before .before .before .before .before .before .before .before .before .before .before .before .before .before .before .before .before .before .before .before .before .before .before .before .before .before .before .before .before .before .loop .inv .0 .begins .scratch-fits) (placed-marks (c .before .before .before .before .before .before .before .before .before .before .before .before .before .before .before .before .before .before .before .before .before .before .before .before .before .before .before .before .before .before .before .before .before .loop .inv .0) (c .before .before .before .before .before .before .before .before .before .before .before .before .before .before .before .before .before .before .before .before .before .before .before .before .before .set-due .ensures) (omega (arith, c .before .before .before .before .before .before .before .before .before .before .before .before .before .before .before .before .before .before .before .before .before .before .before .before .before .set-due .kept .1 .1 .1 .1 .1 .1 .1 .1 .0)) ∙ c .before .before .before .before .before .before .before .before .before .before .before .before .before .before .before .before .before .before .before .before .before .before .before .before .before .before .before .before .before .before .before .before .before .loop .inv .0 .begins .marks-fit) (c .before .before .before .before .before .before .before .before .before .before .one-step .ensures) (c .before .before .before .before .before .counted .given .1) (k .tally)
 
 cast-renew-marks : tie.Need-cast-renew-marks Inv-loop μ-loop
 cast-renew-marks c = search needs
 
 renew-marks-requires : tie.Need-renew-marks-requires Inv-loop μ-loop
-renew-marks-requires c κs = loop-mark (c .before .before .before .before .before .before .before .before .before .before .before .before .before .before .before .before .before .before .before .before .before .before .before .before .before .before .before .before .before .before .before .before .before .before .before .before .before .before .loop .inv .0) (c .before .before .before .before .before .before .before .before .before .before .before .before .before .before .before .before .before .before .before .before .before .before .before .before .before .before .before .before .before .before .set-due .ensures) (omega (arith, c .before .before .before .before .before .before .before .before .before .before .before .before .before .before .before .before .before .before .before .before .before .before .before .before .before .before .before .before .before .before .set-due .kept .1 .1 .1 .1 .1 .1 .1 .1 .0)) (c .before .before .before .before .before .before .before .before .before .before .before .before .before .before .before .before .before .before .before .before .if1 .left) (c .before .before .before .before .before .before .before .before .before .before .before .before .before .before .before .before .step .ensures) (c .before .before .before .before .before .before .before .before .before .before .before .before .counted .given .1)
+renew-marks-requires c κs = loop-mark (c .before .before .before .before .before .before .before .before .before .before .before .before .before .before .before .before .before .before .before .before .before .before .before .before .before .before .before .before .before .before .before .before .before .before .before .before .before .before .before .before .loop .inv .0) (c .before .before .before .before .before .before .before .before .before .before .before .before .before .before .before .before .before .before .before .before .before .before .before .before .before .before .before .before .before .before .before .before .set-due .ensures) (omega (arith, c .before .before .before .before .before .before .before .before .before .before .before .before .before .before .before .before .before .before .before .before .before .before .before .before .before .before .before .before .before .before .before .before .set-due .kept .1 .1 .1 .1 .1 .1 .1 .1 .0)) (c .before .before .before .before .before .before .before .before .before .before .before .before .before .before .before .before .before .before .before .before .before .before .if1 .left) (c .before .before .before .before .before .before .before .before .before .before .before .before .before .before .before .before .before .one-step .ensures) (c .before .before .before .before .before .before .before .before .before .before .before .before .counted .given .1)
 
 add-done : tie.Need-add-done Inv-loop μ-loop
-add-done c = omega (arith, c .before .before .before .before .before .before .before .before .before .before .before .before .before .before .before .before .before .before .before .before .before .before .before .before .before .before .before .before .before .before .before .before .before .before .before .before .before .before .before .before .loop-test .taken, c .before .before .before .before .before .before .before .before .before .before .before .before .before .before .before .before .before .before .before .before .before .before .before .before .before .before .before .before .before .before .before .before .before .before .before .before .before .before .before .before .before .before .before .before .before .before .before .before .before .before .before .pre .0 .times)
+add-done c = omega (arith, c .before .before .before .before .before .before .before .before .before .before .before .before .before .before .before .before .before .before .before .before .before .before .before .before .before .before .before .before .before .before .before .before .before .before .before .before .before .before .before .before .before .before .loop-test .taken, c .before .before .before .before .before .before .before .before .before .before .before .before .before .before .before .before .before .before .before .before .before .before .before .before .before .before .before .before .before .before .before .before .before .before .before .before .before .before .before .before .before .before .before .before .before .before .before .before .before .before .before .before .before .before .before .pre .0 .times)
 
 loop-less : tie.Need-loop-less Inv-loop μ-loop
-loop-less c = omega (arith, c .before .before .before .before .before .before .before .before .before .before .before .before .before .before .before .before .before .before .before .before .before .before .before .before .before .before .before .before .before .before .before .before .before .before .before .before .before .before .before .before .loop-test .taken)
+loop-less c = omega (arith, c .before .before .before .before .before .before .before .before .before .before .before .before .before .before .before .before .before .before .before .before .before .before .before .before .before .before .before .before .before .before .before .before .before .before .before .before .before .before .before .before .before .before .loop-test .taken)
 
 loop-again : tie.Need-loop-again Inv-loop μ-loop
-loop-again c = (laws.loop-again (c .before .before .before .before .before .before .before .before .before .before .before .before .before .before .before .before .before .before .before .before .before .before .before .before .before .before .before .before .before .before .before .before .before .before .before .before .before .before .before .before .before .loop .inv .0) (c .before .before .before .before .before .before .before .before .before .before .before .before .before .before .before .before .before .before .before .before .before .before .before .before .before .before .before .before .before .before .before .before .before .set-due .ensures) (omega (arith, c .before .before .before .before .before .before .before .before .before .before .before .before .before .before .before .before .before .before .before .before .before .before .before .before .before .before .before .before .before .before .before .before .before .set-due .kept .1 .1 .1 .1 .1 .1 .1 .1 .0)) (c .before .before .before .before .before .before .before .before .before .before .before .before .before .before .before .before .before .before .before .before .before .before .before .if1 .left) (c .before .before .before .before .before .before .before .before .before .before .before .before .before .before .before .before .before .before .before .step .ensures) (c .before .before .before .before .before .before .before .before .before .before .before .before .before .before .before .counted .given .1) (c .before .before .renew-marks .ensures), keep-step (keep-block (c .before .before .before .before .before .before .before .before .before .before .before .before .before .before .before .before .before .before .before .before .before .before .before .before .before .before .before .before .before .before .before .before .before .before .before .before .before .before .before .before .before .loop .inv .1) (c .before .before .before .before .before .before .before .before .before .before .before .before .before .before .before .before .before .before .before .before .before .before .before .before .before .before .before .before .before .before .before .before .before .set-due .ensures) (c .before .before .before .before .before .before .before .before .before .before .before .before .before .before .before .before .before .before .before .before .before .before .before .before .before .before .before .before .before .before .before .before .before .before .before .before .before .before .recounts .ensures) (c .before .before .before .before .before .before .before .before .before .before .before .before .before .before .before .before .before .before .before .before .before .before .before .before .before .before .fill-asked .ensures) (omega (arith, c .before .before .before .before .before .before .before .before .before .before .before .before .before .before .before .before .before .before .before .before .before .before .before .before .before .before .fill-asked .kept .1 .1 .1 .1 .1 .0))) (c .before .before .before .before .before .before .before .before .before .move-asked .ensures) (omega (arith, c .before .before .before .before .before .before .before .before .before .move-asked .kept .1 .1 .1 .1 .1 .1 .1 .0)))
+loop-again c = (laws.loop-again (c .before .before .before .before .before .before .before .before .before .before .before .before .before .before .before .before .before .before .before .before .before .before .before .before .before .before .before .before .before .before .before .before .before .before .before .before .before .before .before .before .before .before .before .loop .inv .0) (c .before .before .before .before .before .before .before .before .before .before .before .before .before .before .before .before .before .before .before .before .before .before .before .before .before .before .before .before .before .before .before .before .before .before .before .set-due .ensures) (omega (arith, c .before .before .before .before .before .before .before .before .before .before .before .before .before .before .before .before .before .before .before .before .before .before .before .before .before .before .before .before .before .before .before .before .before .before .before .set-due .kept .1 .1 .1 .1 .1 .1 .1 .1 .0)) (c .before .before .before .before .before .before .before .before .before .before .before .before .before .before .before .before .before .before .before .before .before .before .before .before .before .if1 .left) (c .before .before .before .before .before .before .before .before .before .before .before .before .before .before .before .before .before .before .before .before .one-step .ensures) (c .before .before .before .before .before .before .before .before .before .before .before .before .before .before .before .counted .given .1) (c .before .before .renew-marks .ensures), keep-step (keep-block (c .before .before .before .before .before .before .before .before .before .before .before .before .before .before .before .before .before .before .before .before .before .before .before .before .before .before .before .before .before .before .before .before .before .before .before .before .before .before .before .before .before .before .before .loop .inv .1) (c .before .before .before .before .before .before .before .before .before .before .before .before .before .before .before .before .before .before .before .before .before .before .before .before .before .before .before .before .before .before .before .before .before .before .before .set-due .ensures) (c .before .before .before .before .before .before .before .before .before .before .before .before .before .before .before .before .before .before .before .before .before .before .before .before .before .before .before .before .before .before .before .before .before .before .before .before .before .before .before .before .recounts .ensures) (c .before .before .before .before .before .before .before .before .before .before .before .before .before .before .before .before .before .before .before .before .before .before .before .before .before .before .before .before .fill-asked .ensures) (omega (arith, c .before .before .before .before .before .before .before .before .before .before .before .before .before .before .before .before .before .before .before .before .before .before .before .before .before .before .before .before .fill-asked .kept .1 .1 .1 .1 .1 .0))) (c .before .before .before .before .before .before .before .before .before .move-asked .ensures) (omega (arith, c .before .before .before .before .before .before .before .before .before .move-asked .kept .1 .1 .1 .1 .1 .1 .1 .0)), (omega (arith, c .before .before .before .before .before .before .before .before .before .before .before .before .before .before .before .before .before .before .before .before .one-step .kept .1 .1 .1 .1 .1 .1 .1 .1 .1 .0)) ∙ c .before .before .before .before .before .before .before .before .before .before .before .before .before .before .before .before .before .before .before .before .before .before .before .before .before .before .before .before .before .before .before .before .before .before .before .before .before .before .before .before .before .before .before .loop .inv .2)
 
 ended-requires-2 : tie.Need-ended-requires-2 Inv-loop μ-loop
 ended-requires-2 c κs = search needs
-
-same-length-9 : tie.Need-same-length-9 Inv-loop μ-loop
-same-length-9 c = search needs
-
-same-length-10 : tie.Need-same-length-10 Inv-loop μ-loop
-same-length-10 c = search needs
 
 same-length-11 : tie.Need-same-length-11 Inv-loop μ-loop
 same-length-11 c = search needs
 
 same-length-12 : tie.Need-same-length-12 Inv-loop μ-loop
 same-length-12 c = search needs
+
+same-length-13 : tie.Need-same-length-13 Inv-loop μ-loop
+same-length-13 c = search needs
+
+same-length-14 : tie.Need-same-length-14 Inv-loop μ-loop
+same-length-14 c = search needs
+
+same-length-15 : tie.Need-same-length-15 Inv-loop μ-loop
+same-length-15 c = search needs
 
 returns-3 : tie.Need-returns-3 Inv-loop μ-loop
 returns-3 c = absurd (omega (arith, c .before .loop-test .left, c .before .before .loop .inv .0 .underway .so-far .few-steps))
@@ -145,16 +155,18 @@ run-marked-spec =
     same-length-2
     same-length-3
     same-length-4
+    same-length-5
     returns
-    add-step
-    step-requires
+    add-one-step
+    one-step-requires
     enum-known-counted
     enum-known-cell
     clear-marks-requires
-    same-length-5
     same-length-6
     same-length-7
     same-length-8
+    same-length-9
+    same-length-10
     returns-2
     move-asked-requires
     cast-renew-marks
@@ -163,8 +175,9 @@ run-marked-spec =
     loop-less
     loop-again
     ended-requires-2
-    same-length-9
-    same-length-10
     same-length-11
     same-length-12
+    same-length-13
+    same-length-14
+    same-length-15
     returns-3)

@@ -1,47 +1,14 @@
 use mathlib.Core.Path.{refl}
-use Rattle.iteration.proofs.StepwiseLaws.{fill-ready, prepared, copying, started-begins, started-standing, started-begun}
-use Rattle.iteration.proofs.CountLaws.{countable, filled-self, counts-from, refit}
-use native.Mathlib.Omega.{arith}
 use borrow.Author.Needs.{needs}
+use Rattle.iteration.proofs.StepwiseLaws.{making-whole}
 use Rattle.iteration.proofs.steps.run_steps.Statement.{statement}
 use Rattle.iteration.proofs.steps.run_steps.Tie as tie
 
-cast-fill-leaves : tie.Need-cast-fill-leaves
-cast-fill-leaves c = search needs
+slice-aggregate-run-by : tie.Need-slice-aggregate-run-by
+slice-aggregate-run-by c = search needs
 
-cast-fill-leaves-2 : tie.Need-cast-fill-leaves-2
-cast-fill-leaves-2 c = search needs
-
-fill-leaves-requires : tie.Need-fill-leaves-requires
-fill-leaves-requires c κs = fill-ready (c .before .before .before .before .before .before .before .before .pre .0)
-
-slice-aggregate-set-ways : tie.Need-slice-aggregate-set-ways
-slice-aggregate-set-ways c = search needs
-
-set-ways-requires : tie.Need-set-ways-requires
-set-ways-requires c κs = (prepared (c .before .before .before .before .before .before .before .before .before .before .pre .0), refl)
-
-begin-marks-requires : tie.Need-begin-marks-requires
-begin-marks-requires c κs = copying (c .before .before .before .before .before .before .before .before .before .before .before .before .before .before .before .pre .0)
-
-fill-asked-requires : tie.Need-fill-asked-requires
-fill-asked-requires c κs = λ e. countable (c .before .before .before .before .before .before .before .before .before .before .before .before .before .before .before .before .before .before .before .before .before .pre .0) (c .before .before .before .before .before .before .before .before .before .before .before .before .before .before .before .before .before .before .before .before .before .pre .1) e refl
-
-slice-aggregate-run-marked : tie.Need-slice-aggregate-run-marked
-slice-aggregate-run-marked c = search needs
-
-run-marked-requires : tie.Need-run-marked-requires
-run-marked-requires c κs =
-    let s = c .before .before .before .before .before .before .before .before .before .before .before .before .before .before .before .before .before .before .before .before .before .before .before .before .before .before .before .before .before .before in
-    let begun = c .before .before .before .before .before .before .before .before .before .before .before .before .before .before .begin-marks .ensures in
-    let filled = c .before .before .before .before .before .before .before .before .fill-asked .ensures in (
-      started-begins (s .pre .0) (s .args .resumed) (s .args .all-open) begun (omega (arith, c .before .before .before .before .before .before .before .before .before .before .before .before .before .before .begin-marks .kept .1 .1 .1 .0)) (omega (arith, c .before .before .before .before .before .before .before .before .before .before .before .before .before .before .begin-marks .kept .1 .1 .1 .1 .0)),
-      started-standing (s .pre .0) (s .args .resumed) (s .args .all-open) begun,
-      c .before .before .before .before .before .before .before .before .before .before .before .before .before .before .before .before .before .before .before .before .before .fill-leaves .ensures,
-      c .before .before .before .before .before .before .before .before .before .before .before .before .before .before .before .before .before .before .before .set-ways .ensures,
-      refit (s .pre .1) (omega (arith, c .before .before .before .before .before .before .before .before .fill-asked .kept .1 .1 .1 .1 .1 .0)),
-      filled-self filled,
-    )
+run-by-requires : tie.Need-run-by-requires
+run-by-requires c κs = (c .before .before .before .before .before .before .before .before .before .before .pre .0, c .before .before .before .before .before .before .before .before .before .before .pre .1, making-whole refl)
 
 same-length : tie.Need-same-length
 same-length c = search needs
@@ -56,26 +23,7 @@ same-length-4 : tie.Need-same-length-4
 same-length-4 c = search needs
 
 returns : tie.Need-returns
-returns c =
-    let s = c .before .before .before .before .before .before .before .before .before .before .before .before .before .before .before .before .before .before .before .before .before .before .before .before .before .before .before .before .before .before .before .before .before .before .before .before .before in
-    let ran = c .before .before .before .before .before .before .run-marked .ensures in
-    (ran .0 .from _ (started-begun (s .pre .0) (s .args .resumed) (s .args .all-open) (c .before .before .before .before .before .before .before .before .before .before .before .before .before .before .before .before .before .before .before .before .before .begin-marks .ensures)), counts-from (c .before .before .before .before .before .before .before .before .before .before .before .before .before .before .before .fill-asked .ensures) (ran .1))
+returns c = c .before .before .before .before .before .before .before .run-by .ensures
 
 pub run-steps-spec : {M : Type 1} → statement M
-run-steps-spec =
-    tie.close
-    (tie.spec
-    cast-fill-leaves
-    cast-fill-leaves-2
-    fill-leaves-requires
-    slice-aggregate-set-ways
-    set-ways-requires
-    begin-marks-requires
-    fill-asked-requires
-    slice-aggregate-run-marked
-    run-marked-requires
-    same-length
-    same-length-2
-    same-length-3
-    same-length-4
-    returns)
+run-steps-spec = tie.close (tie.spec slice-aggregate-run-by run-by-requires same-length same-length-2 same-length-3 same-length-4 returns)

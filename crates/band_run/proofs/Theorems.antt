@@ -1,0 +1,2 @@
+-- The theorem on a run under a plan.
+pub mod AsFull

@@ -1,0 +1,4 @@
+-- A full run under a plan. Read in this order.
+pub mod BandedRun
+mod BandedCases
+pub mod Contracts

@@ -1,0 +1,2 @@
+-- The laws by which the functions are proved.
+mod BandedLaws
