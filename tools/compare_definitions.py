@@ -29,18 +29,19 @@ HEADER = """-- Cases that another program wrote.
 use mathlib.Core.Path.{_≡_, refl}
 use mathlib.Core.Bool.{Bool, true}
 use mathlib.Core.List.{List, [], _∷_}
+use mathlib.Core.Option.{none}
 use Prim.Native.Nat.{ℕ}
 use lib.IntN.{ℤ, pos, negsuc}
 use Rattle.stepper.specs.Report.{Report}
 use Rattle.services.specs.Running.{Asked}
-use Rattle.services.specs.Cases.{Lent, Case, checks, runs, failing, holds}
+use Rattle.services.proofs.Theorems.Cases.{Lent, Case, checks, runs, failing, holds}
 
 abbrev lent : List ℕ → ℕ → ℕ → Lent
 lent source words names = record { source = source; words = words; names = names }
 
 abbrev asked : List ℕ → List ℤ → ℤ → ℤ → ℕ → ℕ → List ℕ → Asked
 asked sizes grid start n scratch marks values =
-    record { request = record { sizes = sizes; grid = grid; start = start; steps = n; scratch = scratch; marks = marks }; values = values }
+    record { request = record { sizes = sizes; grid = grid; start = start; steps = n; scratch = scratch; marks = marks }; values = values; counts = none }
 
 abbrev report : ℕ → ℕ → ℕ → ℕ → ℕ → ℕ → List ℤ → Report
 report n place line cell done count grid = record { number = n; place = place; line = line; cell = cell; steps = done; count = count; grid = grid }
@@ -93,7 +94,7 @@ def singles(cases, which):
 
 def check(text):
     """The numbers of the claims that are refused, and the seconds that it took."""
-    with open(os.path.join(SCRATCH, "crates/services/specs/Claims.antt"), "w") as f:
+    with open(os.path.join(SCRATCH, "crates/services/proofs/Theorems/Claims.antt"), "w") as f:
         f.write(text)
     begun = time.time()
     r = subprocess.run(["rt", "dev", "services"], cwd=SCRATCH, stdout=subprocess.PIPE, stderr=subprocess.STDOUT, text=True)
@@ -106,16 +107,16 @@ def check(text):
 def prepare():
     shutil.rmtree(os.path.join(SCRATCH, "crates"), ignore_errors=True)
     os.makedirs(SCRATCH, exist_ok=True)
-    listed = ["value", "automaton", "token", "names", "program", "grammar", "semantics", "linking", "stepper", "lists", "services"]
+    listed = ["value", "automaton", "token", "names", "program", "grammar", "semantics", "linking", "stepper", "one_move", "lists", "services"]
     lines = [l for l in open(os.path.join(ROOT, "crates.txt")) if l.split(":")[0] in listed]
     with open(os.path.join(SCRATCH, "crates.txt"), "w") as f:
         f.writelines(lines)
     for name in listed:
         shutil.copytree(os.path.join(ROOT, "crates", name), os.path.join(SCRATCH, "crates", name))
-    lib = os.path.join(SCRATCH, "crates/services/specs/Lib.antt")
-    text = open(lib).read().replace("pub mod Examples\n", "") + "pub mod Claims\n"
+    lib = os.path.join(SCRATCH, "crates/services/proofs/Theorems.antt")
+    text = re.sub(r"(pub )?mod Examples\n", "", open(lib).read()) + "pub mod Claims\n"
     open(lib, "w").write(text)
-    os.remove(os.path.join(SCRATCH, "crates/services/specs/Examples.antt"))
+    os.remove(os.path.join(SCRATCH, "crates/services/proofs/Theorems/Examples.antt"))
 
 
 def main():

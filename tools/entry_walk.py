@@ -382,7 +382,7 @@ CALLS = [
 use Rattle.records.specs.declared.Name.{Name}
 use Rattle.cellang.specs.declared.checking.Answer.{Answer}
 use Rattle.cellang.specs.Left.{lent-rows-fit}
-use Rattle.cellang.specs.Promises.{ChecksOver, ChecksRows}
+use Rattle.cellang.specs.Contracts.Promises.{ChecksOver, ChecksRows}
 use Rattle.cellang.proofs.checking.Answer.Laws as O′
 use Rattle.records.proofs.NameRow.{Row, vals, makes}
 use Rattle.cellang.proofs.AnswerRow.{OutRow, ReplyRow, reply-mach, out-tells, rows-is, count-fits, reply-is, reply-makes, out-typed, reply-typed}''',
@@ -399,7 +399,7 @@ use Rattle.cellang.proofs.AnswerRow.{OutRow, ReplyRow, reply-mach, out-
 use Rattle.records.specs.declared.Name.{Name}
 use Rattle.cellang.specs.declared.profiling.ProfileAnswer.{ProfileAnswer}
 use Rattle.cellang.specs.Left.{lent-rows-fit}
-use Rattle.cellang.specs.Promises.{ProfilesOver, ProfilesRows}
+use Rattle.cellang.specs.Contracts.Promises.{ProfilesOver, ProfilesRows}
 use Rattle.cellang.proofs.profiling.ProfileAnswer.Laws as O′
 use Rattle.records.proofs.NameRow.{Row, vals, makes}
 use Rattle.cellang.proofs.ProfileAnswerRow.{OutRow, ProfileRow, profile-mach, out-tells, rows-is, count-fits, profile-is, profile-makes, out-typed, profile-typed}''',
@@ -418,14 +418,14 @@ use Rattle.stepper.specs.Report.{full}
 use Rattle.services.specs.Calls.{memory, lent, asked, read-lent, run-report}
 use Rattle.services.specs.RangesKept.{RangesKept}
 use Rattle.iteration.specs.declared.Manner.{Manner}
-use Rattle.iteration.specs.Stepwise.{told}
-use Rattle.runner.specs.Sourcewise.{manner-of, RunLeaves}
-use Rattle.runner.specs.Property3.{AgreesFresh}
+use Rattle.iteration.specs.Contracts.Stepwise.{told}
+use Rattle.runner.specs.Contracts.Sourcewise.{manner-of, RunLeaves}
+use Rattle.runner.specs.Contracts.Agreement.{AgreesFresh}
 use Rattle.runner.proofs.RunLaws.{run-agrees, run-ranges}
 use Rattle.records.specs.declared.Name.{Name}
 use Rattle.cellang.specs.declared.running.RunAnswer.{RunAnswer}
 use Rattle.cellang.specs.Left.{row-names}
-use Rattle.cellang.specs.Promises.{RunsOver}
+use Rattle.cellang.specs.Contracts.Promises.{RunsOver}
 use Rattle.cellang.proofs.running.RunAnswer.Laws as O′
 use Rattle.records.proofs.NameRow.{Row, vals, makes}
 use Rattle.cellang.proofs.MannerRow.{MannerRow, manner-val, manner-vals, manner-tells, manner-makes, manner-lawful}
@@ -446,7 +446,7 @@ use Rattle.list_writer.specs.Contracts.Writing.{WriterLeaves}
 use Rattle.records.specs.declared.Name.{Name}
 use Rattle.cellang.specs.declared.writing.WriteAnswer.{WriteAnswer}
 use Rattle.cellang.specs.Left.{row-names}
-use Rattle.cellang.specs.Promises.{WritesOver}
+use Rattle.cellang.specs.Contracts.Promises.{WritesOver}
 use Rattle.cellang.proofs.writing.WriteAnswer.Laws as O′
 use Rattle.records.proofs.NameRow.{Row, vals, makes}
 use Rattle.cellang.proofs.WriteAnswerRow.{OutRow, WrittenRow, written-mach, out-tells, rows-is, count-fits, written-is, written-makes, out-typed, written-typed}''',

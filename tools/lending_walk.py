@@ -367,9 +367,9 @@ use Rattle.grammar.specs.Checking.{check, words-after}
 use Rattle.names.specs.Names.{most-names}
 use Rattle.checker.specs.declared.checking.Reply.{Reply}
 use Rattle.cellang.specs.Left.{lent-rows-fit}
-use Rattle.cellang.specs.Promises.{ChecksRows}
+use Rattle.cellang.specs.Contracts.Promises.{ChecksRows}
 use Rattle.cellang.proofs.AnswerRow.{ReplyRow}
-use Rattle.naming.specs.Promises.{ChecksSource}''',
+use Rattle.naming.specs.Contracts.Promises.{ChecksSource}''',
         'said': 'ChecksRows (lent-rows-fit v1 (length v2) (length v3)) v0 v2 v3 r z2 ns',
         'final': 'ChecksSource (lent-rows-fit v1 (length v2) most-names) v0 v2 r z2',
         'proof': 'record { reply = e .reply ∙ ap (λ (n : ℕ). check (lent-rows-fit v1 (length v2) n) v0) long; words = e .words ∙ ap (λ (n : ℕ). words-after (lent-rows-fit v1 (length v2) n) v0 v2) long }',
@@ -383,9 +383,9 @@ use Rattle.services.specs.Calls.{memory, lent, asked, read-lent, run-report}
 use Rattle.services.specs.RangesKept.{RangesKept}
 use Rattle.iteration.specs.declared.Report.{Report}
 use Rattle.iteration.specs.declared.Manner.{Manner}
-use Rattle.iteration.specs.Stepwise.{told}
-use Rattle.runner.specs.Sourcewise.{manner-of, RunLeaves}
-use Rattle.runner.specs.Property3.{AgreesFresh}
+use Rattle.iteration.specs.Contracts.Stepwise.{told}
+use Rattle.runner.specs.Contracts.Sourcewise.{manner-of, RunLeaves}
+use Rattle.runner.specs.Contracts.Agreement.{AgreesFresh}
 use Rattle.cellang.specs.Left.{row-names}
 use Rattle.cellang.proofs.MannerRow.{MannerRow, manner-val, manner-vals, manner-tells, manner-makes, manner-lawful}
 use Rattle.cellang.proofs.RunAnswerRow.{ReportRow}

@@ -1,5 +1,5 @@
 #!/usr/bin/env python3
-"""Writes into crates/services/specs/Cases.antt the names of all definitions that a worked case computes with.
+"""Writes into crates/services/proofs/Theorems/Cases.antt the names of all definitions that a worked case computes with.
 
 Run it after a definition was added, renamed or removed. It rewrites the `use` lines of whole modules and the `unfolding` line of `holds`.
 """
@@ -8,7 +8,7 @@ import re
 import textwrap
 
 ROOT = os.path.dirname(os.path.dirname(os.path.abspath(__file__)))
-CASES = os.path.join(ROOT, "crates/services/specs/Cases.antt")
+CASES = os.path.join(ROOT, "crates/services/proofs/Theorems/Cases.antt")
 # the modules of definitions, in reading order
 DEFINITIONS = [
     ("automaton", ["Listed", "Step", "Shape", "Grid", "Rows"]),

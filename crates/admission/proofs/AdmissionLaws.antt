@@ -15,7 +15,7 @@ use mir.Facts.{toZ-ofZ}
 use borrow.Author.Tests.{eq-eqb, ne-eqb, ltb-false}
 use Rattle.value.specs.Choice.{if_then_else_}
 use Rattle.automaton.specs.Listed.{getD-list-of}
-use Rattle.automaton.specs.Quiet.{or-false}
+use Rattle.automaton.proofs.Theorems.Quiet.{or-false}
 use Rattle.automaton.specs.Shape.{Bound}
 use Rattle.program.specs.Syntax.{Range, Program}
 use Rattle.semantics.specs.declared.Rule.{Rule}
@@ -25,12 +25,12 @@ use Rattle.semantics.specs.Places.{own-place, add-relatives, places}
 use Rattle.stepper.specs.declared.Bounds.{Bounds}
 use Rattle.stepper.specs.Reach.{below, above, own-only, widen, widened, box}
 use Rattle.stepper.specs.Admission.{Request, Refusal, refusal, good-sizes, good-rooms, good-times, too-far, out-of-field, admission}
-use Rattle.stepper.specs.Fitting.{Sized, held-fields, Shaped, bound-at, bounds-of, Near}
+use Rattle.stepper.specs.Contracts.Fitting.{Sized, held-fields, Shaped, bound-at, bounds-of, Near}
 use Rattle.indices.specs.declared.Survey.{Survey}
-use Rattle.indices.specs.Surveying.{Surveyed}
+use Rattle.indices.specs.Contracts.Surveying.{Surveyed}
 use Rattle.admission.specs.declared.Refusal as declared
 use Rattle.admission.specs.declared.admitting.Admitted.{Admitted}
-use Rattle.admission.specs.Admitting.{Asked, InFields, request-of, Lists, Admits}
+use Rattle.admission.specs.Contracts.Admitting.{Asked, InFields, request-of, Lists, Admits}
 
 -- ---- one refusal after the other
 

@@ -18,7 +18,7 @@ use Rattle.semantics.specs.Evaluation.{in-field}
 use Rattle.semantics.specs.Stands.{Table, range-in, ranges-in, rule-table}
 use Rattle.semantics.specs.declared.Rule.{Rule}
 use Rattle.stepper.specs.Admission.{refusal, out-of-field}
-use Rattle.admission.specs.Admitting.{InFields}
+use Rattle.admission.specs.Contracts.Admitting.{InFields}
 
 -- ---- the field's number
 

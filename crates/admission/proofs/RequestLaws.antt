@@ -14,13 +14,13 @@ use mir.Syntax.{w32, w64}
 use mir.Val.{Fits, SFits}
 use borrow.Author.Tests.{leb-true, leb-false, le-leb, lt-leb, eq-eqb, ne-eqb, eqb-true}
 use Rattle.value.specs.Choice.{if_then_else_}
-use Rattle.value.specs.Laws.{never, and-both}
+use Rattle.value.proofs.Theorems.Laws.{never, and-both}
 use Rattle.automaton.specs.Shape.{product}
 use Rattle.automaton.specs.ShapeLaws.{Positive}
 use Rattle.program.specs.Syntax.{Program}
 use Rattle.semantics.specs.declared.Rule.{Rule}
 use Rattle.stepper.specs.Admission.{Request, all-between, good-sizes, good-rooms, good-times}
-use Rattle.admission.specs.Admitting.{times-of, cells-of, rooms-of, Asked}
+use Rattle.admission.specs.Contracts.Admitting.{times-of, cells-of, rooms-of, Asked}
 
 and-none : (t : Bool) → (t && false) ≡ false
 and-none true = refl

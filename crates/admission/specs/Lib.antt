@@ -1,2 +1,2 @@
 -- What is asked of a run before it begins, as the functions promise it.
-pub mod Admitting
+pub mod Contracts

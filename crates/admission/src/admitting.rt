@@ -2,8 +2,8 @@
 ghost use mathlib.Core.Path.{_≡_};
 ghost use Prim.Native.Nat.{_<_};
 ghost use lib.ListN.{length};
-ghost use Rattle.stepper.specs.Fitting.{Sized};
-ghost use Rattle.admission.specs.Admitting.{Admits};
+ghost use Rattle.stepper.specs.Contracts.Fitting.{Sized};
+ghost use Rattle.admission.specs.Contracts.Admitting.{Admits};
 use crate::out_of_field;
 use crate::refused_request;
 use indices::surveying::survey;

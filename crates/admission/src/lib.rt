@@ -8,8 +8,8 @@ ghost use Rattle.program.specs.Syntax.{no-range};
 ghost use Rattle.semantics.specs.Evaluation.{in-field};
 ghost use Rattle.semantics.specs.Stands.{rule-table, ranges-in};
 ghost use Rattle.stepper.specs.Admission.{good-times};
-ghost use Rattle.stepper.specs.Fitting.{Sized};
-ghost use Rattle.admission.specs.Admitting.{times-of, cells-of, rooms-of, Asked, InFields};
+ghost use Rattle.stepper.specs.Contracts.Fitting.{Sized};
+ghost use Rattle.admission.specs.Contracts.Admitting.{times-of, cells-of, rooms-of, Asked, InFields};
 
 mod admitting;
 

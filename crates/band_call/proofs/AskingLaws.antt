@@ -9,11 +9,11 @@ use lib.ListN.{length, getD, drop}
 use lib.Dec.{eqb, leb, ltb}
 use lib.IntN.{ℤ, pos}
 use borrow.Author.Tests.{le-leb, lt-leb, leb-true, leb-false, lt-ltb, le-ltb, ltb-true, eq-eqb, ne-eqb, eqb-true, not-true, not-false}
-use Rattle.value.specs.Laws.{and-both}
+use Rattle.value.proofs.Theorems.Laws.{and-both}
 use Rattle.automaton.specs.Shape.{product, Bound}
 use Rattle.automaton.specs.Bands.{Band, rows-in, rows-with}
 use Rattle.stepper.specs.Admission.{all-between, good-times}
-use Rattle.admission.specs.Admitting.{cells-of}
+use Rattle.admission.specs.Contracts.Admitting.{cells-of}
 use Rattle.admission.proofs.RequestLaws.{cells-in}
 use Rattle.band_call.specs.BandCall.{row-cells, band-right, band-rooms}
 use Rattle.band_call.specs.Contracts.Asking.{Divisible, band-number, RefusesBand}

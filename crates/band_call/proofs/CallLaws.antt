@@ -27,9 +27,9 @@ use Rattle.semantics.specs.Stands.{Holds}
 use Rattle.semantics.specs.Written.{written-in}
 use Rattle.stepper.specs.Admission.{Refusal, refusal, good-times, too-far, out-of-field}
 use Rattle.stepper.specs.Report as report
-use Rattle.stepper.specs.Fitting.{Sized, held-fields}
+use Rattle.stepper.specs.Contracts.Fitting.{Sized, held-fields}
 use Rattle.services.specs.Calls.{NameForm, flat-names, names-left}
-use Rattle.admission.specs.Admitting.{InFields}
+use Rattle.admission.specs.Contracts.Admitting.{InFields}
 use Rattle.admission.specs.declared.Refusal as declared
 use Rattle.admission.proofs.RequestLaws.{good-start, good-total}
 use Rattle.bands.specs.Edge.{edge}
@@ -39,12 +39,12 @@ use Rattle.bands.specs.Edge.{bound}
 use Rattle.planner.specs.Contracts.Opening.{RowsOpen, OpensRows}
 use Rattle.stepping.specs.declared.Step.{Step}
 use Rattle.stepping.specs.declared.Step.the-variants as Gives
-use Rattle.stepping.specs.Stepping.{fault-in, count-in}
-use Rattle.stepping.specs.Turns.{Roomed}
-use Rattle.stepping.specs.Rows.{RowsReady, RowsStepped}
+use Rattle.stepping.specs.Contracts.Stepping.{fault-in, count-in}
+use Rattle.stepping.specs.Contracts.Turns.{Roomed}
+use Rattle.stepping.specs.Contracts.Rows.{RowsReady, RowsStepped}
 use Rattle.banding.proofs.OneBand.{by-rows, rest-positive}
 use Rattle.iteration.specs.declared.Report.{Report}
-use Rattle.iteration.specs.Stepwise.{told}
+use Rattle.iteration.specs.Contracts.Stepwise.{told}
 use Rattle.band_call.specs.BandCall.{row-cells, BandAsked, band-right, band-rooms, band-refusal, band-stepped, band-ended, band-report, band-on, band-source, BandLent, band-lent-fits, band-left}
 use Rattle.band_call.specs.Contracts.Asking.{Divisible, band-number, RefusesBand}
 use Rattle.band_call.specs.Contracts.Calling.{LentFits, stepped-by, LentStepped, StepsSource, BandLeaves, band-asked}

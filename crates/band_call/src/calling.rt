@@ -6,7 +6,7 @@ ghost use Rattle.services.specs.Calls.{flat-names};
 ghost use Rattle.bands.specs.Plans.{band};
 ghost use Rattle.bands.specs.Edge.{bound};
 ghost use Rattle.stepper.specs.Report.{refused};
-ghost use Rattle.iteration.specs.Stepwise.{told};
+ghost use Rattle.iteration.specs.Contracts.Stepwise.{told};
 ghost use mathlib.Core.List.{List};
 ghost use lib.IntN.{ℤ};
 ghost use Rattle.band_call.specs.Contracts.Calling.{LentFits, LentStepped, StepsSource, BandLeaves, band-asked, band-lent};

@@ -24,13 +24,13 @@ use Rattle.stepper.specs.declared.Reach.{Reach}
 use Rattle.stepper.specs.Reach.{reach, reach-from}
 use Rattle.stepper.specs.Report as report
 use Rattle.stepper.specs.Report.{full}
-use Rattle.stepper.specs.Fitting.{bound-at, bounds-of, Near, held-fields}
+use Rattle.stepper.specs.Contracts.Fitting.{bound-at, bounds-of, Near, held-fields}
 use Rattle.lists.specs.ListChecking.{Turned}
 use Rattle.services.specs.Running.{Asked, admitted}
-use Rattle.services.specs.RunningLaws.{turned, run-refused}
+use Rattle.services.proofs.Theorems.RunningLaws.{turned, run-refused}
 use Rattle.services.specs.Services.{run-begins, run-read, run-source}
 use Rattle.services.specs.Calls.{NameForm, flat-names, Memory, memory, lent, fits, asked, read-lent, names-left}
-use Rattle.services.specs.AcceptedSources.{accepted-declared}
+use Rattle.services.proofs.Theorems.AcceptedSources.{accepted-declared}
 use Rattle.bands.specs.Edge.{bound, edge-of, edge}
 use Rattle.bands.specs.Plans.{plan-right, plan-fits}
 use Rattle.bands.proofs.Theorems.EdgeTheorems.{edge-in-box}
@@ -38,9 +38,9 @@ use Rattle.planner.specs.declared.borders.Border.{Border}
 use Rattle.planner.specs.Contracts.Borders.{BordersOf}
 use Rattle.planner.proofs.BorderLaws.{first-bound}
 use Rattle.iteration.specs.declared.Report.{Report}
-use Rattle.iteration.specs.Stepwise.{Runs}
+use Rattle.iteration.specs.Contracts.Stepwise.{Runs}
 use Rattle.runner.specs.declared.opening.Opening.{Opening}
-use Rattle.runner.specs.Sourcewise.{Begun, Opens, RunLeaves}
+use Rattle.runner.specs.Contracts.Sourcewise.{Begun, Opens, RunLeaves}
 use Rattle.band_run.specs.BandedRun.{room-right, admitted-under, BandedLent, under, left-refused, left-full, left-turned, left-read, banded-left}
 use Rattle.band_run.specs.Contracts.Rooms.{TriesRoom}
 use Rattle.band_run.specs.Contracts.Running.{UnderPlan, BandedLeaves, BandsListed, banded-lent}

@@ -10,19 +10,19 @@ use lib.ListN.{length, getD, drop}
 use lib.Dec.{eqb, leb}
 use lib.IntN.{ℤ}
 use borrow.Author.Tests.{eqb-true, leb-true, le-leb, ltb-true}
-use Rattle.value.specs.Laws.{never, and-both}
+use Rattle.value.proofs.Theorems.Laws.{never, and-both}
 use Rattle.automaton.specs.Shape.{product, Bound}
 use Rattle.automaton.specs.ShapeLaws.{Positive}
 use Rattle.automaton.specs.Bands.{Band, rows-with, runs-on, accepts, plannable}
-use Rattle.automaton.specs.BandLaws.{plan-needs}
+use Rattle.automaton.proofs.Theorems.BandLaws.{plan-needs}
 use Rattle.semantics.specs.declared.Rule.{Rule}
 use Rattle.stepper.specs.declared.Reach.{Reach}
 use Rattle.stepper.specs.Admission.{all-between}
 use Rattle.bands.specs.Plans.{bands-in, accepts-some, plan-right}
 use Rattle.banding.proofs.OneBand.{by-rows, rest-positive}
 use Rattle.band_call.specs.BandCall.{row-cells}
-use Rattle.iteration.specs.Stepwise.{Begins}
-use Rattle.iteration.specs.OneStep.{Making}
+use Rattle.iteration.specs.Contracts.Stepwise.{Begins}
+use Rattle.iteration.specs.Contracts.OneStep.{Making}
 use Rattle.band_run.specs.Contracts.Running.{UnderPlan}
 
 -- ---- the rows that are used

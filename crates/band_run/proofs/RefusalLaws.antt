@@ -13,7 +13,7 @@ use Rattle.stepper.specs.Admission.{Refusal, refusal, good-sizes, good-rooms, a
 use Rattle.admission.proofs.RequestLaws.{positive}
 use Rattle.lists.specs.ListChecking.{Turned}
 use Rattle.services.specs.Running.{Asked, ask, admitted}
-use Rattle.services.specs.RunningLaws.{turned, refused-first}
+use Rattle.services.proofs.Theorems.RunningLaws.{turned, refused-first}
 use Rattle.planner.proofs.OpeningLaws.{sizes-known}
 use Rattle.bands.specs.Plans.{plan-fits}
 use Rattle.band_run.specs.BandedRun.{Under, room-right, admitted-under}

@@ -1,2 +1,3 @@
 -- The theorem on a run under a plan.
 pub mod AsFull
+mod BandedCases

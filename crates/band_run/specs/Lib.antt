@@ -1,4 +1,3 @@
 -- A full run under a plan. Read in this order.
 pub mod BandedRun
-mod BandedCases
 pub mod Contracts

@@ -11,9 +11,9 @@ use lib.ListN.{length, getD, drop}
 use lib.Dec.{eqb, leb}
 use lib.IntN.{ℤ}
 use borrow.Author.Tests.{eqb-true, leb-true}
-use Rattle.value.specs.Laws.{and-both}
+use Rattle.value.proofs.Theorems.Laws.{and-both}
 use Rattle.automaton.specs.Step.{Outcome, state, fault, Fault, no-fault, fault-at, fault-of, first-fault, how-many, marked, up-to, quiet-step}
-use Rattle.automaton.specs.Quiet.{first-fault-at, first-fault-here, first-fault-ext}
+use Rattle.automaton.proofs.Theorems.Quiet.{first-fault-at, first-fault-here, first-fault-ext}
 use Rattle.automaton.specs.Shape.{product, Bound}
 use Rattle.automaton.specs.Grid.{cell-of, automaton}
 use Rattle.automaton.specs.Bands.{Band, rows-with, runs-on, accepts, reached}
@@ -25,8 +25,8 @@ use Rattle.bands.specs.Plans.{band, before-others, bands-in, accepts-some, plan
 use Rattle.marked_cells.proofs.ScanLaws.{below-or}
 use Rattle.stepping.specs.declared.Step.{Step}
 use Rattle.stepping.specs.declared.Step.the-variants as Gives
-use Rattle.stepping.specs.Stepping.{fault-in, count-in}
-use Rattle.stepping.specs.Turns.{Roomed, given, FilledFor}
+use Rattle.stepping.specs.Contracts.Stepping.{fault-in, count-in}
+use Rattle.stepping.specs.Contracts.Turns.{Roomed, given, FilledFor}
 use Rattle.stepping.proofs.FillLaws.{skip-fault, outcome, of-marked, cells-are}
 use Rattle.banding.specs.Contracts.Bandwise.{Grounds, BandFits, BandEvaluated, AllEvaluated, Planned, AllMarked}
 use Rattle.banding.proofs.OneBand.{grid-rows}

@@ -15,7 +15,7 @@ use Rattle.value.specs.Worked.{wrap-of}
 use Rattle.automaton.specs.Listed.{last-or-below, list-of-ext}
 use Rattle.automaton.specs.Shape.{product}
 use Rattle.automaton.specs.Grid.{cell-of}
-use Rattle.automaton.specs.GridLaws.{some-field}
+use Rattle.automaton.proofs.Theorems.GridLaws.{some-field}
 use Rattle.automaton.specs.Bands.{rows-lent}
 use Rattle.marked_cells.proofs.PartLaws.{entry-before, paste-below, paste-inside, paste-above, flat-ext}
 use Rattle.banding.specs.Contracts.Lending.{RowFits, copied, Lending, with-rows}

@@ -10,27 +10,27 @@ use lib.IntN.{ℤ, pos}
 use Rattle.automaton.specs.Listed.{length-list-of, list-of-ext}
 use Rattle.automaton.specs.Step as automaton
 use Rattle.automaton.specs.Step.{Outcome, state, fault, Fault, no-fault, fault-of, state-or, first-fault}
-use Rattle.automaton.specs.Quiet.{first-fault-none}
+use Rattle.automaton.proofs.Theorems.Quiet.{first-fault-none}
 use Rattle.automaton.specs.Shape.{product, Bound, neighbour}
 use Rattle.automaton.specs.ShapeLaws.{Positive, product-pos}
 use Rattle.automaton.specs.Grid.{cell-of, grid-of}
-use Rattle.automaton.specs.GridLaws.{Bounded, cell-of-grid-of}
+use Rattle.automaton.proofs.Theorems.GridLaws.{Bounded, cell-of-grid-of}
 use Rattle.automaton.specs.Bands.{Band, rows-in, rows-with, reached, next-rows, part-step, band-step, rows-lent, band-of}
-use Rattle.automaton.specs.BandLaws.{Edged, band-step-same, band-is}
+use Rattle.automaton.proofs.Theorems.BandLaws.{Edged, band-step-same, band-is}
 use Rattle.program.specs.Syntax.{Program}
 use Rattle.semantics.specs.declared.Rule.{Rule}
 use Rattle.semantics.specs.Evaluation.{evaluate}
 use Rattle.stepper.specs.Reach.{reach}
-use Rattle.stepper.specs.Locality.{evaluate-bounded}
-use Rattle.stepper.specs.Covering.{reach-covers}
-use Rattle.stepper.specs.Fitting.{held-fields}
+use Rattle.stepper.proofs.Theorems.Locality.{evaluate-bounded}
+use Rattle.stepper.proofs.Theorems.Covering.{reach-covers}
+use Rattle.stepper.specs.Contracts.Fitting.{held-fields}
 use Rattle.bands.specs.Edge.{edge}
 use Rattle.bands.proofs.Theorems.EdgeTheorems.{edged}
 use Rattle.marked_cells.proofs.PartLaws.{entry-before, paste-below, paste-inside}
 use Rattle.stepping.specs.declared.Step.{Step}
-use Rattle.stepping.specs.Stepping.{fault-in, count-in}
-use Rattle.stepping.specs.Turns.{given}
-use Rattle.stepping.specs.Rows.{RowsReady, RowsStepped}
+use Rattle.stepping.specs.Contracts.Stepping.{fault-in, count-in}
+use Rattle.stepping.specs.Contracts.Turns.{given}
+use Rattle.stepping.specs.Contracts.Rows.{RowsReady, RowsStepped}
 use Rattle.banding.specs.Contracts.Lending.{Lending, with-rows}
 use Rattle.banding.specs.Contracts.Bandwise.{Bordered, Grounds, BandFits, BandEvaluated}
 

@@ -1,7 +1,7 @@
 // One step made of bands.
 ghost use lib.ListN.{length};
 ghost use Prim.Native.Nat.{suc, _-_, _*_};
-ghost use Rattle.stepping.specs.Stepping.{SteppedFor};
+ghost use Rattle.stepping.specs.Contracts.Stepping.{SteppedFor};
 ghost use Rattle.bands.specs.Edge.{bound};
 ghost use Rattle.banding.specs.Contracts.Bandwise.{Bordered, Grounds, BandFits, BandEvaluated, AllEvaluated, Planned, AllMarked};
 use crate::lending::fill_room;

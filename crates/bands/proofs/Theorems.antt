@@ -1,3 +1,4 @@
 -- Theorems about the definitions.
 pub mod EdgeTheorems
 pub mod PlanTheorems
+mod PlanCases

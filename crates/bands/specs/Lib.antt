@@ -4,4 +4,3 @@ pub mod OnSizes
 pub mod Plans
 pub mod PlanCalls
 pub mod BorderCall
-mod PlanCases

@@ -9,7 +9,7 @@ use lib.IntN.{ℤ, pos}
 use lib.ListN.{length, take, drop, replicate, length-replicate}
 use borrow.Author.Tests.{eq-eqb, ne-eqb, eqb-true, lt-ltb, le-ltb, not-true, not-false}
 use Rattle.value.specs.Choice.{if_then_else_}
-use Rattle.value.specs.Laws.{never}
+use Rattle.value.proofs.Theorems.Laws.{never}
 use Rattle.token.specs.Lexeme.{is-built-in}
 use Rattle.token.specs.Scanning.{table-words}
 use Rattle.names.specs.Names.{most-names, name-words}
@@ -23,10 +23,10 @@ use Rattle.profile.specs.Contracts.Flags.{CheckOneMove}
 use Rattle.stepper.specs.Report.{Manner}
 use Rattle.services.specs.Services.{run-source, room-after, marks-after, counts-after}
 use Rattle.services.specs.Calls.{flat-names, memory, Lent, lent, asked, names-left, run-left}
-use Rattle.checker.specs.Promises.{Checks}
+use Rattle.checker.specs.Contracts.Promises.{Checks}
 use Rattle.checker.proofs.Checks.{list-right}
 use Rattle.iteration.specs.declared.Report.{Report}
-use Rattle.runner.specs.Sourcewise.{RunLeaves}
+use Rattle.runner.specs.Contracts.Sourcewise.{RunLeaves}
 use Rattle.runner.proofs.RunLaws.{left-by, left-report, unlisted-run}
 use Rattle.checker.specs.declared.checking.Reply.{Reply}
 use Rattle.lists.specs.Writing.{Wanted, write-source}
@@ -39,7 +39,7 @@ use Rattle.cellang.specs.declared.running.RunAnswer.{RunAnswer}
 use Rattle.cellang.specs.declared.writing.WriteAnswer.{WriteAnswer}
 use Rattle.records.specs.Rows.{no-name, rows-of}
 use Rattle.cellang.specs.Left.{rows-fit, lent-rows-fit, row-fits, row-names, stored-of}
-use Rattle.cellang.specs.Promises.{ChecksOver, ProfilesOver, RunsOver, TurnedAway, WritesOver, NothingWritten}
+use Rattle.cellang.specs.Contracts.Promises.{ChecksOver, ProfilesOver, RunsOver, TurnedAway, WritesOver, NothingWritten}
 use Rattle.records.proofs.RowLaws.{filled-all, length-rows, rows-of-zeros}
 
 -- ---- how many records are stored

@@ -10,18 +10,19 @@ use mir.Facts.{toZ-ofZ}
 use Rattle.spelling.specs.declared.Told.{Told}
 use Rattle.spelling.specs.Spelling.{part-at, part-entries, told-entries}
 use Rattle.grammar.specs.Complaint.{Complaint}
-use Rattle.checker.specs.Promises.{Checks}
+use Rattle.checker.specs.Contracts.Promises.{Checks}
 use Rattle.one_move.specs.Profile.{Answer}
 use Rattle.profile.specs.declared.Profile.{Profile}
 use Rattle.profile.specs.Contracts.Flags.{CheckOneMove}
 use Rattle.stepper.specs.Report as report
 use Rattle.stepper.specs.Report.{Manner, full}
 use Rattle.services.specs.Calls.{flat-names, Memory, memory, Lent, lent, fits, asked, read-lent, run-report, run-left}
-use Rattle.services.specs.RangesKept.{RangesKept, grid-in-ranges}
+use Rattle.services.specs.RangesKept.{RangesKept}
+use Rattle.services.proofs.Theorems.GridInRanges.{grid-in-ranges}
 use Rattle.iteration.specs.declared.Report.{Report}
 use Rattle.iteration.specs.declared.Manner.{Manner as Way}
-use Rattle.runner.specs.Sourcewise.{manner-of, RunLeaves}
-use Rattle.runner.specs.Property3.{AgreesFresh}
+use Rattle.runner.specs.Contracts.Sourcewise.{manner-of, RunLeaves}
+use Rattle.runner.specs.Contracts.Agreement.{AgreesFresh}
 use Rattle.runner.proofs.RunLaws.{left-report, read-times, fresh-agrees, counts-unasked}
 use Rattle.row_counts.specs.declared.queries.Rows.{Rows}
 use Rattle.row_counts.specs.RowQueries.{RowReply}
@@ -41,7 +42,7 @@ use Rattle.band_run.specs.Contracts.Running.{BandedLeaves, banded-lent}
 use Rattle.entries.specs.Over.{over}
 use Rattle.comparison.specs.declared.Comparison.{Comparison}
 use Rattle.comparison.specs.Contracts.Comparing.{Compares}
-use Rattle.cellang.specs.Told.{reply-entries, TellsCheck, profile-entries, TellsProfile, report-entries, TellsRun, written-entries, TellsWritten, border-entries, TellsBorders, plan-entries, TellsPlanCheck, planned-entries, TellsPlanned, TellsBand, TellsBanded, comparison-entries, TellsComparison, row-entries, TellsRows}
+use Rattle.cellang.specs.Contracts.Told.{reply-entries, TellsCheck, profile-entries, TellsProfile, report-entries, TellsRun, written-entries, TellsWritten, border-entries, TellsBorders, plan-entries, TellsPlanCheck, planned-entries, TellsPlanned, TellsBand, TellsBanded, comparison-entries, TellsComparison, row-entries, TellsRows}
 
 -- ---- a check
 

@@ -1,4 +1,3 @@
 -- The row of records that a name list means, what the calls over it promise, and what those for programs in other languages promise.
 pub mod Left
-pub mod Promises
-pub mod Told
+pub mod Contracts

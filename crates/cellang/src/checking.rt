@@ -1,7 +1,7 @@
 // A source checked.
 ghost use lib.ListN.{length};
 ghost use Rattle.cellang.specs.Left.{lent-rows-fit};
-ghost use Rattle.cellang.specs.Promises.{ChecksOver, ChecksRows};
+ghost use Rattle.cellang.specs.Contracts.Promises.{ChecksOver, ChecksRows};
 use crate::rows::row_fits;
 use crate::rows::stored;
 use checker::Reply;

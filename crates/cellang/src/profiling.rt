@@ -1,7 +1,7 @@
 // Whether a source moves a pixel once.
 ghost use lib.ListN.{length};
 ghost use Rattle.cellang.specs.Left.{lent-rows-fit};
-ghost use Rattle.cellang.specs.Promises.{ProfilesOver, ProfilesRows};
+ghost use Rattle.cellang.specs.Contracts.Promises.{ProfilesOver, ProfilesRows};
 use crate::rows::row_fits;
 use crate::rows::stored;
 use profile::Profile;

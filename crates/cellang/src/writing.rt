@@ -4,7 +4,7 @@ ghost use Rattle.records.specs.declared.Name.{Name};
 ghost use Rattle.list_writer.specs.WriterCalls.{wanted, writer-lent};
 ghost use Rattle.list_writer.specs.Contracts.Writing.{WriterLeaves};
 ghost use Rattle.cellang.specs.Left.{row-names};
-ghost use Rattle.cellang.specs.Promises.{NothingWritten, WritesOver};
+ghost use Rattle.cellang.specs.Contracts.Promises.{NothingWritten, WritesOver};
 use crate::rows::row_fits;
 use crate::rows::stored;
 use list_writer::Written;

@@ -5,20 +5,20 @@ use mathlib.Core.List.{List}
 use mathlib.Core.Bool.{Bool, true, false, not, _&&_}
 use lib.ListN.{length, replicate}
 use borrow.Author.Tests.{eq-eqb, ne-eqb, lt-ltb, le-ltb, not-true, not-false}
-use Rattle.value.specs.Laws.{never}
+use Rattle.value.proofs.Theorems.Laws.{never}
 use Rattle.token.specs.declared.Scan.{Scan}
 use Rattle.token.specs.Kind.{kind}
 use Rattle.token.specs.Lexeme.{is-built-in}
-use Rattle.token.specs.Promises.{Scans}
+use Rattle.token.specs.Contracts.Promises.{Scans}
 use Rattle.grammar.specs.Reader.{ok, fail}
 use Rattle.grammar.specs.Source.{Accepted, has-kind, settled, read-program, what-is-read, parse}
 use Rattle.grammar.specs.Checking.{outcome-of, rooms-fit, lent-fit, read-source, check, words-after, names-after}
-use Rattle.reader.specs.Reading.{input, state, Told}
+use Rattle.reader.specs.Contracts.Reading.{input, state, Told}
 use Rattle.reader.specs.declared.Reading.{Reading}
 use Rattle.reader.specs.declared.Read.{Read}
 use Rattle.reader.specs.declared.Read.the-variants.{Next, Refused}
 use Rattle.reader.proofs.Steps.{went-on}
-use Rattle.checker.specs.Promises.{begun, Whole, Programs, Checks, is-accepted, Loads, Unloaded}
+use Rattle.checker.specs.Contracts.Promises.{begun, Whole, Programs, Checks, is-accepted, Loads, Unloaded}
 use Rattle.checker.specs.declared.checking.ProgramRead.{ProgramRead}
 use Rattle.checker.specs.declared.checking.Outline.{Outline}
 use Rattle.checker.specs.declared.checking.Loaded.{Loaded}

@@ -9,21 +9,21 @@ use Rattle.token.specs.declared.Scan.{Scan}
 use Rattle.token.specs.declared.Token.{Token}
 use Rattle.token.specs.Scanning.{token-in}
 use Rattle.program.specs.Syntax.{Block}
-use Rattle.program.specs.Standing.{Stands}
+use Rattle.program.specs.Contracts.Standing.{Stands}
 use Rattle.grammar.specs.Reader.{ok}
 use Rattle.grammar.specs.Expressions.{Cell}
 use Rattle.grammar.specs.Statements.{read-block}
 use Rattle.grammar.specs.Source.{Declared, most-open, finish, accepted-as}
-use Rattle.reader.specs.Reading.{input, state, anything, Gives, refusal}
+use Rattle.reader.specs.Contracts.Reading.{input, state, anything, Gives, refusal}
 use Rattle.reader.specs.declared.Reading.{Reading}
 use Rattle.reader.specs.declared.Read.{Read}
 use Rattle.reader.specs.declared.Read.the-variants.{Next, Refused}
 use Rattle.reader.proofs.Steps.{by-another, refused}
 use Rattle.names.specs.Names.{most-names}
-use Rattle.expressions.specs.Promises.{cell-of}
-use Rattle.declaration.specs.Fields.{Declares}
+use Rattle.expressions.specs.Contracts.Promises.{cell-of}
+use Rattle.declaration.specs.Contracts.Fields.{Declares}
 use Rattle.declaration.specs.declared.CellRead.{CellRead}
-use Rattle.checker.specs.Promises.{Finished, Ends, Few, Reaches}
+use Rattle.checker.specs.Contracts.Promises.{Finished, Ends, Few, Reaches}
 
 -- what is left where the source ends
 pub end-of : (source ns : List ℕ) {ws : List ℕ} {scan : Scan} {s : Reading} (d : Declared) (b : Block) → Finished ws scan s

@@ -6,22 +6,22 @@ use lib.ListN.{replicate}
 use Rattle.token.specs.declared.Scan.{Scan}
 use Rattle.token.specs.Kind.{kind}
 use Rattle.token.specs.Scanning.{scan, scan-of, scanned-words}
-use Rattle.token.specs.Promises.{Scans}
+use Rattle.token.specs.Contracts.Promises.{Scans}
 use Rattle.names.specs.Names.{most-names}
 use Rattle.grammar.specs.Reader.{Input, State, ok, unit}
 use Rattle.grammar.specs.Constants.{read-constants}
 use Rattle.grammar.specs.Statements.{read-block}
 use Rattle.grammar.specs.Source.{read-cell, most-open, has-kind, read-program, what-is-read, parse}
-use Rattle.reader.specs.Reading.{input, state, anything, Gives}
+use Rattle.reader.specs.Contracts.Reading.{input, state, anything, Gives}
 use Rattle.reader.specs.declared.Reading.{Reading}
 use Rattle.reader.specs.declared.Read.{Read}
 use Rattle.reader.specs.declared.Read.the-variants.{Next, Refused}
 use Rattle.reader.proofs.Steps.{bind-ok, went-on, on}
-use Rattle.expressions.specs.Promises.{cell-of}
-use Rattle.declaration.specs.Fields.{Declares}
+use Rattle.expressions.specs.Contracts.Promises.{cell-of}
+use Rattle.declaration.specs.Contracts.Fields.{Declares}
 use Rattle.declaration.specs.declared.CellRead.{CellRead}
 use Rattle.declaration.proofs.Cells.{stopped}
-use Rattle.checker.specs.Promises.{begun, Ends, Traced, accepted-by, Follows, Programs, Trace, Outlines}
+use Rattle.checker.specs.Contracts.Promises.{begun, Ends, Traced, accepted-by, Follows, Programs, Trace, Outlines}
 use Rattle.checker.specs.declared.checking.ProgramRead.{ProgramRead}
 use Rattle.checker.specs.declared.checking.Outline.{Outline}
 use Rattle.checker.proofs.Finishing.{cell-is, in-cell, end-of, never-next, few-left}

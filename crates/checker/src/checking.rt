@@ -5,7 +5,7 @@ ghost use lib.ListN.{length};
 ghost use Rattle.token.specs.Scanning.{most-tokens, table-words};
 ghost use Rattle.names.specs.Names.{name-words};
 ghost use Rattle.grammar.specs.Checking.{most-bytes, rooms-fit, lent-fit};
-ghost use Rattle.checker.specs.Promises.{Ends, Programs, Checks, Unloaded, Loads};
+ghost use Rattle.checker.specs.Contracts.Promises.{Ends, Programs, Checks, Unloaded, Loads};
 use crate::has_kind;
 use crate::settle_values;
 use constants::read_constants;

@@ -1,4 +1,3 @@
 -- Two grids compared: the definitions, worked examples, and what the functions promise.
 pub mod Differences
-pub mod Pairs
 pub mod Contracts

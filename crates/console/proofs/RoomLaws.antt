@@ -4,7 +4,7 @@ use mathlib.Core.Path.{_≡_, sym}
 use mathlib.Core.List.{List}
 use native.Mathlib.Omega.{arith}
 use lib.ListN.{length, replicate, length-take, length-replicate}
-use Rattle.console.specs.Rooms.{Kept}
+use Rattle.console.specs.Contracts.Rooms.{Kept}
 
 pub kept : {A : Type 0} (xs : List A) (n : ℕ) → n ≤ length xs → Kept n xs
 kept xs n h = (h, simp length-take (omega arith))

@@ -1,7 +1,7 @@
 // Rooms that a run is lent, and how much of them is used.
 ghost use mathlib.Core.Path.{_≡_};
 ghost use lib.ListN.{length};
-ghost use Rattle.console.specs.Rooms.{Kept};
+ghost use Rattle.console.specs.Contracts.Rooms.{Kept};
 
 // How many entries, and how many cells, a grid may have here: as many entries as 512 x 512 cells with three fields have.
 pub const ROOM: usize = 786432;

@@ -1,6 +1,6 @@
 // The shape of a grid: its sizes, as `8x8`.
 ghost use Prim.Native.Nat.{_≤_};
-ghost use Rattle.console.specs.Rooms.{Kept};
+ghost use Rattle.console.specs.Contracts.Rooms.{Kept};
 use crate::numbers;
 use crate::numbers::Number;
 use crate::rooms::of_words;

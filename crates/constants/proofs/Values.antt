@@ -7,7 +7,7 @@ use lib.IntN.{ℤ, pos}
 use borrow.Author.Tests.{ne-eqb, le-leb, lt-leb}
 use Rattle.value.specs.Number.{within}
 use Rattle.value.specs.Worked.{value, encode-of, decode-of, span-of}
-use Rattle.value.specs.Laws.{encode-decode}
+use Rattle.value.proofs.Theorems.Laws.{encode-decode}
 use Rattle.value.specs.declared.Value.{Value}
 use Rattle.grammar.specs.Constants.{range-rule}
 

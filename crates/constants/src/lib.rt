@@ -5,7 +5,7 @@ ghost use lib.ListN.{length};
 ghost use Rattle.token.specs.Scanning.{most-tokens, table-words};
 ghost use Rattle.names.specs.Names.{most-names};
 ghost use Rattle.grammar.specs.Constants.{read-constant, read-signed, range-rule, read-range, read-values, read-size, array-head, array-constant, simple-constant, constant-value, read-declaration, read-constants};
-ghost use Rattle.reader.specs.Reading.{anything, number, bounds, Ready, Reads, Stays};
+ghost use Rattle.reader.specs.Contracts.Reading.{anything, number, bounds, Ready, Reads, Stays};
 ghost use Rattle.value.specs.Worked.{decode-of};
 use names::Found;
 use names::entry_in;

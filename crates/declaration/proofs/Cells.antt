@@ -10,13 +10,13 @@ use Rattle.token.specs.declared.Scan.{Scan}
 use Rattle.program.specs.Syntax.{Range}
 use Rattle.grammar.specs.Reader.{Reader}
 use Rattle.grammar.specs.Source.{Declared, declared}
-use Rattle.reader.specs.Reading.{Gives}
+use Rattle.reader.specs.Contracts.Reading.{Gives}
 use Rattle.reader.specs.declared.Reading.{Reading}
 use Rattle.reader.specs.declared.Read.{Read}
 use Rattle.reader.specs.declared.Read.the-variants.{Next, Refused}
 use Rattle.reader.proofs.Steps.{went-on, no-further}
 use Rattle.constants.proofs.Values.{word-of}
-use Rattle.declaration.specs.Fields.{Fields, Dims, Fielded, Declares}
+use Rattle.declaration.specs.Contracts.Fields.{Fields, Dims, Fielded, Declares}
 use Rattle.declaration.specs.declared.CellRead.{CellRead}
 
 -- the fields, named or not

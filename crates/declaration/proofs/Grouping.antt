@@ -15,15 +15,15 @@ use Rattle.token.specs.declared.Scan.{Scan}
 use Rattle.token.specs.Kind.{kind}
 use Rattle.program.specs.Syntax.{Range, no-range}
 use Rattle.program.specs.Table.{range-at}
-use Rattle.program.specs.Standing.{Stands}
+use Rattle.program.specs.Contracts.Standing.{Stands}
 use Rattle.grammar.specs.Reader.{_>>=_, ok, _>>_, _▷_, Turn, again, repeat, turns, is-kind, advance}
 use Rattle.grammar.specs.Source.{with-ranges, put-ranges, read-group, field-turn, group-turn}
-use Rattle.reader.specs.Reading.{state, Gives, moved-of, carrying, Carries}
+use Rattle.reader.specs.Contracts.Reading.{state, Gives, moved-of, carrying, Carries}
 use Rattle.reader.specs.declared.Reading.{Reading}
 use Rattle.reader.specs.declared.Read.{Read}
 use Rattle.reader.specs.declared.Read.the-variants.{Next}
 use Rattle.reader.proofs.Steps.{by-another, other, token}
-use Rattle.declaration.specs.Fields.{Ranges, Fields, Ranged, Starts}
+use Rattle.declaration.specs.Contracts.Fields.{Ranges, Fields, Ranged, Starts}
 
 -- ---- ranges behind others
 

@@ -19,7 +19,7 @@ use Rattle.program.specs.Syntax.{Range, range}
 use Rattle.program.specs.Table.{with-word}
 use Rattle.grammar.specs.Reader.{Input, State, Result, ok, fail, Reader, and-then, _>>=_, return, refuse, refuse-last, is-kind, next-token, position, advance, put, expect-or, is-name, on-slot, by-name, entry-in, use-name}
 use Rattle.grammar.specs.Constants.{named-constant, read-constant, read-signed, range-rule, read-range}
-use Rattle.reader.specs.Reading.{input, state, Gives}
+use Rattle.reader.specs.Contracts.Reading.{input, state, Gives}
 use Rattle.reader.specs.declared.Reading.{Reading}
 use Rattle.reader.specs.declared.Read.{Read}
 use Rattle.reader.specs.declared.Read.the-variants.{Next}

@@ -14,13 +14,13 @@ use Rattle.token.specs.Kind.{kind}
 use Rattle.names.specs.Names.{find-name}
 use Rattle.grammar.specs.Reader.{Input, State, Result, ok, fail, Reader, _>>=_, repeat, turns, get-state, refuse, is-kind, next-token, is-name, on-slot, by-name, fresh}
 use Rattle.grammar.specs.Source.{field-turn}
-use Rattle.reader.specs.Reading.{input, state, passed, Gives}
+use Rattle.reader.specs.Contracts.Reading.{input, state, passed, Gives}
 use Rattle.reader.specs.declared.Reading.{Reading}
 use Rattle.reader.specs.declared.Read.{Read}
 use Rattle.reader.specs.declared.Read.the-variants.{Next}
 use Rattle.reader.proofs.Steps.{went-on}
 use Rattle.reader.proofs.Turns.{Turning, turn-first}
-use Rattle.declaration.specs.Fields.{full-of}
+use Rattle.declaration.specs.Contracts.Fields.{full-of}
 
 -- ---- readers that never go on
 

@@ -10,16 +10,16 @@ use lib.IntN.{pos}
 use borrow.Author.Tests.{eq-eqb, ne-eqb, le-leb, lt-leb, lt-ltb, ltb-true}
 use Rattle.value.specs.Number.{within}
 use Rattle.value.specs.Worked.{decode-of}
-use Rattle.value.specs.Laws.{never}
+use Rattle.value.proofs.Theorems.Laws.{never}
 use Rattle.token.specs.declared.Token.{Token}
 use Rattle.token.specs.Kind.{kind}
 use Rattle.program.specs.Syntax.{Range}
 use Rattle.grammar.specs.Reader.{is-kind}
 use Rattle.grammar.specs.Constants.{is-sign}
 use Rattle.grammar.specs.Source.{is-unnamed}
-use Rattle.reader.specs.Reading.{Moved, Carries, carrying, Named}
+use Rattle.reader.specs.Contracts.Reading.{Moved, Carries, carrying, Named}
 use Rattle.reader.specs.declared.Reading.{Reading}
-use Rattle.declaration.specs.Fields.{full-of, Ends, Starts}
+use Rattle.declaration.specs.Contracts.Fields.{full-of, Ends, Starts}
 
 -- ---- room for one more field
 

@@ -10,12 +10,12 @@ use lib.Dec.{ltb}
 use borrow.Author.Tests.{ltb-true, ltb-false}
 use lib.Seq.{getD-set-same, getD-set-other}
 use Rattle.value.specs.Worked.{decode-of}
-use Rattle.value.specs.Laws.{encode-decode}
+use Rattle.value.proofs.Theorems.Laws.{encode-decode}
 use Rattle.token.specs.Scanning.{table-words}
 use Rattle.program.specs.Syntax.{range}
 use Rattle.program.specs.Table.{word-at, with-word, range-at}
 use Rattle.grammar.specs.Source.{with-ranges}
-use Rattle.declaration.specs.Fields.{Ranged}
+use Rattle.declaration.specs.Contracts.Fields.{Ranged}
 
 -- after k of the fields
 pub record Written (old : List ℕ) (i k low high : ℕ) (new : List ℕ) : Type 0 where

@@ -1,2 +1,2 @@
 -- What reading the cell declaration promises.
-pub mod Fields
+pub mod Contracts

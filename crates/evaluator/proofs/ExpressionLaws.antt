@@ -13,7 +13,7 @@ use Rattle.program.specs.Syntax.{Expr, element, unary, binary}
 use Rattle.semantics.specs.Operators.{Worth, worth, failed, placed, apply-unary, compare, apply-binary}
 use Rattle.semantics.specs.Evaluation.{Env, element-at, eval}
 use Rattle.semantics.specs.Stands.{Table, array-in, is-unary, parsed, decode-expression, decode-chain, decode-operand, decode-primary, decode-bracket}
-use Rattle.operands.specs.Working.{told-of, Onward, primary-from, EvalsExpression, EvalsOperand, EvalsPrimary, EvalsBracket, Leaf, Quick, Joins}
+use Rattle.operands.specs.Contracts.Working.{told-of, Onward, primary-from, EvalsExpression, EvalsOperand, EvalsPrimary, EvalsBracket, Leaf, Quick, Joins}
 use Rattle.operands.specs.declared.Told.{Told}
 use Rattle.operands.specs.declared.Told.the-variants.{Found, Failed}
 use Rattle.operands.proofs.OperatorLaws.{level-some, told-compare}

@@ -11,7 +11,7 @@ use Rattle.value.specs.declared.Value.{Value}
 use Rattle.semantics.specs.Operators.{compare}
 use Rattle.semantics.specs.Stands.{word-in}
 use Rattle.semantics.specs.Leaves.{leaf-word, Simple, Last}
-use Rattle.operands.specs.Working.{site-table, env-of, Ready, Leaf, Quick}
+use Rattle.operands.specs.Contracts.Working.{site-table, env-of, Ready, Leaf, Quick}
 use Rattle.operands.specs.declared.Site.{Site}
 use Rattle.operands.specs.declared.Told.the-variants.{Found}
 use Rattle.operands.proofs.NotedLaws.{leaf-within, leaf-onto, level-at, operator-at, operator-within}

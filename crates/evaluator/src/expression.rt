@@ -3,7 +3,7 @@ ghost use mathlib.Core.Path.{_≡_};
 ghost use Prim.Native.Nat.{_*_, _<_, _≤_, _%_};
 ghost use lib.ListN.{length, take};
 ghost use Rattle.semantics.specs.Stands.{word-in};
-ghost use Rattle.operands.specs.Working.{site-table, env-of, Ready, primary-from, EvalsExpression, EvalsOperand, EvalsPrimary, EvalsBracket, Leaf, Quick, Joins};
+ghost use Rattle.operands.specs.Contracts.Working.{site-table, env-of, Ready, primary-from, EvalsExpression, EvalsOperand, EvalsPrimary, EvalsBracket, Leaf, Quick, Joins};
 use operands::Site;
 use operands::Told;
 use operands::noted::noted;

@@ -1,7 +1,7 @@
 // Expressions of one or two operands, by the leaf table.
 ghost use Prim.Native.Nat.{_≤_};
 ghost use lib.ListN.{take};
-ghost use Rattle.operands.specs.Working.{site-table, env-of, Ready, Quick};
+ghost use Rattle.operands.specs.Contracts.Working.{site-table, env-of, Ready, Quick};
 use operands::Site;
 use operands::Told;
 use operands::noted::simple_value;

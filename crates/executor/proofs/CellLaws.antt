@@ -13,9 +13,9 @@ use Rattle.semantics.specs.declared.Rule.{Rule}
 use Rattle.operands.specs.declared.Site.{Site}
 use Rattle.semantics.specs.Evaluation.{Env, Frame, offsets, exec, frame, on, outcome-of, evaluate}
 use Rattle.semantics.specs.Stands.{table-of, ranges-in, Stands, Holds}
-use Rattle.operands.specs.Working.{site-table, env-of, Ready}
+use Rattle.operands.specs.Contracts.Working.{site-table, env-of, Ready}
 use Rattle.operands.proofs.PrimaryLaws.{own-is}
-use Rattle.executor.specs.Running.{flow-of, left, RunsBlock, Fit, outcome-is, Evaluates}
+use Rattle.executor.specs.Contracts.Running.{flow-of, left, RunsBlock, Fit, outcome-is, Evaluates}
 use Rattle.executor.specs.declared.Going.{Going}
 use Rattle.executor.specs.declared.Going.the-variants.{On, Leaving, Faulted}
 use Rattle.executor.specs.declared.Outcome.{Outcome}

@@ -17,11 +17,11 @@ use Rattle.program.specs.Syntax.{Range, Expr, Target, Block, empty, assign, sel
 use Rattle.semantics.specs.Operators.{worth}
 use Rattle.semantics.specs.Evaluation.{Env, eval, Flow, on, leaving, faulted, Frame, frame, when-on, onward, branch, conditional, assign-first, turned, each, exec}
 use Rattle.semantics.specs.Stands.{Table, ExprAt, range-in, LoopAt, begins, assigns, Stands, Elsif, Choice}
-use Rattle.operands.specs.Working.{Ready, EvalsExpression}
+use Rattle.operands.specs.Contracts.Working.{Ready, EvalsExpression}
 use Rattle.operands.specs.declared.Site.{Site}
 use Rattle.operands.specs.declared.Told.{Told}
 use Rattle.operands.specs.declared.Told.the-variants.{Found, Failed}
-use Rattle.executor.specs.Running.{flow-of, left, Assigns, RunsBlock, rest-of, RunsStatement, Settles, Forward, Chooses, body-of, RunsLoop}
+use Rattle.executor.specs.Contracts.Running.{flow-of, left, Assigns, RunsBlock, rest-of, RunsStatement, Settles, Forward, Chooses, body-of, RunsLoop}
 use Rattle.executor.specs.declared.Going.{Going}
 use Rattle.executor.specs.declared.Going.the-variants.{On, Leaving, Faulted}
 use Rattle.executor.specs.declared.blocks.Chosen.{Chosen}

@@ -4,7 +4,7 @@ ghost use Prim.Native.Nat.{_+_, _*_, _<_, _≤_};
 ghost use lib.ListN.{length, take, replicate};
 ghost use lib.IntN.{pos};
 ghost use Rattle.automaton.specs.Grid.{cell-of};
-ghost use Rattle.executor.specs.Running.{Fit, Evaluates};
+ghost use Rattle.executor.specs.Contracts.Running.{Fit, Evaluates};
 use crate::Going;
 use crate::Outcome;
 use crate::blocks::block;

@@ -11,9 +11,9 @@ use Rattle.grammar.specs.Expressions.{dot-field, field-number}
 use Rattle.reader.specs.declared.Reading.{Reading}
 use Rattle.reader.specs.declared.Read.{Read}
 use Rattle.reader.specs.declared.Read.the-variants.{Next}
-use Rattle.reader.specs.Reading.{anything, word, Gives, Carries}
+use Rattle.reader.specs.Contracts.Reading.{anything, word, Gives, Carries}
 use Rattle.reader.proofs.Steps.{went-on, on, on-told, told-as, named, returned, carried}
-use Rattle.expressions.specs.Promises.{slot-in}
+use Rattle.expressions.specs.Contracts.Promises.{slot-in}
 
 -- a slot that was read is one of the list's
 pub slot-below : {m : Reader ℕ} {source : List ℕ} {sc : Scan} {s t : Reading} {ns ws ns₁ ws₁ : List ℕ} {r : Read} → Gives slot-in m source sc s ns ws r ns₁ ws₁ → r ≡ Next t → t .word < t .count

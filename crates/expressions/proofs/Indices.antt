@@ -8,13 +8,13 @@ use lib.ListN.{length, length-append}
 use lib.Dec.{eqb}
 use borrow.Author.Tests.{eq-eqb, ne-eqb}
 use Rattle.value.specs.Worked.{decode-of, encode-of}
-use Rattle.value.specs.Laws.{encode-decode}
+use Rattle.value.proofs.Theorems.Laws.{encode-decode}
 use Rattle.token.specs.declared.Scan.{Scan}
 use Rattle.program.specs.Syntax.{Index}
 use Rattle.grammar.specs.Reader.{put}
 use Rattle.reader.specs.declared.Reading.{Reading}
 use Rattle.reader.specs.declared.Read.{Read}
-use Rattle.reader.specs.Reading.{input, state, anything, Gives}
+use Rattle.reader.specs.Contracts.Reading.{input, state, anything, Gives}
 use Rattle.reader.proofs.Steps.{by-another}
 
 pub first-holds : {a : Bool} (b : Bool) → a ≡ true → (a || b) ≡ true

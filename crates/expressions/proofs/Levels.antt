@@ -9,9 +9,9 @@ use lib.Dec.{eqb}
 use Rattle.token.specs.Kind.{level-of}
 use Rattle.token.specs.declared.Scan.{Scan}
 use Rattle.token.specs.declared.Token.{Token}
-use Rattle.program.specs.Standing.{Stands}
+use Rattle.program.specs.Contracts.Standing.{Stands}
 use Rattle.grammar.specs.Constants.{is-sign}
-use Rattle.expressions.specs.Promises.{Unary}
+use Rattle.expressions.specs.Contracts.Promises.{Unary}
 
 -- an operator is no stop
 pub operator-inside : {ws : List ℕ} {sc : Scan} {i own : ℕ} {t : Token} → Stands ws sc i t → own ≡ level-of (t .kind) → 1 ≤ own → i < sc .count

@@ -15,9 +15,9 @@ use Rattle.grammar.specs.Reader.{Reader, _>>=_, _>>_, next-token, opening}
 use Rattle.grammar.specs.Expressions.{Cell, climb, levels, read-operand, operand-in, read-bracket}
 use Rattle.reader.specs.declared.Reading.{Reading}
 use Rattle.reader.specs.declared.Read.{Read}
-use Rattle.reader.specs.Reading.{anything, Gives, Passes, refusal, Moved}
+use Rattle.reader.specs.Contracts.Reading.{anything, Gives, Passes, refusal, Moved}
 use Rattle.reader.proofs.Steps.{by-another, on, off, refused, advanced}
-use Rattle.expressions.specs.Promises.{has-room, inner-in}
+use Rattle.expressions.specs.Contracts.Promises.{has-room, inner-in}
 
 -- ---- steps
 

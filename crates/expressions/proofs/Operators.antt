@@ -11,15 +11,15 @@ use Rattle.token.specs.declared.Scan.{Scan}
 use Rattle.token.specs.declared.Token.{Token}
 use Rattle.token.specs.Scanning.{token-in}
 use Rattle.program.specs.Syntax.{Expr}
-use Rattle.program.specs.Standing.{Stands}
+use Rattle.program.specs.Contracts.Standing.{Stands}
 use Rattle.grammar.specs.Reader.{_>>=_, Result, ok, fail, Input, State, Reader, and-then, return, next-token, Turn, done, turned, repeat, turns}
 use Rattle.grammar.specs.Expressions.{Left, left, read-right, operator-turn, climb}
 use Rattle.reader.specs.declared.Reading.{Reading}
 use Rattle.reader.specs.declared.Read.{Read}
 use Rattle.reader.specs.declared.Read.the-variants.{Next}
-use Rattle.reader.specs.Reading.{input, state, anything, once-more, at-end, Gives, refusal, Moved}
+use Rattle.reader.specs.Contracts.Reading.{input, state, anything, once-more, at-end, Gives, refusal, Moved}
 use Rattle.reader.proofs.Steps.{bind-ok, by-another, on, so, other, token, made, refused, returned, advanced}
-use Rattle.expressions.specs.Promises.{are-relations}
+use Rattle.expressions.specs.Contracts.Promises.{are-relations}
 use Rattle.token.proofs.Levels.{level-few}
 
 -- ---- levels beyond the tightest: the operand alone

@@ -17,10 +17,10 @@ use Rattle.program.specs.Syntax.{Range}
 use Rattle.stepper.specs.declared.Bounds.{Bounds}
 use Rattle.stepper.specs.Admission.{Refusal, refusal}
 use Rattle.stepper.specs.Reach.{below, above, own-only, widen}
-use Rattle.stepper.specs.Fitting.{bound-at, bounds-of}
-use Rattle.places.specs.Vectors.{ends}
+use Rattle.stepper.specs.Contracts.Fitting.{bound-at, bounds-of}
+use Rattle.places.specs.Contracts.Vectors.{ends}
 use Rattle.indices.specs.declared.Count.{Count}
-use Rattle.indices.specs.Surveying.{goes-past, tallied, tally-of, Wider, Counts}
+use Rattle.indices.specs.Contracts.Surveying.{goes-past, tallied, tally-of, Wider, Counts}
 
 -- ---- a word's value
 

@@ -21,12 +21,12 @@ use Rattle.semantics.specs.Places.{most-places, used-ranges, choices, vectors-o
 use Rattle.stepper.specs.declared.Bounds.{Bounds}
 use Rattle.stepper.specs.declared.Reach.{Reach}
 use Rattle.stepper.specs.Admission.{refusal}
-use Rattle.stepper.specs.Fitting.{bounds-of, places-of}
-use Rattle.places.specs.Vectors.{values-in, ends, loops-of, index-places, relative-at, IndexReach}
-use Rattle.places.specs.Widening.{joined, Widens}
+use Rattle.stepper.specs.Contracts.Fitting.{bounds-of, places-of}
+use Rattle.places.specs.Contracts.Vectors.{values-in, ends, loops-of, index-places, relative-at, IndexReach}
+use Rattle.places.specs.Contracts.Widening.{joined, Widens}
 use Rattle.indices.specs.declared.Count.{Count}
 use Rattle.indices.specs.declared.Survey.{Survey}
-use Rattle.indices.specs.Surveying.{Tally, tallied, tally, tally-of, found, found-of, Counts, Opened}
+use Rattle.indices.specs.Contracts.Surveying.{Tally, tallied, tally, tally-of, found, found-of, Counts, Opened}
 use Rattle.indices.proofs.CountingLaws.{counts-tallied}
 
 -- ---- the values of an element

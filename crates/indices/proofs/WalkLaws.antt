@@ -11,7 +11,7 @@ use lib.IntN.{ℤ}
 use lib.ListN.{length, getD, set, replicate}
 use borrow.Author.Tests.{lt-ltb, le-ltb, ltb-true, eq-eqb, ne-eqb, eqb-true}
 use Rattle.value.specs.Choice.{if_then_else_}
-use Rattle.value.specs.Laws.{never, and-both}
+use Rattle.value.proofs.Theorems.Laws.{never, and-both}
 use Rattle.automaton.specs.Listed.{list-of, length-list-of}
 use Rattle.automaton.specs.Shape.{Bound}
 use Rattle.token.specs.Kind.{kind}
@@ -25,10 +25,10 @@ use Rattle.operands.proofs.TableLaws.{link-bounds}
 use Rattle.stepper.specs.Admission.{refusal, too-far}
 use Rattle.stepper.specs.Reach.{own-only, widen, widened}
 use Rattle.stepper.specs.declared.Reach.{Reach}
-use Rattle.stepper.specs.Fitting.{OwnOnly}
-use Rattle.places.specs.Vectors.{ends, loops-of, relative-at}
+use Rattle.stepper.specs.Contracts.Fitting.{OwnOnly}
+use Rattle.places.specs.Contracts.Vectors.{ends, loops-of, relative-at}
 use Rattle.indices.specs.declared.Survey.{Survey}
-use Rattle.indices.specs.Surveying.{Tally, goes-past, tallied, tally, Found, found, found-of, listed, Opened, CountsAt, Surveyed}
+use Rattle.indices.specs.Contracts.Surveying.{Tally, goes-past, tallied, tally, Found, found, found-of, listed, Opened, CountsAt, Surveyed}
 use Rattle.indices.proofs.ElementLaws.{loops-more}
 
 -- ---- what stands at a position

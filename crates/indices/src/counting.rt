@@ -5,8 +5,8 @@ ghost use lib.Dec.{ltb};
 ghost use lib.IntN.{natAbs};
 ghost use Rattle.value.specs.Worked.{decode-of};
 ghost use Rattle.stepper.specs.Reach.{below, above};
-ghost use Rattle.indices.specs.Surveying.{goes-past, Wider, Counts};
-ghost use Rattle.places.specs.Vectors.{ends};
+ghost use Rattle.indices.specs.Contracts.Surveying.{goes-past, Wider, Counts};
+ghost use Rattle.places.specs.Contracts.Vectors.{ends};
 use crate::Count;
 use stepper::Bounds;
 

@@ -1,8 +1,8 @@
 // The survey of a program.
 ghost use mathlib.Core.Path.{_≡_};
 ghost use lib.ListN.{length};
-ghost use Rattle.stepper.specs.Fitting.{Sized};
-ghost use Rattle.indices.specs.Surveying.{Surveyed};
+ghost use Rattle.stepper.specs.Contracts.Fitting.{Sized};
+ghost use Rattle.indices.specs.Contracts.Surveying.{Surveyed};
 use crate::Survey;
 use crate::walk::part;
 use semantics::Rule;

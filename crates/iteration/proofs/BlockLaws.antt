@@ -9,19 +9,19 @@ use lib.ListN.{length, drop}
 use lib.Dec.{eqb}
 use lib.IntN.{ℤ}
 use borrow.Author.Tests.{eqb-true, eqb-false, not-true, not-false}
-use Rattle.value.specs.Laws.{never}
+use Rattle.value.proofs.Theorems.Laws.{never}
 use Rattle.lists.specs.Lines.{Said, bad, time, cell, said}
 use Rattle.lists.specs.ListChecking.{Limits}
 use Rattle.lists.specs.Setting.{set-block}
 use Rattle.list_reader.specs.declared.setting.Due.{Due}
 use Rattle.list_reader.specs.declared.setting.Due.the-variants.{Nothing, At}
-use Rattle.list_reader.specs.Settings.{AtBlock, NextTime, SetsLines}
+use Rattle.list_reader.specs.Contracts.Settings.{AtBlock, NextTime, SetsLines}
 use Rattle.list_reader.proofs.CursorLaws.{Reached, reached-start, reached-on, none-due, later-due, due-set, reached-next}
 use Rattle.stepper.specs.declared.Bounds.{Bounds}
-use Rattle.marking.specs.Opened.{MarksChanged}
+use Rattle.marking.specs.Contracts.Opened.{MarksChanged}
 use Rattle.iteration.specs.declared.blocks.Next.{Next}
-use Rattle.iteration.specs.Blockwise.{next-of, NextOf, is-due, DueSet}
-use Rattle.iteration.specs.Stepwise.{Listed}
+use Rattle.iteration.specs.Contracts.Blockwise.{next-of, NextOf, is-due, DueSet}
+use Rattle.iteration.specs.Contracts.Stepwise.{Listed}
 
 -- ---- the cursor
 

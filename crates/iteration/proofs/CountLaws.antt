@@ -6,7 +6,7 @@ use mathlib.Core.Bool.{Bool, true, false, cond, _&&_}
 use mathlib.Core.List.{List}
 use lib.ListN.{length, getD}
 use lib.IntN.{ℤ}
-use Rattle.value.specs.Laws.{never, and-both}
+use Rattle.value.proofs.Theorems.Laws.{never, and-both}
 use Rattle.automaton.specs.Step.{Fault, fault-at, marked, grid-after, quiet-outcome, quiet-step}
 use Rattle.automaton.specs.Shape.{product}
 use Rattle.automaton.specs.Grid.{cell-of}
@@ -18,12 +18,12 @@ use Rattle.stepper.specs.declared.Reach.{Reach}
 use Rattle.stepper.specs.Reach.{running}
 use Rattle.stepping.specs.declared.Step.{Step}
 use Rattle.stepping.specs.declared.Step.the-variants as Gives
-use Rattle.stepping.specs.Stepping.{SteppedFor}
+use Rattle.stepping.specs.Contracts.Stepping.{SteppedFor}
 use Rattle.row_counts.specs.Contracts.Counting.{Countable, Movable}
 use Rattle.iteration.specs.declared.blocks.Next.{Next}
-use Rattle.iteration.specs.Blockwise.{is-due, DueSet}
-use Rattle.iteration.specs.Stepwise.{Begins, Runs}
-use Rattle.iteration.specs.Countwise.{CountsFit, Filled, Tallied}
+use Rattle.iteration.specs.Contracts.Blockwise.{is-due, DueSet}
+use Rattle.iteration.specs.Contracts.Stepwise.{Begins, Runs}
+use Rattle.iteration.specs.Contracts.Countwise.{CountsFit, Filled, Tallied}
 
 -- ---- filling and moving where it is asked for
 

@@ -11,15 +11,15 @@ use lib.ListN.{length, getD, replicate, length-replicate}
 use lib.Seq.{ext-getD}
 use lib.IntN.{ℤ}
 use borrow.Author.Tests.{not-true, not-false}
-use Rattle.value.specs.Laws.{never}
+use Rattle.value.proofs.Theorems.Laws.{never}
 use Rattle.automaton.specs.Listed.{list-of, length-list-of, getD-list-of, list-of-ext}
 use Rattle.automaton.specs.Step.{no-fault, fault-at, any-of, marks-of, non-zero, marked, Quiet, every-cell, no-cell, changed, touched, open-in, quiet-step}
-use Rattle.automaton.specs.Quiet.{marked-marks-of, any-of-false, any-none}
+use Rattle.automaton.proofs.Theorems.Quiet.{marked-marks-of, any-of-false, any-none}
 use Rattle.automaton.specs.Shape.{product, Bound, width, neighbour, reach-of, box-indices}
 use Rattle.automaton.specs.ShapeLaws.{Positive, Alike, neighbour-lt, neighbour-zeros}
 use Rattle.automaton.specs.Grid.{cell-of, differ, automaton}
-use Rattle.automaton.specs.GridLaws.{differ-false, differ-self}
-use Rattle.automaton.specs.Going.{Going, going-start, going-on, going-stop, going-done}
+use Rattle.automaton.proofs.Theorems.GridLaws.{differ-false, differ-self}
+use Rattle.automaton.proofs.Theorems.Going.{Going, going-start, going-on, going-stop, going-done}
 use Rattle.program.specs.Syntax.{Program}
 use Rattle.semantics.specs.declared.Rule.{Rule}
 use Rattle.semantics.specs.Leaves.{Leaves}
@@ -27,25 +27,25 @@ use Rattle.semantics.specs.Places.{own-place}
 use Rattle.stepper.specs.declared.Bounds.{Bounds}
 use Rattle.stepper.specs.declared.Reach.{Reach}
 use Rattle.stepper.specs.Reach.{reach-from, reach, running}
-use Rattle.stepper.specs.Locality.{own-zeros}
-use Rattle.stepper.specs.Covering.{reach-covers}
-use Rattle.stepper.specs.PlacesLaws.{places-box}
-use Rattle.stepper.specs.Fitting.{held-fields, Shaped}
+use Rattle.stepper.proofs.Theorems.Locality.{own-zeros}
+use Rattle.stepper.proofs.Theorems.Covering.{reach-covers}
+use Rattle.stepper.proofs.Theorems.PlacesLaws.{places-box}
+use Rattle.stepper.specs.Contracts.Fitting.{held-fields, Shaped}
 use Rattle.stepping.specs.declared.Step.{Step}
 use Rattle.stepping.specs.declared.Step.the-variants as Gives
-use Rattle.stepping.specs.Stepping as stepping
-use Rattle.stepping.specs.Stepping.{SteppedFor}
+use Rattle.stepping.specs.Contracts.Stepping as stepping
+use Rattle.stepping.specs.Contracts.Stepping.{SteppedFor}
 use Rattle.stepping.proofs.StepLaws.{stepped-of}
-use Rattle.marking.specs.Opened as marking
-use Rattle.marking.specs.Opened.{opened, pending-is, indices-of, Prepared, Ways, Marks, Sound, WayOf}
-use Rattle.token.specs.Promises.{Sorts}
+use Rattle.marking.specs.Contracts.Opened as marking
+use Rattle.marking.specs.Contracts.Opened.{opened, pending-is, indices-of, Prepared, Ways, Marks, Sound, WayOf}
+use Rattle.token.specs.Contracts.Promises.{Sorts}
 use Rattle.lists.specs.Setting.{set-block}
 use Rattle.iteration.specs.declared.Report.{Report}
 use Rattle.iteration.specs.declared.Bands.{Bands}
 use Rattle.iteration.specs.declared.blocks.Next.{Next}
-use Rattle.iteration.specs.Blockwise.{NextOf, is-due, Settable, DueSet}
-use Rattle.iteration.specs.Stepwise.{Copying, from-lent, pending-in, Started, Begins, blocks-in, Runs, Renewed, Standing, Halfway, Begun, Underway, Placed, told, without-fault, steps-give, report-in, RanMarked}
-use Rattle.iteration.specs.OneStep.{border-in, ToldBy, Steppable, Making}
+use Rattle.iteration.specs.Contracts.Blockwise.{NextOf, is-due, Settable, DueSet}
+use Rattle.iteration.specs.Contracts.Stepwise.{Copying, from-lent, pending-in, Started, Begins, blocks-in, Runs, Renewed, Standing, Halfway, Begun, Underway, Placed, told, without-fault, steps-give, report-in, RanMarked}
+use Rattle.iteration.specs.Contracts.OneStep.{border-in, ToldBy, Steppable, Making}
 use Rattle.iteration.proofs.BlockLaws.{Follows, follows-start, follows-within, follows-stay, follows-set}
 
 -- ---- marks

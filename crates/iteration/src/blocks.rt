@@ -2,8 +2,8 @@
 ghost use mathlib.Core.Path.{_≡_};
 ghost use Prim.Native.Nat.{_≤_};
 ghost use lib.ListN.{length};
-ghost use Rattle.token.specs.Promises.{Sorts};
-ghost use Rattle.iteration.specs.Blockwise.{is-due, NextOf, Settable, DueSet};
+ghost use Rattle.token.specs.Contracts.Promises.{Sorts};
+ghost use Rattle.iteration.specs.Contracts.Blockwise.{is-due, NextOf, Settable, DueSet};
 use list_reader::setting::Due;
 use list_reader::setting::next_time;
 use list_reader::setting::set_lines;

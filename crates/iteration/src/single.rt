@@ -1,7 +1,7 @@
 // One step of a run.
 ghost use lib.ListN.{length};
-ghost use Rattle.stepping.specs.Stepping.{SteppedFor};
-ghost use Rattle.iteration.specs.OneStep.{border-in, ToldBy, Steppable};
+ghost use Rattle.stepping.specs.Contracts.Stepping.{SteppedFor};
+ghost use Rattle.iteration.specs.Contracts.OneStep.{border-in, ToldBy, Steppable};
 use crate::Bands;
 use banding::steps::step_under;
 use semantics::Rule;

@@ -1,12 +1,12 @@
 // The steps of a run.
 ghost use mathlib.Core.Path.{_≡_};
-ghost use Rattle.marking.specs.Opened as marking;
+ghost use Rattle.marking.specs.Contracts.Opened as marking;
 ghost use Rattle.semantics.specs.Leaves.{Leaves};
-ghost use Rattle.marking.specs.Opened.{WayOf};
+ghost use Rattle.marking.specs.Contracts.Opened.{WayOf};
 ghost use lib.ListN.{length};
-ghost use Rattle.iteration.specs.Countwise.{CountsFit, Filled, Tallied};
-ghost use Rattle.iteration.specs.OneStep.{Making};
-ghost use Rattle.iteration.specs.Stepwise.{without-fault, Copying, from-lent, pending-in, Started, Begins, Standing, Renewed, RanMarked, Ran};
+ghost use Rattle.iteration.specs.Contracts.Countwise.{CountsFit, Filled, Tallied};
+ghost use Rattle.iteration.specs.Contracts.OneStep.{Making};
+ghost use Rattle.iteration.specs.Contracts.Stepwise.{without-fault, Copying, from-lent, pending-in, Started, Begins, Standing, Renewed, RanMarked, Ran};
 use crate::Bands;
 use crate::Report;
 use crate::blocks::next_block;

@@ -12,8 +12,8 @@ use lib.Dec.{eqb, ltb}
 use lib.IntN.{ℤ}
 use borrow.Author.Tests.{ltb-true, ltb-false, lt-ltb, le-ltb, eqb-true, eq-eqb, ne-eqb}
 use Rattle.value.specs.Choice.{if_then_else_}
-use Rattle.value.specs.Laws.{never, and-both}
-use Rattle.automaton.specs.Blocks.{Joined}
+use Rattle.value.proofs.Theorems.Laws.{never, and-both}
+use Rattle.automaton.proofs.Theorems.Blocks.{Joined}
 use Rattle.lists.specs.Lines.{Said, bad, time, cell, said}
 use Rattle.lists.specs.ListChecking.{Limits, rises, time-number, cell-number, line-number, time-behind, check-lines, check-list}
 use Rattle.lists.specs.Setting.{set-lines, set-block}

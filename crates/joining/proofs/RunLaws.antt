@@ -12,26 +12,26 @@ use lib.IntN.{ℤ, pos, negsuc, natAbs, _+ℤ_}
 use lib.Signed.{leZ}
 use borrow.Author.Tests.{leb-true, le-leb}
 use Rattle.value.specs.Choice.{if_then_else_}
-use Rattle.value.specs.Laws.{never, and-both}
+use Rattle.value.proofs.Theorems.Laws.{never, and-both}
 use Rattle.automaton.specs.Step.{Fault, no-fault, fault-at, Automaton, marks-of, Step, Run, Quiet, every-cell, marked, touched, open-in, Blocks, quiet-step, quiet-run, run-of, open-count, full-count}
-use Rattle.automaton.specs.Quiet.{Lawful, quiet-then, quiet-run-from, quiet-run-agrees, quiet-agrees, open-le-full}
-use Rattle.automaton.specs.Blocks.{Joined}
-use Rattle.automaton.specs.Pause.{joined, pause}
+use Rattle.automaton.proofs.Theorems.Quiet.{Lawful, quiet-then, quiet-run-from, quiet-run-agrees, quiet-agrees, open-le-full}
+use Rattle.automaton.proofs.Theorems.Blocks.{Joined}
+use Rattle.automaton.proofs.Theorems.Pause.{joined, pause}
 use Rattle.program.specs.Syntax.{Program}
 use Rattle.stepper.specs.Reach.{running}
 use Rattle.stepper.specs.Admission.{Request, Refusal, refusal, good-sizes, good-rooms, good-times, too-far, out-of-field, admission}
 use Rattle.stepper.specs.Report.{Manner, full, quiet, pausing, resuming, pending-of, ended}
-use Rattle.stepper.specs.Locality.{Flagged}
-use Rattle.stepper.specs.Covering.{running-lawful}
-use Rattle.stepper.specs.Ranges.{admitted-dims}
+use Rattle.stepper.proofs.Theorems.Locality.{Flagged}
+use Rattle.stepper.proofs.Theorems.Covering.{running-lawful}
+use Rattle.stepper.proofs.Theorems.Ranges.{admitted-dims}
 use Rattle.semantics.specs.Written.{written-in}
 use Rattle.lists.specs.Lines.{Said, said}
 use Rattle.lists.specs.ListChecking.{Limits, limits-of, time-behind, verdict, check-lines, check-list}
 use Rattle.lists.specs.Setting.{set-lines, set-block}
 use Rattle.lists.specs.Passing.{Passes, passes-first, last-time, passes-joined, said-joined}
 use Rattle.services.specs.Running.{Asked, admitted, blocks, report-of, standing}
-use Rattle.services.specs.RunningLaws.{request-admitted, counts-admitted, list-passes, all-admit}
-use Rattle.iteration.specs.Stepwise.{report-in}
+use Rattle.services.proofs.Theorems.RunningLaws.{request-admitted, counts-admitted, list-passes, all-admit}
+use Rattle.iteration.specs.Contracts.Stepwise.{report-in}
 use Rattle.joining.specs.Joins.{joined-rise, Pauses, at-once, together}
 use Rattle.joining.proofs.ListLaws.{first-rises, behind-rises, passes-wider, passes-after, lines-join}
 

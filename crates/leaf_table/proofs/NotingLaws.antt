@@ -12,7 +12,7 @@ use Rattle.semantics.specs.Stands.{Table, indices-in, is-sign, is-unary, parsed
 use Rattle.semantics.specs.Leaves.{OperandIs, LeafAt}
 use Rattle.operands.proofs.DecodingLaws.{never, was-bare, was-name}
 use Rattle.leaf_table.specs.declared.Leaf.{Leaf}
-use Rattle.leaf_table.specs.Filling.{words-of, FieldSort}
+use Rattle.leaf_table.specs.Contracts.Filling.{words-of, FieldSort}
 
 -- ---- what the operand is, by the token
 

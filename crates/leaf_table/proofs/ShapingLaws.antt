@@ -10,7 +10,7 @@ use Rattle.token.specs.Kind.{level-of}
 use Rattle.semantics.specs.Stands.{word-in, table-of}
 use Rattle.semantics.specs.Leaves.{leaf-word, Simple, Last, ShapeAt, Leaves}
 use Rattle.operands.proofs.TableLaws.{token}
-use Rattle.leaf_table.specs.Shaping.{Linked, After, Shape, Written, Shaped}
+use Rattle.leaf_table.specs.Contracts.Shaping.{Linked, After, Shape, Written, Shaped}
 use Rattle.leaf_table.proofs.WritingLaws.{leaf-same, Filled}
 
 -- ---- what is read

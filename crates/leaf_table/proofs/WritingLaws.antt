@@ -19,7 +19,7 @@ use Rattle.semantics.specs.Evaluation.{offset}
 use Rattle.semantics.specs.Stands.{Table, index-in, next-index}
 use Rattle.semantics.specs.Leaves.{leaf-word, OffsetsAre, LeafAt}
 use Rattle.leaf_table.specs.declared.Leaf.{Leaf}
-use Rattle.leaf_table.specs.Filling.{words-of, Kept, Offsets, Noted}
+use Rattle.leaf_table.specs.Contracts.Filling.{words-of, Kept, Offsets, Noted}
 use Rattle.leaf_table.proofs.NotingLaws.{unnoted}
 
 -- ---- what stays

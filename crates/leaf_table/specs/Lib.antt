@@ -1,3 +1,2 @@
 -- What the functions that fill the leaf table promise.
-pub mod Filling
-pub mod Shaping
+pub mod Contracts

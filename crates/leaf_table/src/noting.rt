@@ -5,7 +5,7 @@ ghost use Prim.Native.Nat.{_*_, _<_, _≤_};
 ghost use lib.ListN.{length};
 ghost use Rattle.semantics.specs.Stands.{word-in, table-of};
 ghost use Rattle.semantics.specs.Leaves.{LeafAt};
-ghost use Rattle.leaf_table.specs.Filling.{words-of, FieldSort};
+ghost use Rattle.leaf_table.specs.Contracts.Filling.{words-of, FieldSort};
 use crate::Leaf;
 use operands::sort;
 use operands::table::link_at;

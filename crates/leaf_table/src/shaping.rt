@@ -1,7 +1,7 @@
 // Writing the shapes: which expressions are of one or two operands.
 ghost use Prim.Native.Nat.{_+_, _*_, _≤_};
 ghost use lib.ListN.{length};
-ghost use Rattle.leaf_table.specs.Shaping.{Linked, After, Shape, Written, Shaped};
+ghost use Rattle.leaf_table.specs.Contracts.Shaping.{Linked, After, Shape, Written, Shaped};
 use operands::table::leaf_word;
 
 // The level of the operator behind the simple operand at a position; 5, where there is no such operand.

@@ -8,7 +8,7 @@ ghost use Rattle.automaton.specs.ShapeLaws.{Positive};
 ghost use Rattle.token.specs.Kind.{kind};
 ghost use Rattle.semantics.specs.Stands.{word-in, table-of, refers};
 ghost use Rattle.semantics.specs.Leaves.{leaf-word, LeafAt};
-ghost use Rattle.leaf_table.specs.Filling.{Kept, Offsets, Noted};
+ghost use Rattle.leaf_table.specs.Contracts.Filling.{Kept, Offsets, Noted};
 use crate::Leaf;
 use crate::noting::leaf_at;
 use operands::neighbour::element_after;

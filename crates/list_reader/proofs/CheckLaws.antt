@@ -22,15 +22,15 @@ use Rattle.lists.specs.ListChecking.{Limits, inside, all-fit, cell-number, rise
 use Rattle.lists.specs.Walking.{to-end, said-cut, said-last, Placed, wrong, placed, place-from, placed-by, place-is, place-none, all-keep, values-number, values-last}
 use Rattle.list_reader.specs.declared.Lexed.{Lexed}
 use Rattle.list_reader.specs.declared.Lexed.the-variants.{Literal, Sign, End, Unreadable}
-use Rattle.list_reader.specs.Promises.{Ends, tokens-of, Lexes}
+use Rattle.list_reader.specs.Contracts.Promises.{Ends, tokens-of, Lexes}
 use Rattle.list_reader.specs.declared.places.Place.{Place}
 use Rattle.list_reader.specs.declared.places.Place.the-variants as place
-use Rattle.list_reader.specs.Places.{place-in, placed-with, placed-of, PlaceOnward, ReadsPlace}
-use Rattle.list_reader.specs.Values.{values-in, NumbersValues}
+use Rattle.list_reader.specs.Contracts.Places.{place-in, placed-with, placed-of, PlaceOnward, ReadsPlace}
+use Rattle.list_reader.specs.Contracts.Values.{values-in, NumbersValues}
 use Rattle.list_reader.specs.declared.checking.LineRead.{LineRead}
 use Rattle.list_reader.specs.declared.checking.LineRead.the-variants.{Right, Refused}
 use Rattle.list_reader.specs.declared.checking.Verdict as declared
-use Rattle.list_reader.specs.Checks.{limits, time-before, NumbersTime, cell-said, NumbersCell, Judged, JudgesTime, JudgesLine, answer, Checks}
+use Rattle.list_reader.specs.Contracts.Checks.{limits, time-before, NumbersTime, cell-said, NumbersCell, Judged, JudgesTime, JudgesLine, answer, Checks}
 
 positive : (n : ℕ) → (n ≡ 0 → ⊥) → 0 < n
 positive zero d = absurd (d refl)

@@ -11,26 +11,26 @@ use lib.IntN.{ℤ, natAbs}
 use lib.Dec.{eqb, leb}
 use borrow.Author.Tests.{eq-eqb, ne-eqb, eqb-true}
 use Rattle.value.specs.Choice.{if_then_else_}
-use Rattle.value.specs.Laws.{never, and-both}
+use Rattle.value.proofs.Theorems.Laws.{never, and-both}
 use Rattle.automaton.specs.Shape.{product}
 use Rattle.program.specs.Syntax.{Program}
 use Rattle.semantics.specs.declared.Rule.{Rule}
 use Rattle.semantics.specs.Stands.{Holds}
 use Rattle.stepper.specs.Admission.{Request, Refusal, refusal, all-between, good-sizes, admission}
-use Rattle.stepper.specs.Fitting.{held-fields}
+use Rattle.stepper.specs.Contracts.Fitting.{held-fields}
 use Rattle.one_move.specs.Profile.{flag-told}
 use Rattle.lists.specs.Lines.{Said, bad, time, cell, said}
 use Rattle.lists.specs.ListChecking.{Limits, limits-of, Verdict, check-list}
 use Rattle.lists.specs.Setting.{set-lines, set-block}
-use Rattle.lists.specs.Told.{told-check}
+use Rattle.lists.proofs.Theorems.Told.{told-check}
 use Rattle.lists.specs.Passing.{Passes, passes-first, rises-told, starts-told, not-yet}
-use Rattle.list_reader.specs.Places.{Dimensions}
-use Rattle.list_reader.specs.Values.{fields-in}
+use Rattle.list_reader.specs.Contracts.Places.{Dimensions}
+use Rattle.list_reader.specs.Contracts.Values.{fields-in}
 use Rattle.list_reader.specs.declared.checking.Verdict as declared
-use Rattle.list_reader.specs.Checks.{limits, Checks}
+use Rattle.list_reader.specs.Contracts.Checks.{limits, Checks}
 use Rattle.list_reader.specs.declared.setting.Due.{Due}
 use Rattle.list_reader.specs.declared.setting.Due.the-variants.{Nothing, At}
-use Rattle.list_reader.specs.Settings.{AtBlock, SetBlock, SetsLines, NextTime}
+use Rattle.list_reader.specs.Contracts.Settings.{AtBlock, SetBlock, SetsLines, NextTime}
 use Rattle.list_reader.proofs.SettingLaws.{set-nothing}
 
 -- ---- the verdict

@@ -15,7 +15,7 @@ use mir.Syntax.{w64}
 use mir.Val.{Fits}
 use borrow.Author.Tests.{eq-eqb}
 use Rattle.value.specs.Choice.{if_then_else_}
-use Rattle.value.specs.Laws.{never}
+use Rattle.value.proofs.Theorems.Laws.{never}
 use Rattle.value.specs.declared.Value.{Value}
 use Rattle.automaton.specs.Shape as shape
 use Rattle.automaton.specs.Shape.{product}
@@ -25,21 +25,21 @@ use Rattle.lists.specs.ListChecking.{Limits, inside}
 use Rattle.lists.specs.Setting.{store-values, set-lines}
 use Rattle.lists.specs.Walking.{Placed, wrong, placed, place-from, placed-by, place-is, place-none, store-one, one-stored}
 use Rattle.lists.specs.Passing.{Passes, passes-first, block-ends}
-use Rattle.lists.specs.Kept.{right-cell}
+use Rattle.lists.proofs.Theorems.Kept.{right-cell}
 use Rattle.list_reader.specs.declared.Lexed.{Lexed}
 use Rattle.list_reader.specs.declared.Lexed.the-variants.{Literal, Sign, End, Unreadable}
-use Rattle.list_reader.specs.Promises.{Ends, tokens-of, Lexes}
+use Rattle.list_reader.specs.Contracts.Promises.{Ends, tokens-of, Lexes}
 use Rattle.list_reader.specs.declared.places.Place.{Place}
 use Rattle.list_reader.specs.declared.places.Place.the-variants as place
-use Rattle.list_reader.specs.Places.{place-in, placed-with, placed-of, PlaceOnward, ReadsPlace}
+use Rattle.list_reader.specs.Contracts.Places.{place-in, placed-with, placed-of, PlaceOnward, ReadsPlace}
 use Rattle.list_reader.specs.declared.values.Given.{Given}
 use Rattle.list_reader.specs.declared.values.Given.the-variants as given
 use Rattle.list_reader.specs.declared.values.Valued.{Valued}
 use Rattle.list_reader.specs.declared.values.Valued.the-variants as valued
-use Rattle.list_reader.specs.Values.{values-in, given-of, valued-of, ValuedOnward, ReadsValue}
-use Rattle.list_reader.specs.Checks.{cell-said}
+use Rattle.list_reader.specs.Contracts.Values.{values-in, given-of, valued-of, ValuedOnward, ReadsValue}
+use Rattle.list_reader.specs.Contracts.Checks.{cell-said}
 use Rattle.list_reader.specs.declared.setting.Due.the-variants.{Nothing, At}
-use Rattle.list_reader.specs.Settings.{StoresValues, StoresCell, StoresLine, TellsTime, AtBlock, SetBlock, SetsLines, NextTime}
+use Rattle.list_reader.specs.Contracts.Settings.{StoresValues, StoresCell, StoresLine, TellsTime, AtBlock, SetBlock, SetsLines, NextTime}
 use Rattle.list_reader.proofs.CheckLaws.{last-line, first-line, said-nothing}
 
 -- ---- constructors told apart

@@ -13,7 +13,7 @@ use lib.Dec.{eqb, ltb}
 use borrow.Author.Tests.{eq-eqb, ne-eqb, lt-ltb, le-ltb, ltb-true, ltb-false}
 use Rattle.value.specs.Choice.{if_then_else_}
 use Rattle.value.specs.Number.{within, eqZ}
-use Rattle.value.specs.Laws.{never}
+use Rattle.value.proofs.Theorems.Laws.{never}
 use Rattle.value.specs.Worked.{value, decode-of}
 use Rattle.value.specs.declared.Value.{Value}
 use Rattle.automaton.specs.Listed.{length-list-of, getD-list-of}
@@ -21,21 +21,21 @@ use Rattle.program.specs.Syntax.{Range, no-range}
 use Rattle.semantics.specs.declared.Rule.{Rule}
 use Rattle.semantics.specs.Evaluation.{in-field}
 use Rattle.semantics.specs.Stands.{rule-table, range-in}
-use Rattle.token.specs.Promises.{too-large}
+use Rattle.token.specs.Contracts.Promises.{too-large}
 use Rattle.lists.specs.Text.{Piece, literal, sign, with-piece, pieces}
 use Rattle.lists.specs.Lines.{with-value, plus-or-minus, signed, values, under-sign, behind}
 use Rattle.lists.specs.ListChecking.{value-fits, all-fit}
 use Rattle.lists.specs.Walking.{head-fits, none-left, rest-of, keeps-flag, values-number, one-value}
 use Rattle.list_reader.specs.declared.Lexed.{Lexed}
 use Rattle.list_reader.specs.declared.Lexed.the-variants.{Literal, Sign, End, Unreadable}
-use Rattle.list_reader.specs.Promises.{tokens-of, Onward, Lexes}
+use Rattle.list_reader.specs.Contracts.Promises.{tokens-of, Onward, Lexes}
 use Rattle.list_reader.specs.declared.values.Given.{Given}
 use Rattle.list_reader.specs.declared.values.Given.the-variants as given
 use Rattle.list_reader.specs.declared.values.Signed.{Signed}
 use Rattle.list_reader.specs.declared.values.Signed.the-variants as signed
 use Rattle.list_reader.specs.declared.values.Valued.{Valued}
 use Rattle.list_reader.specs.declared.values.Valued.the-variants as valued
-use Rattle.list_reader.specs.Values.{values-in, under-in, behind-in, given-of, signed-of, valued-of, SignedOnward, ValuedOnward, ReadsSigned, ReadsBehind, ReadsValue, fields-in, count-number, StillFits, StillKept, NumbersValues}
+use Rattle.list_reader.specs.Contracts.Values.{values-in, under-in, behind-in, given-of, signed-of, valued-of, SignedOnward, ValuedOnward, ReadsSigned, ReadsBehind, ReadsValue, fields-in, count-number, StillFits, StillKept, NumbersValues}
 
 -- ---- a sign and a literal under it
 

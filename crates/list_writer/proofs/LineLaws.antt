@@ -15,7 +15,7 @@ use Rattle.automaton.specs.Listed.{list-of, length-list-of, getD-list-of}
 use Rattle.automaton.specs.Shape.{product, coordinates}
 use Rattle.automaton.specs.ShapeLaws.{inside-length, coordinates-inside}
 use Rattle.automaton.specs.Grid.{cell-of, differ}
-use Rattle.automaton.specs.GridLaws.{cell-room}
+use Rattle.automaton.proofs.Theorems.GridLaws.{cell-room}
 use Rattle.reply_line.proofs.Lines.{digits-length}
 use Rattle.lists.specs.Writing.{print-number, print-field, listed, cell-line, shown, cells-text, written-text}
 use Rattle.lists.specs.Showing.{length-shown}

@@ -17,7 +17,7 @@ use mir.Facts.{toZ-ofZ}
 use borrow.Author.Tests.{lt-ltb, le-ltb, le-leb, not-true, not-false}
 use Rattle.value.specs.Number.{in-range, eqZ}
 use Rattle.value.specs.Worked.{encode-of, decode-of}
-use Rattle.value.specs.Laws.{decode-encode, sub-lt}
+use Rattle.value.proofs.Theorems.Laws.{decode-encode, sub-lt}
 use Rattle.grammar.specs.Answer.{digits-of}
 use Rattle.reply_line.proofs.Lines.{one-digit, more-digits, digits-length}
 use Rattle.lists.specs.Writing.{print-number, print-value, print-field, listed, shown}

@@ -11,13 +11,13 @@ use Rattle.grammar.specs.Checking.{accepted, rooms-fit, read-source}
 use Rattle.semantics.specs.declared.Rule.{Rule}
 use Rattle.semantics.specs.Stands.{Holds}
 use Rattle.semantics.specs.Written.{relatives-in}
-use Rattle.linking.specs.Accepted.{written}
-use Rattle.stepper.specs.Fitting.{Sized}
+use Rattle.linking.proofs.Theorems.Accepted.{written}
+use Rattle.stepper.specs.Contracts.Fitting.{Sized}
 use Rattle.checker.specs.declared.checking.Outline.{Outline}
-use Rattle.checker.specs.Promises.{Trace, Outlines, accepted-by, Loads, Checks}
+use Rattle.checker.specs.Contracts.Promises.{Trace, Outlines, accepted-by, Loads, Checks}
 use Rattle.profile.specs.Contracts.Standing.{rule-in, Stood}
 use Rattle.profile.proofs.StandingLaws.{linked-by, parsed-by, rule-by, sized, stood}
-use Rattle.admission.specs.Admitting.{Lists}
+use Rattle.admission.specs.Contracts.Admitting.{Lists}
 
 -- what is known of a source that is accepted, and of the rule that is made of its outline
 pub record Read (fit : Bool) (source words names : List ℕ) (rule : Rule) : Type 0 where

@@ -15,7 +15,7 @@ use mir.Syntax.{w32, w64}
 use mir.Val.{Fits, SFits, toZ, ofZ}
 use mir.Facts.{toZ-ofZ}
 use borrow.Author.Tests.{eq-eqb, ne-eqb, lt-ltb, le-ltb, not-true, not-false}
-use Rattle.value.specs.Laws.{never}
+use Rattle.value.proofs.Theorems.Laws.{never}
 use Rattle.token.specs.Lexeme.{is-built-in}
 use Rattle.program.specs.Syntax.{Program}
 use Rattle.grammar.specs.Complaint.{Complaint, complaint}
@@ -23,15 +23,15 @@ use Rattle.grammar.specs.Checking as checking
 use Rattle.grammar.specs.Checking.{Outcome, turned-away, accepted, rooms-fit, read-source, check, words-after, names-after}
 use Rattle.semantics.specs.declared.Rule.{Rule}
 use Rattle.stepper.specs.Admission.{Refusal, refusal}
-use Rattle.stepper.specs.Fitting.{held-fields}
+use Rattle.stepper.specs.Contracts.Fitting.{held-fields}
 use Rattle.services.specs.Calls.{NameForm, flat-names, names-left}
 use Rattle.checker.specs.declared.checking.Outline.{Outline}
-use Rattle.checker.specs.Promises.{Loads, Checks, is-accepted}
+use Rattle.checker.specs.Contracts.Promises.{Loads, Checks, is-accepted}
 use Rattle.admission.specs.declared.Refusal as declared
 use Rattle.one_move.specs.Profile.{profile-flag}
 use Rattle.profile.specs.Contracts.Standing.{rule-in}
 use Rattle.profile.specs.Contracts.Flags.{FlagOf}
-use Rattle.lists.specs.Told.{told-text}
+use Rattle.lists.proofs.Theorems.Told.{told-text}
 use Rattle.lists.specs.Writing.{written-text, Wanted, Wrote, unwritten, put-text, writing-admission, write, write-read, write-source}
 use Rattle.list_writer.specs.declared.Written.{Written}
 use Rattle.list_writer.specs.WriterCalls.{WriterLent, wanted, writer-fits, writer-left}

@@ -3,7 +3,7 @@ ghost use mathlib.Core.Path.{_≡_};
 ghost use Prim.Native.Nat.{_<_};
 ghost use lib.ListN.{length};
 ghost use Rattle.stepper.specs.Admission.{refusal};
-ghost use Rattle.stepper.specs.Fitting.{Sized};
+ghost use Rattle.stepper.specs.Contracts.Fitting.{Sized};
 ghost use Rattle.lists.specs.Writing.{lower};
 ghost use Rattle.list_writer.specs.WriterCalls.{wanted};
 ghost use Rattle.list_writer.specs.Contracts.Admitting.{CountsCells, AdmitsGrid, AdmitsBoth};

@@ -6,7 +6,7 @@ ghost use lib.ListN.{length};
 ghost use Rattle.automaton.specs.Shape.{product};
 ghost use Rattle.grammar.specs.Checking.{rooms-fit};
 ghost use Rattle.services.specs.Calls.{flat-names};
-ghost use Rattle.stepper.specs.Fitting.{Sized};
+ghost use Rattle.stepper.specs.Contracts.Fitting.{Sized};
 ghost use Rattle.lists.specs.Writing.{written-text, put-text};
 ghost use Rattle.list_writer.specs.WriterCalls.{wanted, writer-lent};
 ghost use Rattle.list_writer.specs.Contracts.Lines.{Grids};

@@ -4,14 +4,8 @@ pub mod Lines
 pub mod ListChecking
 pub mod Setting
 pub mod Writing
-pub mod Cases
-pub mod Examples
 pub mod Printing
 pub mod Rereading
 pub mod Showing
-pub mod RoundTrip
-pub mod Sources
 pub mod Passing
-pub mod Kept
 pub mod Walking
-pub mod Told

@@ -12,7 +12,7 @@ use lib.IntN.{ℤ, pos}
 use borrow.Author.Tests.{ne-eqb}
 use Rattle.value.specs.Choice.{if_then_else_}
 use Rattle.value.specs.Number.{eqZ}
-use Rattle.value.specs.Laws.{and-both, eqZ-true}
+use Rattle.value.proofs.Theorems.Laws.{and-both, eqZ-true}
 use Rattle.program.specs.Syntax.{Range}
 use Rattle.semantics.specs.Evaluation.{in-field}
 use Rattle.lists.specs.ListChecking.{value-fits, all-fit, is-zero, clears}

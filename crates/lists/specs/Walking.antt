@@ -11,7 +11,7 @@ use lib.IntN.{ℤ}
 use lib.Dec.{eqb, leb, ltb, eqb·suc-suc, leb·suc-suc}
 use borrow.Author.Tests.{ne-eqb, eq-eqb, eqb-true, lt-ltb}
 use Rattle.value.specs.Choice.{if_then_else_}
-use Rattle.value.specs.Laws.{never}
+use Rattle.value.proofs.Theorems.Laws.{never}
 use Rattle.automaton.specs.Shape as shape
 use Rattle.automaton.specs.Shape.{product}
 use Rattle.token.specs.Bytes.{byte-kind, kind-of}

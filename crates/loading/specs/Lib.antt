@@ -1,2 +1,2 @@
 -- A source that a call has loaded.
-pub mod Loaded
+pub mod Contracts

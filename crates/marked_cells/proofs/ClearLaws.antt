@@ -8,7 +8,7 @@ use mathlib.Core.List.{List}
 use lib.ListN.{length, getD}
 use lib.Dec.{ltb}
 use borrow.Author.Tests.{ltb-true, ltb-false}
-use Rattle.marked_cells.specs.Clear.{eight-sum, Clear}
+use Rattle.marked_cells.specs.Contracts.Clear.{eight-sum, Clear}
 
 -- where eight marks sum to 0, each is 0
 each-clear : (marks : List ℕ) (at : ℕ) → eight-sum marks at ≡ 0 → (k : ℕ) → k < 8 → getD marks (at + k) 0 ≡ 0

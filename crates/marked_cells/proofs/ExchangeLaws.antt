@@ -12,7 +12,7 @@ use lib.IntN.{ℤ, pos}
 use Rattle.automaton.specs.Listed.{last-or-below}
 use Rattle.automaton.specs.Step.{marked}
 use Rattle.automaton.specs.Grid.{cell-of}
-use Rattle.marked_cells.specs.Marked.{NextMarked, Swapping, Swapped, Exchanging, Exchanged}
+use Rattle.marked_cells.specs.Contracts.Marked.{NextMarked, Swapping, Swapped, Exchanging, Exchanged}
 use Rattle.marked_cells.proofs.ScanLaws.{below-or}
 use Rattle.marked_cells.proofs.PartLaws.{entry-before, cell-same}
 

@@ -10,7 +10,7 @@ use lib.Seq.{ext-getD, length-take-le, getD-append-add, getD-take, getD-drop}
 use lib.IntN.{ℤ, pos}
 use Rattle.automaton.specs.Listed.{length-list-of, getD-list-of, list-of-ext}
 use Rattle.automaton.specs.Grid.{cell-of, grid-of}
-use Rattle.automaton.specs.GridLaws.{some-field}
+use Rattle.automaton.proofs.Theorems.GridLaws.{some-field}
 use Rattle.marked_cells.proofs.ScanLaws.{below-or}
 
 -- an entry of a cell lies before the fields of a later one

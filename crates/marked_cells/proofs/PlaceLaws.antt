@@ -8,7 +8,7 @@ use lib.ListN.{length, getD, set, drop, length-set}
 use lib.Seq.{drop-cons, drop-length, drop-set-lt, getD-set-same}
 use Rattle.automaton.specs.Shape.{product, cell-number, coordinates}
 use Rattle.automaton.specs.ShapeLaws.{inside-length, inside-at, Positive, Inside, coordinates-inside, number-coordinates, coordinates-number}
-use Rattle.marked_cells.specs.Marked.{Placed, Moving}
+use Rattle.marked_cells.specs.Contracts.Marked.{Placed, Moving}
 
 -- ---- written
 

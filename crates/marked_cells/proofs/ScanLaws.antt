@@ -10,8 +10,8 @@ use lib.Dec.{ltb}
 use borrow.Author.Tests.{ltb-true, ltb-false}
 use Rattle.automaton.specs.Listed.{last-or-below}
 use Rattle.automaton.specs.Step.{non-zero, marked}
-use Rattle.marked_cells.specs.Clear.{Clear}
-use Rattle.marked_cells.specs.Marked.{NextMarked, MarkedUpTo}
+use Rattle.marked_cells.specs.Contracts.Clear.{Clear}
+use Rattle.marked_cells.specs.Contracts.Marked.{NextMarked, MarkedUpTo}
 
 pub below-or : (a b : ℕ) → (a < b) ⊎ (b ≤ a)
 below-or a b = go (ltb a b) refl

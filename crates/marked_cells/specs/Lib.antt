@@ -1,3 +1,2 @@
 -- What the functions over marked cells promise.
-pub mod Clear
-pub mod Marked
+pub mod Contracts

@@ -1,6 +1,6 @@
 // Exchanging the fields of the marked cells between two grids.
 ghost use lib.ListN.{length};
-ghost use Rattle.marked_cells.specs.Marked.{Swapping, Swapped, Exchanging, Exchanged};
+ghost use Rattle.marked_cells.specs.Contracts.Marked.{Swapping, Swapped, Exchanging, Exchanged};
 use crate::scan::next_marked;
 use crate::scan::run_end;
 

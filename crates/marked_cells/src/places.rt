@@ -3,7 +3,7 @@ ghost use Prim.Native.Nat.{_+_};
 ghost use lib.ListN.{length};
 ghost use Rattle.automaton.specs.Shape.{cell-number};
 ghost use Rattle.automaton.specs.ShapeLaws.{Inside};
-ghost use Rattle.marked_cells.specs.Marked.{Placing, Placed, Moving};
+ghost use Rattle.marked_cells.specs.Contracts.Marked.{Placing, Placed, Moving};
 
 // Writes the coordinates of a cell, the last dimension's first.
 pub fn set_place(sizes: &[u32], cell: u32, place: &mut [u32])

@@ -1,7 +1,7 @@
 // The marked cells in rising order.
 ghost use Prim.Native.Nat.{_<_, _≤_};
 ghost use lib.ListN.{length};
-ghost use Rattle.marked_cells.specs.Marked.{NextMarked, MarkedUpTo};
+ghost use Rattle.marked_cells.specs.Contracts.Marked.{NextMarked, MarkedUpTo};
 use crate::skipping::skip_clear;
 
 // The first marked cell from a cell on, or the number of cells where there is none.

@@ -2,7 +2,7 @@
 ghost use mathlib.Core.Path.{_≡_};
 ghost use Prim.Native.Nat.{_+_, _<_, _≤_};
 ghost use lib.ListN.{length, getD};
-ghost use Rattle.marked_cells.specs.Clear.{eight-sum, Clear};
+ghost use Rattle.marked_cells.specs.Contracts.Clear.{eight-sum, Clear};
 
 // A cell's mark.
 fn mark(marks: &[u8], cell: usize) -> u32

@@ -14,7 +14,7 @@ use Rattle.value.specs.Worked.{wrap-of}
 use Rattle.automaton.specs.Shape.{product, cell-number, coordinates, shift, neighbour, Bound, width, box-indices, reach-of, opens-of}
 use Rattle.automaton.specs.ShapeLaws.{Inside, Positive, Alike, Within, AllWithin, product-pos, wrap-mod, reach-opens, mem-box, box-alike, coordinates-inside}
 use Rattle.stepper.specs.Reach.{own-only}
-use Rattle.marking.specs.Noting.{note-all, rows, line, lines, box-cells, opened-from, opened-count, cells-opened, Boxed}
+use Rattle.marking.specs.Contracts.Noting.{note-all, rows, line, lines, box-cells, opened-from, opened-count, cells-opened, Boxed}
 use Rattle.marking.proofs.NotingLaws.{mem-rows, rows-same, Noted, noted-done}
 
 -- ---- one dimension

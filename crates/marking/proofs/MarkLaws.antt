@@ -11,13 +11,13 @@ use lib.ListN.{length, getD, set}
 use lib.IntN.{ℤ, pos, negsuc}
 use borrow.Author.Tests.{eq-eqb, not-false}
 use Rattle.value.specs.Number.{eqZ}
-use Rattle.value.specs.Laws.{eqZ-true}
+use Rattle.value.proofs.Theorems.Laws.{eqZ-true}
 use Rattle.automaton.specs.Listed.{getD-list-of, list-of-ext, last-or-below}
 use Rattle.automaton.specs.Grid.{cell-of, differ}
-use Rattle.automaton.specs.GridLaws.{differ-false}
-use Rattle.marked_cells.specs.Clear.{Clear}
+use Rattle.automaton.proofs.Theorems.GridLaws.{differ-false}
+use Rattle.marked_cells.specs.Contracts.Clear.{Clear}
 use Rattle.marked_cells.proofs.RoomLaws.{Changing, changing-start, changing-more}
-use Rattle.marking.specs.Noting.{NextOdd, Halved}
+use Rattle.marking.specs.Contracts.Noting.{NextOdd, Halved}
 
 -- ---- cells that changed
 

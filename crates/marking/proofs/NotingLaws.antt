@@ -9,7 +9,7 @@ use mathlib.Core.List.{List, [], _∷_, _++_, append-nil, List·Memᴰ, List·Me
 use lib.ListN.{length, getD, length-set}
 use lib.Seq.{getD-set-same, getD-set-other}
 use Rattle.automaton.specs.Listed.{last-or-below}
-use Rattle.marking.specs.Noting.{note, note-all, rows, line}
+use Rattle.marking.specs.Contracts.Noting.{note, note-all, rows, line}
 
 -- ---- noted cells
 

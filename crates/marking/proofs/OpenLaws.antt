@@ -11,19 +11,19 @@ use lib.IntN.{ℤ}
 use borrow.Author.Tests.{lt-ltb, le-ltb}
 use Rattle.automaton.specs.Listed.{list-of, length-list-of, getD-list-of, list-of-ext}
 use Rattle.automaton.specs.Step.{non-zero, marked, marks-of}
-use Rattle.automaton.specs.Quiet.{any-of-false, any-of-true}
+use Rattle.automaton.proofs.Theorems.Quiet.{any-of-false, any-of-true}
 use Rattle.automaton.specs.Shape.{product, cell-number, neighbour, reach-of}
 use Rattle.automaton.specs.ShapeLaws.{Positive, coordinates-inside, inside-at, neighbour-lt}
 use Rattle.automaton.specs.Grid.{cell-of, differ}
-use Rattle.automaton.specs.GridLaws.{cell-room}
-use Rattle.stepper.specs.Fitting.{bound-at}
-use Rattle.stepper.specs.Digits.{size-positive}
+use Rattle.automaton.proofs.Theorems.GridLaws.{cell-room}
+use Rattle.stepper.specs.Contracts.Fitting.{bound-at}
+use Rattle.stepper.proofs.Theorems.Digits.{size-positive}
 use Rattle.stepper.specs.declared.Bounds.{Bounds}
-use Rattle.place_marks.specs.Placing.{cell-from, Placed, note-places, Coordinates}
+use Rattle.place_marks.specs.Contracts.Placing.{cell-from, Placed, note-places, Coordinates}
 use Rattle.place_marks.proofs.BackLaws.{placed}
 use Rattle.marked_cells.proofs.ScanLaws.{non-zero-true}
-use Rattle.marking.specs.Opened.{opened, Markable, Ready, Ways, Marks, MarksChanged}
-use Rattle.marking.specs.Noting.{note, note-all, rows, box-cells, opened-from, cells-opened, cells-back, cells-by, opened-by, Boxed, Shaped, Led, Below, Firsts, Counts, NextOdd, Halved}
+use Rattle.marking.specs.Contracts.Opened.{opened, Markable, Ready, Ways, Marks, MarksChanged}
+use Rattle.marking.specs.Contracts.Noting.{note, note-all, rows, box-cells, opened-from, cells-opened, cells-back, cells-by, opened-by, Boxed, Shaped, Led, Below, Firsts, Counts, NextOdd, Halved}
 use Rattle.marking.proofs.NotingLaws.{length-note-all, note-all-append, note-out, note-in, note-parity, mem-rows, rows-skip}
 use Rattle.marking.proofs.BoxLaws.{entry, box-same}
 use Rattle.marking.proofs.MarkLaws.{differ-self}

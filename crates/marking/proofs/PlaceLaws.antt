@@ -8,10 +8,10 @@ use mathlib.Core.List.{List}
 use lib.ListN.{length, getD, set, length-set}
 use lib.Seq.{getD-set-same, getD-set-other}
 use Rattle.automaton.specs.Listed.{last-or-below}
-use Rattle.stepper.specs.Fitting.{bound-at}
+use Rattle.stepper.specs.Contracts.Fitting.{bound-at}
 use Rattle.stepper.specs.declared.Bounds.{Bounds}
-use Rattle.stepper.specs.Digits.{size-positive, size-small}
-use Rattle.marking.specs.Noting.{opened-from, opened-count, Shaped, Firsts, Counts}
+use Rattle.stepper.proofs.Theorems.Digits.{size-positive, size-small}
+use Rattle.marking.specs.Contracts.Noting.{opened-from, opened-count, Shaped, Firsts, Counts}
 
 -- ---- one coordinate
 

@@ -12,14 +12,14 @@ use Rattle.automaton.specs.Listed.{list-of, length-list-of, getD-list-of, of-me
 use Rattle.automaton.specs.Shape.{product, Bound, width, box-indices, reach-of, neighbour, coordinates}
 use Rattle.automaton.specs.ShapeLaws.{Alike, alike-length, reach-opens, box-alike}
 use Rattle.stepper.specs.Reach.{own-only, reach-from}
-use Rattle.stepper.specs.Fitting.{bound-at, bounds-of, place-at, places-of}
-use Rattle.stepper.specs.Cutting.{Counting, counting-start, counting-more}
+use Rattle.stepper.specs.Contracts.Fitting.{bound-at, bounds-of, place-at, places-of}
+use Rattle.stepper.proofs.Theorems.Cutting.{Counting, counting-start, counting-more}
 use Rattle.stepper.specs.declared.Bounds.{Bounds}
 use Rattle.stepper.specs.declared.Reach.{Reach}
-use Rattle.place_marks.specs.Placing.{Backs}
+use Rattle.place_marks.specs.Contracts.Placing.{Backs}
 use Rattle.place_marks.proofs.BackLaws.{step-inside, steps-open}
-use Rattle.marking.specs.Opened.{indices-of, Prepared, Ways, WayOf}
-use Rattle.marking.specs.Noting.{cells-back, Led}
+use Rattle.marking.specs.Contracts.Opened.{indices-of, Prepared, Ways, WayOf}
+use Rattle.marking.specs.Contracts.Noting.{cells-back, Led}
 use Rattle.marking.proofs.BoxLaws.{opens-reach}
 use Rattle.marking.proofs.OpenLaws.{by-list, by-box}
 

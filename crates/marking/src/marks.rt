@@ -6,7 +6,7 @@ ghost use lib.ListN.{length, getD};
 ghost use lib.IntN.{pos};
 ghost use Rattle.value.specs.Number.{eqZ};
 ghost use Rattle.automaton.specs.Grid.{cell-of, differ};
-ghost use Rattle.marking.specs.Noting.{NextOdd, Halved};
+ghost use Rattle.marking.specs.Contracts.Noting.{NextOdd, Halved};
 use marked_cells::skipping::skip_clear;
 
 // Whether two grids differ in an entry.

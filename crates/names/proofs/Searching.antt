@@ -11,7 +11,7 @@ use borrow.Author.Tests.{ne-eqb}
 use Rattle.value.specs.Choice.{if_then_else_}
 use Rattle.token.specs.Bytes.{same}
 use Rattle.names.specs.Names.{entry-at, entries-from, is-field, in-space, letters, find, find-name}
-use Rattle.names.specs.Finding.{match-of, Matches, found-of, Finds}
+use Rattle.names.specs.Contracts.Finding.{match-of, Matches, found-of, Finds}
 use Rattle.names.specs.declared.Entry.{Entry}
 use Rattle.names.specs.declared.Found.the-variants.{At, Missing}
 use Rattle.names.proofs.Spelling.{unlike}

@@ -4,7 +4,7 @@ ghost use Prim.Native.Nat.{_<_, _≤_};
 ghost use lib.ListN.{length, getD};
 ghost use Rattle.token.specs.Bytes.{fold, same};
 ghost use Rattle.names.specs.Names.{most-names, name-words, entry-at, with-entry, with-value, without-entry, variables-in, is-field, in-space, letters};
-ghost use Rattle.names.specs.Finding.{Matches, Finds};
+ghost use Rattle.names.specs.Contracts.Finding.{Matches, Finds};
 
 pub mod kind;
 
@@ -103,7 +103,7 @@ pub fn is_field(e: Entry) -> bool
 }
 
 // Whether a name is of a name space: that of fields, or that of all other names.
-pub fn in_space(fields: bool, e: Entry) -> bool
+fn in_space(fields: bool, e: Entry) -> bool
     ensures { λ r. ⌜ r ≡ in-space fields e ⌝ }
 {
     if fields {
@@ -131,7 +131,7 @@ pub fn folded(source: &[u8], i: usize) -> u32
 }
 
 // Whether the n bytes from a on and the n bytes from b on spell the same.
-pub fn same_spelling(source: &[u8], a: u32, b: u32, n: u32) -> bool
+fn same_spelling(source: &[u8], a: u32, b: u32, n: u32) -> bool
     ensures { λ r. ⌜ r ≡ same (letters (now (source .entry)) a n) (letters (now (source .entry)) b n) ⌝ }
 {
     let x = a as usize;

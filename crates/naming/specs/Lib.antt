@@ -1,2 +1,2 @@
 -- What the calls promise.
-pub mod Promises
+pub mod Contracts

@@ -8,7 +8,7 @@ use lib.IntN.{ℤ}
 use Rattle.value.specs.declared.Value.{Value}
 use Rattle.semantics.specs.Evaluation.{Env}
 use Rattle.semantics.specs.Stands.{Table, is-sign, is-unary}
-use Rattle.operands.specs.Working.{EvalsOperand, EvalsPrimary, EvalsName, EvalsPlain, Leaf}
+use Rattle.operands.specs.Contracts.Working.{EvalsOperand, EvalsPrimary, EvalsName, EvalsPlain, Leaf}
 use Rattle.operands.specs.declared.Told.{Told}
 use Rattle.operands.specs.declared.Told.the-variants.{Found, Failed}
 use Rattle.operands.proofs.DecodingLaws.{was-bare, was-name, unary-none}

@@ -15,7 +15,7 @@ use Rattle.value.specs.Choice.{if_then_else_}
 use Rattle.value.specs.Worked.{value, encode-of, decode-of, wrap-of}
 use Rattle.value.specs.declared.Value.{Value}
 use Rattle.value.specs.Number.{modZ}
-use Rattle.value.specs.Laws.{sub-le, sub-lt}
+use Rattle.value.proofs.Theorems.Laws.{sub-le, sub-lt}
 use Rattle.automaton.specs.Listed.{length-list-of, getD-list-of}
 use Rattle.automaton.specs.Shape.{product, cell-number, shift}
 use Rattle.automaton.specs.ShapeLaws.{inside-length, Inside, Positive, Alike, product-pos, number-lt, shift-inside}

@@ -12,7 +12,7 @@ use Rattle.token.specs.Kind.{level-of}
 use Rattle.value.specs.Choice.{if_then_else_}
 use Rattle.value.specs.Worked.{value, decode-of, wrap-of}
 use Rattle.value.specs.declared.Value.{Value}
-use Rattle.value.specs.Laws.{wrap-below}
+use Rattle.value.proofs.Theorems.Laws.{wrap-below}
 use Rattle.value.specs.Number.{modZ}
 use Rattle.automaton.specs.Shape.{product, cell-number, shift, neighbour}
 use Rattle.automaton.specs.ShapeLaws.{inside-at, Inside, wrap-mod}
@@ -22,14 +22,14 @@ use Rattle.semantics.specs.Operators.{worth}
 use Rattle.semantics.specs.Evaluation.{Env, entry, offset, offsets, eval}
 use Rattle.semantics.specs.Stands.{Table, word-in, index-in, next-index, indices-in, is-sign, is-unary, parsed, decode-operand, decode-primary}
 use Rattle.semantics.specs.Leaves.{leaf-word, OperandIs, OffsetsAre}
-use Rattle.operands.specs.Working.{site-table, env-of, Ready, told-of, Leaf, Noted}
+use Rattle.operands.specs.Contracts.Working.{site-table, env-of, Ready, told-of, Leaf, Noted}
 use Rattle.operands.specs.declared.Site.{Site}
 use Rattle.operands.specs.declared.Told.{Told}
 use Rattle.operands.specs.declared.Told.the-variants.{Found, Failed}
 use Rattle.operands.proofs.TableLaws.{token}
 use Rattle.operands.proofs.OperatorLaws.{level-some}
 use Rattle.operands.proofs.NeighbourLaws.{Steps, steps-start, steps-more, steps-done, number-small, total-small, front-entry}
-use Rattle.automaton.specs.GridLaws.{cell-room}
+use Rattle.automaton.proofs.Theorems.GridLaws.{cell-room}
 use Rattle.operands.proofs.PrimaryLaws.{ready-inside, neighbour-is, own-is, as-value}
 
 -- ---- the number of the cell at the offsets that are noted

@@ -13,7 +13,7 @@ use Rattle.value.specs.declared.Worked.{Worked}
 use Rattle.value.specs.declared.Worked.the-variants.{Number, OutOfRange, ZeroDivisor}
 use Rattle.semantics.specs.Operators.{placed, compare, apply-binary}
 use Rattle.semantics.specs.Stands.{is-sign, is-unary}
-use Rattle.operands.specs.Working.{told-of, primary-from}
+use Rattle.operands.specs.Contracts.Working.{told-of, primary-from}
 use Rattle.operands.specs.declared.Told.{Told}
 use Rattle.operands.specs.declared.Told.the-variants.{Found, Failed}
 

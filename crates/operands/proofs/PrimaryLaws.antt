@@ -18,7 +18,7 @@ use Rattle.program.specs.Syntax.{Expr, number, time, variable, index, field}
 use Rattle.semantics.specs.Operators.{Worth, worth}
 use Rattle.semantics.specs.Evaluation.{Env, entry, offsets, element-at, eval}
 use Rattle.semantics.specs.Stands.{Table, indices-in, values-in, array-in, parsed, decode-primary, decode-name}
-use Rattle.operands.specs.Working.{Ready, told-of, EvalsName, EvalsPlain}
+use Rattle.operands.specs.Contracts.Working.{Ready, told-of, EvalsName, EvalsPlain}
 use Rattle.operands.specs.declared.Site.{Site}
 use Rattle.operands.specs.declared.Told.the-variants.{Found, Failed}
 use Rattle.operands.proofs.NeighbourLaws.{encoded-ahead, encoded-back}

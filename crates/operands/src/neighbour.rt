@@ -8,7 +8,7 @@ ghost use Rattle.automaton.specs.ShapeLaws.{Inside};
 ghost use Rattle.automaton.specs.Grid.{cell-of};
 ghost use Rattle.semantics.specs.Evaluation.{entry, offset, offsets};
 ghost use Rattle.semantics.specs.Stands.{word-in, table-of, index-in, next-index, indices-in};
-ghost use Rattle.operands.specs.Working.{site-table, env-of, Ready};
+ghost use Rattle.operands.specs.Contracts.Working.{site-table, env-of, Ready};
 use crate::Site;
 use crate::operators::is_sign;
 use crate::table::word_at;

@@ -8,7 +8,7 @@ ghost use Rattle.automaton.specs.ShapeLaws.{Inside};
 ghost use Rattle.semantics.specs.Evaluation.{offsets};
 ghost use Rattle.semantics.specs.Stands.{table-of, indices-in};
 ghost use Rattle.semantics.specs.Leaves.{leaf-word, sort, OffsetsAre};
-ghost use Rattle.operands.specs.Working.{site-table, env-of, Ready, Leaf, Noted};
+ghost use Rattle.operands.specs.Contracts.Working.{site-table, env-of, Ready, Leaf, Noted};
 ghost use Rattle.operands.specs.declared.Told.the-variants.{Found};
 use crate::Site;
 use crate::Told;

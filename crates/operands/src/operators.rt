@@ -4,7 +4,7 @@ ghost use Prim.Native.Nat.{_*_, _≤_, _%_};
 ghost use lib.ListN.{length};
 ghost use Rattle.semantics.specs.Operators.{placed, apply-unary, compare, apply-binary};
 ghost use Rattle.semantics.specs.Stands.{word-in, is-sign, is-unary};
-ghost use Rattle.operands.specs.Working.{told-of};
+ghost use Rattle.operands.specs.Contracts.Working.{told-of};
 use crate::Told;
 use crate::table::place_at;
 use token::kind;

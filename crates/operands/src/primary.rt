@@ -5,7 +5,7 @@ ghost use lib.ListN.{length, take};
 ghost use Rattle.value.specs.Worked.{value};
 ghost use Rattle.semantics.specs.Evaluation.{entry, element-at};
 ghost use Rattle.semantics.specs.Stands.{word-in, table-of, array-in};
-ghost use Rattle.operands.specs.Working.{site-table, env-of, Ready, told-of, EvalsName, EvalsPlain, Leaf};
+ghost use Rattle.operands.specs.Contracts.Working.{site-table, env-of, Ready, told-of, EvalsName, EvalsPlain, Leaf};
 use crate::Site;
 use crate::Told;
 use crate::neighbour::field_of;

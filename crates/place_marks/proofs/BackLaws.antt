@@ -14,9 +14,9 @@ use Rattle.value.specs.Worked.{decode-of, wrap-of}
 use Rattle.automaton.specs.Listed.{list-of, length-list-of, getD-list-of, list-of-ext, last-or-below}
 use Rattle.automaton.specs.Shape.{product, cell-number, coordinates, shift, neighbour, opens-of}
 use Rattle.automaton.specs.ShapeLaws.{Positive, coordinates-inside, inside-at, wrap-mod}
-use Rattle.stepper.specs.Digits.{coordinates-length, size-positive, Digits, digits-start, digits-more, digits-done}
-use Rattle.stepper.specs.Fitting.{place-at}
-use Rattle.place_marks.specs.Placing.{step-from, cell-from, Placed, Back, Coordinates, Backs}
+use Rattle.stepper.proofs.Theorems.Digits.{coordinates-length, size-positive, Digits, digits-start, digits-more, digits-done}
+use Rattle.stepper.specs.Contracts.Fitting.{place-at}
+use Rattle.place_marks.specs.Contracts.Placing.{step-from, cell-from, Placed, Back, Coordinates, Backs}
 
 neg-length : (ds : List ℤ) → length (map negℤ ds) ≡ length ds
 neg-length [] = refl

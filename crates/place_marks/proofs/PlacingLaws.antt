@@ -9,8 +9,8 @@ use lib.Seq.{drop-cons, drop-length}
 use Rattle.automaton.specs.Listed.{length-list-of, getD-list-of}
 use Rattle.automaton.specs.Shape.{product, cell-number}
 use Rattle.automaton.specs.ShapeLaws.{Inside, number-lt, Positive, product-pos}
-use Rattle.stepper.specs.Digits.{size-small}
-use Rattle.place_marks.specs.Placing.{step-from, cell-from, Placed, note-places}
+use Rattle.stepper.proofs.Theorems.Digits.{size-small}
+use Rattle.place_marks.specs.Contracts.Placing.{step-from, cell-from, Placed, note-places}
 
 -- ---- one coordinate
 

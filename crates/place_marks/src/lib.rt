@@ -7,7 +7,7 @@ ghost use Rattle.automaton.specs.ShapeLaws.{Positive};
 ghost use Rattle.value.specs.Number.{modZ};
 ghost use Rattle.value.specs.Worked.{decode-of};
 ghost use lib.IntN.{negℤ};
-ghost use Rattle.place_marks.specs.Placing.{Placed, cell-from, note-places, Coordinates, Backs};
+ghost use Rattle.place_marks.specs.Contracts.Placing.{Placed, cell-from, note-places, Coordinates, Backs};
 
 pub fn wide(x: u32) -> usize
     ensures { λ r. ⌜ r ≡ x ⌝ }

@@ -14,16 +14,16 @@ use borrow.Author.Tests.{lt-ltb, le-ltb}
 use Rattle.value.specs.declared.Value.{Value}
 use Rattle.value.specs.Number.{in-range}
 use Rattle.value.specs.Worked.{value, encode-of, decode-of, span-of}
-use Rattle.value.specs.Laws.{decode-encode, offset-in-range}
+use Rattle.value.proofs.Theorems.Laws.{decode-encode, offset-in-range}
 use Rattle.automaton.specs.Listed.{length-list-of, getD-list-of}
 use Rattle.automaton.specs.Shape.{coordinates}
 use Rattle.automaton.specs.ShapeLaws.{Positive}
 use Rattle.program.specs.Syntax.{Range, no-range}
 use Rattle.semantics.specs.Places.{span, values-at, choice-at, choices}
-use Rattle.stepper.specs.PlacesLaws.{positive-of}
-use Rattle.stepper.specs.Cutting.{Counting, counting-start, counting-more}
-use Rattle.stepper.specs.Digits.{size-positive, size-small, coordinates-length, Digits, digits-start, digits-more, digits-done}
-use Rattle.places.specs.Vectors.{values-in, ends, loops-of, Spanned}
+use Rattle.stepper.proofs.Theorems.PlacesLaws.{positive-of}
+use Rattle.stepper.proofs.Theorems.Cutting.{Counting, counting-start, counting-more}
+use Rattle.stepper.proofs.Theorems.Digits.{size-positive, size-small, coordinates-length, Digits, digits-start, digits-more, digits-done}
+use Rattle.places.specs.Contracts.Vectors.{values-in, ends, loops-of, Spanned}
 
 -- ---- how many choices there are
 

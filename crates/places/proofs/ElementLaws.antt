@@ -18,7 +18,7 @@ use Rattle.program.specs.Syntax.{Index, fixed, moving}
 use Rattle.semantics.specs.Evaluation.{offset}
 use Rattle.semantics.specs.Stands.{Table, index-in, next-index, indices-in}
 use Rattle.semantics.specs.Places.{uses}
-use Rattle.places.specs.Vectors.{values-in, is-variable, used-word, Used}
+use Rattle.places.specs.Contracts.Vectors.{values-in, is-variable, used-word, Used}
 
 -- ---- one element
 

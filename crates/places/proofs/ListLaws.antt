@@ -12,15 +12,15 @@ use lib.ListN.{length, getD}
 use borrow.Author.Tests.{lt-ltb, le-ltb, le-leb, lt-leb, eq-eqb, not-false}
 use Rattle.value.specs.Worked.{encode-of, decode-of}
 use Rattle.value.specs.Number.{eqZ}
-use Rattle.value.specs.Laws.{encode-decode, eqZ-true}
+use Rattle.value.proofs.Theorems.Laws.{encode-decode, eqZ-true}
 use Rattle.automaton.specs.Listed.{list-of, length-list-of, getD-list-of, list-of-ext, last-or-below}
 use Rattle.automaton.specs.Grid.{differ}
-use Rattle.automaton.specs.GridLaws.{differ-false, differ-self}
+use Rattle.automaton.proofs.Theorems.GridLaws.{differ-false, differ-self}
 use Rattle.semantics.specs.Places.{has-place, add-place, add-places}
 use Rattle.stepper.specs.declared.Reach.{Reach}
-use Rattle.stepper.specs.Fitting.{place-at, place-list, places-of}
-use Rattle.places.specs.Vectors.{SetPlace}
-use Rattle.places.specs.Widening.{joined, Widens}
+use Rattle.stepper.specs.Contracts.Fitting.{place-at, place-list, places-of}
+use Rattle.places.specs.Contracts.Vectors.{SetPlace}
+use Rattle.places.specs.Contracts.Widening.{joined, Widens}
 use Rattle.places.proofs.VectorLaws.{place-same}
 
 -- ---- two words

@@ -21,9 +21,9 @@ use Rattle.semantics.specs.Evaluation.{offset, offsets}
 use Rattle.semantics.specs.Stands.{Table, rule-table, index-in, next-index, indices-in}
 use Rattle.semantics.specs.Places.{uses, used-range, used-ranges, choices, choice-at, vectors-of}
 use Rattle.stepper.specs.declared.Bounds.{Bounds}
-use Rattle.stepper.specs.Covering.{offsets-length}
-use Rattle.stepper.specs.Fitting.{place-at, place-list}
-use Rattle.places.specs.Vectors.{ends, loops-of, Used, SetPlace, SetPlaces, index-places, relative-at, IndexReach}
+use Rattle.stepper.proofs.Theorems.Covering.{offsets-length}
+use Rattle.stepper.specs.Contracts.Fitting.{place-at, place-list}
+use Rattle.places.specs.Contracts.Vectors.{ends, loops-of, Used, SetPlace, SetPlaces, index-places, relative-at, IndexReach}
 
 -- ---- one place of a list, word by word
 

@@ -1,3 +1,2 @@
 -- The places that relative indices can take. Vectors says what is made of one relative index, Widening what is made of a reach by it.
-pub mod Vectors
-pub mod Widening
+pub mod Contracts

@@ -8,8 +8,8 @@ ghost use Rattle.value.specs.Worked.{decode-of};
 ghost use Rattle.automaton.specs.Listed.{list-of};
 ghost use Rattle.automaton.specs.Grid.{differ};
 ghost use Rattle.semantics.specs.Places.{has-place, add-place, add-places};
-ghost use Rattle.stepper.specs.Fitting.{place-at, place-list};
-ghost use Rattle.places.specs.Vectors.{SetPlace};
+ghost use Rattle.stepper.specs.Contracts.Fitting.{place-at, place-list};
+ghost use Rattle.places.specs.Contracts.Vectors.{SetPlace};
 
 // Whether two words stand for different numbers.
 fn word_differs(x: u32, y: u32) -> bool

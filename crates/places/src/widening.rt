@@ -1,6 +1,6 @@
 // A reach widened by that of one relative index.
 ghost use Prim.Native.Nat.{_≤_};
-ghost use Rattle.places.specs.Widening.{Widens};
+ghost use Rattle.places.specs.Contracts.Widening.{Widens};
 use crate::listing::add_places;
 use stepper::Reach;
 

@@ -12,7 +12,7 @@ use Rattle.services.specs.Calls.{flat-names, Memory, lent}
 use Rattle.iteration.specs.declared.Report.{Report}
 use Rattle.band_run.specs.BandedRun.{BandedLeft}
 use Rattle.band_run.specs.Contracts.Running.{BandedLeaves, banded-lent}
-use Rattle.planned_run.specs.RunsBanded.{lent-listed, RunsBanded}
+use Rattle.planned_run.specs.Contracts.RunsBanded.{lent-listed, RunsBanded}
 
 -- the times as the machine reads them
 pub banded-of : {source sizes : List ℕ} {m : Memory ℕ} {values : List ℕ} {start steps : ℤ} {counted : Bool} {field held : ℕ} {plan : List ℕ} {room : List ℤ} {r : Report} {left : Memory ℕ} {room′ : List ℤ}

@@ -1,7 +1,7 @@
 // A full run by bands of rows, for a program: the plan for as many rows as can be held, and the run under this plan.
 ghost use mathlib.Core.Path.{_≡_};
 ghost use Rattle.services.specs.Calls.{memory};
-ghost use Rattle.planned_run.specs.RunsBanded.{lent-listed, RunsBanded};
+ghost use Rattle.planned_run.specs.Contracts.RunsBanded.{lent-listed, RunsBanded};
 use console::rooms;
 use console::shapes::entries_of_rows;
 use console::shapes::rows_of;

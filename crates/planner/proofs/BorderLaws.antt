@@ -18,7 +18,7 @@ use Rattle.program.specs.Syntax.{range}
 use Rattle.semantics.specs.Places.{most-places}
 use Rattle.stepper.specs.declared.Reach.{Reach}
 use Rattle.stepper.specs.Reach.{below, above, widen, reach-from}
-use Rattle.stepper.specs.Fitting.{bound-at, bounds-of, place-at, places-of}
+use Rattle.stepper.specs.Contracts.Fitting.{bound-at, bounds-of, place-at, places-of}
 use Rattle.bands.specs.Edge.{first-index, edge-of}
 use Rattle.bands.proofs.Theorems.EdgeTheorems.{edge-box}
 use Rattle.planner.specs.declared.borders.Border.{Border}

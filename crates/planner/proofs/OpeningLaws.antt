@@ -9,7 +9,7 @@ use lib.ListN.{length, getD, replicate}
 use lib.Dec.{eqb, leb}
 use lib.IntN.{ℤ}
 use borrow.Author.Tests.{eq-eqb, ne-eqb, eqb-true, le-leb, leb-true, not-true, not-false}
-use Rattle.value.specs.Laws.{never, and-both}
+use Rattle.value.proofs.Theorems.Laws.{never, and-both}
 use Rattle.automaton.specs.Shape.{Bound, product}
 use Rattle.program.specs.Syntax.{Program}
 use Rattle.grammar.specs.Complaint.{Complaint, complaint}
@@ -19,17 +19,17 @@ use Rattle.semantics.specs.Written.{relatives-in, written-of, written-in}
 use Rattle.semantics.specs.Places.{own-place, add-relatives, places}
 use Rattle.stepper.specs.Reach.{own-only, widened, box, reach-from, reach}
 use Rattle.stepper.specs.Admission.{Refusal, all-between, good-sizes}
-use Rattle.stepper.specs.Fitting.{bound-at, bounds-of}
+use Rattle.stepper.specs.Contracts.Fitting.{bound-at, bounds-of}
 use Rattle.checker.specs.declared.checking.Outline.{Outline}
-use Rattle.checker.specs.Promises.{Loads, Checks, is-accepted}
+use Rattle.checker.specs.Contracts.Promises.{Loads, Checks, is-accepted}
 use Rattle.indices.specs.declared.Survey.{Survey}
-use Rattle.indices.specs.Surveying.{Surveyed}
-use Rattle.admission.specs.Admitting.{cells-of}
+use Rattle.indices.specs.Contracts.Surveying.{Surveyed}
+use Rattle.admission.specs.Contracts.Admitting.{cells-of}
 use Rattle.admission.proofs.AdmissionLaws.{near-of}
 use Rattle.admission.proofs.RequestLaws.{some-cells, no-cells, positive}
-use Rattle.refusals.specs.Replies.{zero-accepts}
+use Rattle.refusals.proofs.Theorems.Replies.{zero-accepts}
 use Rattle.profile.specs.Contracts.Standing.{rule-in}
-use Rattle.loading.specs.Loaded.{Accepts}
+use Rattle.loading.specs.Contracts.Loaded.{Accepts}
 use Rattle.loading.proofs.Theorems.SourceLoaded.{accepts}
 use Rattle.bands.specs.Edge.{edge-of, edge}
 use Rattle.bands.specs.OnSizes.{no-grid, on-grid, on-sizes}

@@ -21,7 +21,7 @@ use Rattle.names.specs.declared.Entry.{Entry}
 use Rattle.names.specs.declared.Found.{Found}
 use Rattle.names.specs.declared.Found.the-variants.{At, Missing}
 use Rattle.names.specs.Names.{most-names, is-field, entry-at, entries-from, letters, find}
-use Rattle.names.specs.Finding.{found-of, Below}
+use Rattle.names.specs.Contracts.Finding.{found-of, Below}
 use Rattle.program.specs.Syntax.{Range, no-range}
 use Rattle.semantics.specs.declared.Rule.{Rule}
 use Rattle.semantics.specs.Stands.{word-in, range-in, rule-table, ranges-in}

@@ -8,7 +8,7 @@ use mathlib.Core.Option.{Option, none, some}
 use lib.ListN.{length}
 use borrow.Author.Tests.{not-true, not-false}
 use Rattle.value.specs.Choice.{if_then_else_}
-use Rattle.value.specs.Laws.{never}
+use Rattle.value.proofs.Theorems.Laws.{never}
 use Rattle.token.specs.Lexeme.{is-built-in}
 use Rattle.token.specs.Scanning.{scan}
 use Rattle.names.specs.Names.{name-words}
@@ -17,9 +17,9 @@ use Rattle.grammar.specs.Complaint.{Complaint, complaint, no-complaint}
 use Rattle.grammar.specs.Source.{Accepted}
 use Rattle.grammar.specs.Checking.{Outcome, turned-away, refused, accepted, rooms-fit, lent-fit, read-source, reply-of, check}
 use Rattle.semantics.specs.declared.Rule.{Rule}
-use Rattle.stepper.specs.Fitting.{Sized, held-fields}
+use Rattle.stepper.specs.Contracts.Fitting.{Sized, held-fields}
 use Rattle.checker.specs.declared.checking.Outline.{Outline}
-use Rattle.checker.specs.Promises.{is-accepted, accepted-by, Loads, Checks}
+use Rattle.checker.specs.Contracts.Promises.{is-accepted, accepted-by, Loads, Checks}
 use Rattle.checker.proofs.Checks.{unlisted, list-right}
 use Rattle.one_move.specs.Profile.{moved-slot, flag-in, flag-field, tokens-in, tokens-of, statements-at, moves-once, if-moves, profile-flag, flag-told, rule-missed, missed, answer-of, one-move}
 use Rattle.one_move.proofs.Theorems.InProfile.{flag-found}

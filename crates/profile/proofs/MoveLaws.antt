@@ -10,7 +10,7 @@ use lib.Seq.{drop-cons}
 use lib.Dec.{eqb, ltb}
 use borrow.Author.Tests.{eq-eqb, ne-eqb, eqb-true, not-true, not-false, ltb-false}
 use Rattle.value.specs.Choice.{if_then_else_}
-use Rattle.value.specs.Laws.{never}
+use Rattle.value.proofs.Theorems.Laws.{never}
 use Rattle.token.specs.Kind.{kind}
 use Rattle.semantics.specs.Stands.{Table, word-in, linked, table-of, begins}
 use Rattle.operands.proofs.TableLaws.{token, link-bounds}

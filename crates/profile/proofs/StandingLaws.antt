@@ -10,11 +10,11 @@ use Rattle.grammar.specs.Source.{Accepted}
 use Rattle.grammar.specs.Checking.{Outcome, accepted, rooms-fit, read-source, room-left, words-after, names-after}
 use Rattle.semantics.specs.declared.Rule.{Rule}
 use Rattle.semantics.specs.Stands.{Holds}
-use Rattle.linking.specs.Linking.{Linked, linking}
-use Rattle.linking.specs.Accepted.{Parsed, holds}
-use Rattle.stepper.specs.Fitting.{Sized}
+use Rattle.linking.proofs.Theorems.Linking.{Linked, linking}
+use Rattle.linking.proofs.Theorems.Accepted.{Parsed, holds}
+use Rattle.stepper.specs.Contracts.Fitting.{Sized}
 use Rattle.checker.specs.declared.checking.Outline.{Outline}
-use Rattle.checker.specs.Promises.{Trace, Outlines, accepted-by, Loads, Checks}
+use Rattle.checker.specs.Contracts.Promises.{Trace, Outlines, accepted-by, Loads, Checks}
 use Rattle.one_move.proofs.Theorems.InProfile.{head-at}
 use Rattle.profile.specs.Contracts.Standing.{rule-in, Stood}
 

@@ -4,7 +4,7 @@ ghost use Prim.Native.Nat.{_*_, _<_, _≤_};
 ghost use lib.ListN.{length};
 ghost use Rattle.token.specs.Bytes.{as-bytes, same};
 ghost use Rattle.names.specs.Names.{most-names, name-words, letters};
-ghost use Rattle.stepper.specs.Fitting.{Sized};
+ghost use Rattle.stepper.specs.Contracts.Fitting.{Sized};
 ghost use Rattle.profile.specs.Contracts.Fields.{NamesMoved, MovedSlot, IsFlag, FlagField};
 use names::Found;
 use names::entry_in;

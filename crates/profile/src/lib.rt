@@ -3,7 +3,7 @@ ghost use mathlib.Core.Path.{_≡_};
 ghost use lib.ListN.{length};
 ghost use Rattle.names.specs.Names.{name-words};
 ghost use Rattle.grammar.specs.Checking.{rooms-fit, lent-fit};
-ghost use Rattle.stepper.specs.Fitting.{Sized};
+ghost use Rattle.stepper.specs.Contracts.Fitting.{Sized};
 ghost use Rattle.profile.specs.Contracts.Standing.{rule-in};
 ghost use Rattle.profile.specs.Contracts.Flags.{FlagOf, RuleMissed, CheckOneMove};
 

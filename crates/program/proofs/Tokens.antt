@@ -9,7 +9,7 @@ use borrow.Author.Tests.{lt-ltb, le-ltb}
 use Rattle.token.specs.declared.Scan.{Scan}
 use Rattle.token.specs.Scanning.{most-tokens, table-words, token-at, stop-of, token-in, kind-in}
 use Rattle.program.specs.Table.{word-at, with-word}
-use Rattle.program.specs.Standing.{Stands}
+use Rattle.program.specs.Contracts.Standing.{Stands}
 
 module _ (words : List ℕ) (scan : Scan) (i : ℕ) where
   pub stands-inside : i < scan .count → Stands words scan i (token-at words i)

@@ -4,7 +4,7 @@ ghost use Prim.Native.Nat.{_<_, _≤_};
 ghost use lib.ListN.{length};
 ghost use Rattle.token.specs.Scanning.{most-tokens, table-words, kind-in};
 ghost use Rattle.program.specs.Table.{word-at, with-word};
-ghost use Rattle.program.specs.Standing.{Stands};
+ghost use Rattle.program.specs.Contracts.Standing.{Stands};
 use token::Scan;
 use token::Token;
 use token::kind;

@@ -4,7 +4,7 @@ use native.Mathlib.Omega.{arith}
 use mathlib.Core.Path.{_≡_, subst, _∙_}
 use Rattle.token.specs.declared.Scan.{Scan}
 use Rattle.names.specs.Names.{most-names}
-use Rattle.reader.specs.Reading.{Goes, Onward, Ready}
+use Rattle.reader.specs.Contracts.Reading.{Goes, Onward, Ready}
 use Rattle.reader.specs.declared.Reading.{Reading}
 use Rattle.reader.specs.declared.Read.{Read}
 use Rattle.reader.specs.declared.Read.the-variants.{Next, Refused}

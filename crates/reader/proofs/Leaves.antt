@@ -9,10 +9,10 @@ use borrow.Author.Tests.{eqb-true, eq-eqb, ne-eqb, lt-ltb, le-ltb, le-leb, lt-le
 use Rattle.token.specs.declared.Scan.{Scan}
 use Rattle.token.specs.declared.Token.{Token}
 use Rattle.names.specs.declared.Entry.{Entry}
-use Rattle.program.specs.Standing.{Stands}
+use Rattle.program.specs.Contracts.Standing.{Stands}
 use Rattle.grammar.specs.Complaint.{Complaint, complaint, rank, first-number, before, first-of, broken}
 use Rattle.grammar.specs.Reader.{expect-or, forbid, opening, is-name}
-use Rattle.reader.specs.Reading.{anything, noted-in, Passes, first-refused, refusal, Moved, Released, note-of, noted-of, Noted, Named}
+use Rattle.reader.specs.Contracts.Reading.{anything, noted-in, Passes, first-refused, refusal, Moved, Released, note-of, noted-of, Noted, Named}
 use Rattle.reader.specs.declared.Reading.{Reading}
 use Rattle.reader.specs.declared.Read.{Read}
 use Rattle.reader.specs.declared.Read.the-variants.{Next, Refused}

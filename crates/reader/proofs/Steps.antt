@@ -13,11 +13,11 @@ use Rattle.names.specs.declared.Entry.{Entry}
 use Rattle.names.specs.declared.Found.{Found}
 use Rattle.names.specs.declared.Found.the-variants.{At, Missing}
 use Rattle.names.specs.Names.{entry-at, without-entry, find-name}
-use Rattle.names.specs.Finding.{found-of, Below, Finds}
+use Rattle.names.specs.Contracts.Finding.{found-of, Below, Finds}
 use Rattle.program.specs.Table.{with-word}
-use Rattle.program.specs.Standing.{Stands}
+use Rattle.program.specs.Contracts.Standing.{Stands}
 use Rattle.grammar.specs.Reader.{Result, ok, fail, Input, State, Reader, and-then, _>>=_, _▷_, return, unit, get-state, refuse, refuse-last, note, next-token, kind-after, position, advance, put, on-slot, by-name, entry-in, declare, release, use-name}
-use Rattle.reader.specs.Reading.{input, state, exactly, anything, word, only, Told, Gives, refusal, moved-of, Moved, Carries, Noted, released-of, Released, declared-of, Declares, Uses}
+use Rattle.reader.specs.Contracts.Reading.{input, state, exactly, anything, word, only, Told, Gives, refusal, moved-of, Moved, Carries, Noted, released-of, Released, declared-of, Declares, Uses}
 use Rattle.reader.specs.declared.Reading.{Reading}
 use Rattle.reader.specs.declared.Read.{Read}
 use Rattle.reader.specs.declared.Read.the-variants.{Next, Refused}

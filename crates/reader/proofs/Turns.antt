@@ -5,7 +5,7 @@ use mathlib.Core.Path.{_≡_, refl, ap, _∙_}
 use mathlib.Core.List.{List}
 use Rattle.token.specs.declared.Scan.{Scan}
 use Rattle.grammar.specs.Reader.{ok, Reader, _>>=_, Turn, again, done, turned, repeat, turns}
-use Rattle.reader.specs.Reading.{input, state, anything, once-more, at-end, Gives}
+use Rattle.reader.specs.Contracts.Reading.{input, state, anything, once-more, at-end, Gives}
 use Rattle.reader.specs.declared.Reading.{Reading}
 use Rattle.reader.specs.declared.Read.{Read}
 use Rattle.reader.specs.declared.Read.the-variants.{Next, Refused}

@@ -6,7 +6,7 @@ ghost use Rattle.token.specs.Scanning.{most-tokens, table-words};
 ghost use Rattle.names.specs.Names.{most-names, name-words};
 ghost use Rattle.grammar.specs.Complaint.{complaint, rank, broken};
 ghost use Rattle.grammar.specs.Reader.{expect-or, forbid, opening, fresh};
-ghost use Rattle.reader.specs.Reading.{anything, passed, Ready, Reads, Passes, first-refused, refusal, Moved, Carries, Noted, Named, Declares, Released, Uses};
+ghost use Rattle.reader.specs.Contracts.Reading.{anything, passed, Ready, Reads, Passes, first-refused, refusal, Moved, Carries, Noted, Named, Declares, Released, Uses};
 use names::Entry;
 use names::Found;
 use names::find_name;

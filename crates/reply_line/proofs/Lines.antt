@@ -13,7 +13,7 @@ use borrow.Author.Tests.{eq-eqb, ne-eqb, lt-ltb, le-ltb, ltb-true, ltb-false}
 use Rattle.token.specs.Bytes.{as-bytes}
 use Rattle.grammar.specs.Complaint.{complaint}
 use Rattle.grammar.specs.Answer.{digits-of, answer-line}
-use Rattle.reply_line.specs.Line.{item, refused-text, spelled-line, Wrote, Digits, Says}
+use Rattle.reply_line.specs.Contracts.Line.{item, refused-text, spelled-line, Wrote, Digits, Says}
 
 -- one text behind another
 pub and-then : {old new last a b : List ℕ} {at m r : ℕ} → Wrote old at a new m → Wrote new m b last r → Wrote old at (a ++ b) last r

@@ -5,7 +5,7 @@ ghost use Prim.Native.Nat.{_+_, _<_, _≤_};
 ghost use lib.ListN.{length};
 ghost use Rattle.grammar.specs.Complaint.{complaint};
 ghost use Rattle.grammar.specs.Answer.{answer-line};
-ghost use Rattle.reply_line.specs.Line.{item, refused-text, spelled-line, Wrote, Digits, Says};
+ghost use Rattle.reply_line.specs.Contracts.Line.{item, refused-text, spelled-line, Wrote, Digits, Says};
 
 // Writes a byte at a position, and gives the position behind it.
 fn put_byte(line: &mut [u8], at: usize, b: u8) -> usize

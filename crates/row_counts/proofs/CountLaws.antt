@@ -15,10 +15,10 @@ use Rattle.automaton.specs.Step.{how-many}
 use Rattle.automaton.specs.Shape.{product}
 use Rattle.automaton.specs.ShapeLaws.{Positive, product-pos}
 use Rattle.automaton.specs.Grid.{cell-of}
-use Rattle.automaton.specs.GridLaws.{cell-room}
-use Rattle.automaton.specs.Quiet.{how-many-ext, how-many-le, bit-le}
+use Rattle.automaton.proofs.Theorems.GridLaws.{cell-room}
+use Rattle.automaton.proofs.Theorems.Quiet.{how-many-ext, how-many-le, bit-le}
 use Rattle.automaton.specs.Rows.{has-zero, counts-by, row-counts}
-use Rattle.automaton.specs.RowLaws.{bit}
+use Rattle.automaton.proofs.Theorems.RowLaws.{bit}
 use Rattle.marked_cells.proofs.PartLaws.{entry-before}
 use Rattle.row_counts.specs.Contracts.Counting.{row-size, zero-bit, Divisible, RowCountable, Countable}
 

@@ -12,10 +12,10 @@ use lib.IntN.{ℤ}
 use borrow.Author.Tests.{eq-eqb, ne-eqb}
 use Rattle.automaton.specs.Listed.{length-list-of}
 use Rattle.automaton.specs.Step.{how-many, marked}
-use Rattle.automaton.specs.Quiet.{how-many-le}
+use Rattle.automaton.proofs.Theorems.Quiet.{how-many-le}
 use Rattle.automaton.specs.Rows.{has-zero, counts-by, row-counts}
-use Rattle.automaton.specs.RowLaws.{bit, count-at, counts-one}
-use Rattle.marked_cells.specs.Marked.{NextMarked}
+use Rattle.automaton.proofs.Theorems.RowLaws.{bit, count-at, counts-one}
+use Rattle.marked_cells.specs.Contracts.Marked.{NextMarked}
 use Rattle.marked_cells.proofs.ScanLaws.{below-or}
 use Rattle.row_counts.specs.Contracts.Counting.{row-size, zero-bit, Divisible, NotBefore, CellCountable, Movable}
 use Rattle.row_counts.proofs.CountLaws.{counts-are, by-rows, Rowed, rowed, entry-room, row-few, bit-counted, counts-ext, has-same}

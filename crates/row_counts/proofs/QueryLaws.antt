@@ -10,7 +10,7 @@ use mathlib.Core.Option.{Option, none, some}
 use lib.ListN.{length, getD}
 use lib.Dec.{ltb, leb}
 use borrow.Author.Tests.{lt-ltb, le-leb, lt-leb, ltb-true, leb-true}
-use Rattle.value.specs.Laws.{and-both}
+use Rattle.value.proofs.Theorems.Laws.{and-both}
 use Rattle.automaton.specs.Listed.{last-or-below}
 use Rattle.automaton.specs.Step.{non-zero}
 use Rattle.automaton.specs.Rows.{in-rows, or-later, lowest, first-row}

@@ -9,7 +9,7 @@ use mathlib.Core.List.{List}
 use lib.ListN.{length, getD}
 use Rattle.automaton.specs.Listed.{last-or-below}
 use Rattle.automaton.specs.Step.{non-zero, marked}
-use Rattle.marked_cells.specs.Marked.{NextMarked}
+use Rattle.marked_cells.specs.Contracts.Marked.{NextMarked}
 use Rattle.marked_cells.proofs.ScanLaws.{below-or, Scanned}
 use Rattle.row_counts.specs.Contracts.Skipping.{SumOf}
 

@@ -2,7 +2,7 @@
 ghost use mathlib.Core.Path.{_≡_};
 ghost use Prim.Native.Nat.{_+_, _≤_};
 ghost use lib.ListN.{length};
-ghost use Rattle.marked_cells.specs.Marked.{NextMarked};
+ghost use Rattle.marked_cells.specs.Contracts.Marked.{NextMarked};
 ghost use Rattle.row_counts.specs.Contracts.Skipping.{SumOf};
 use marked_cells::scan::next_marked;
 

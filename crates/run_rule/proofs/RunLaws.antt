@@ -13,11 +13,11 @@ use Rattle.services.specs.Running.{Asked}
 use Rattle.services.specs.Services.{run-source, marks-after, counts-after}
 use Rattle.services.specs.Calls.{NameForm, Memory, memory, Lent, lent, fits, asked, run-left}
 use Rattle.iteration.specs.declared.Report.{Report}
-use Rattle.runner.specs.Sourcewise.{RunLeaves}
+use Rattle.runner.specs.Contracts.Sourcewise.{RunLeaves}
 use Rattle.runner.proofs.RunLaws.{left-report, the-list, read-times}
 use Rattle.records.specs.declared.Name.{Name}
 use Rattle.cellang.specs.Left.{rows-fit, row-names}
-use Rattle.run_rule.specs.Runs.{asked-of, Runs}
+use Rattle.run_rule.specs.Contracts.Runs.{asked-of, Runs}
 
 fit : {words names : ℕ} → 16384 ≡ words → 256 ≡ names → rows-fit words names ≡ true
 unfolding rows-fit

@@ -6,8 +6,8 @@
 // 0 in a field. Where an argument or a file cannot be taken it says so on standard error, and writes nothing else.
 ghost use mathlib.Core.Path.{_≡_};
 ghost use lib.ListN.{length};
-ghost use Rattle.runner.specs.Sourcewise.{manner-of};
-ghost use Rattle.run_rule.specs.Runs.{Runs};
+ghost use Rattle.runner.specs.Contracts.Sourcewise.{manner-of};
+ghost use Rattle.run_rule.specs.Contracts.Runs.{Runs};
 
 mod arguments;
 mod banded;

@@ -13,7 +13,7 @@ use mir.Syntax.{w32, w64}
 use mir.Val.{Fits, SFits, toZ, ofZ}
 use mir.Facts.{toZ-ofZ}
 use borrow.Author.Tests.{not-true, not-false, ne-eqb, le-ltb, lt-ltb}
-use Rattle.value.specs.Laws.{never}
+use Rattle.value.proofs.Theorems.Laws.{never}
 use Rattle.names.specs.Names.{name-words}
 use Rattle.program.specs.Syntax.{Program}
 use Rattle.grammar.specs.Complaint.{Complaint, complaint}
@@ -23,29 +23,29 @@ use Rattle.semantics.specs.declared.Rule.{Rule}
 use Rattle.semantics.specs.Written.{relatives-in}
 use Rattle.stepper.specs.Admission.{Request, Refusal, refusal, admission}
 use Rattle.stepper.specs.Report.{Manner, refused}
-use Rattle.stepper.specs.Fitting.{Sized, Shaped, held-fields}
+use Rattle.stepper.specs.Contracts.Fitting.{Sized, Shaped, held-fields}
 use Rattle.one_move.specs.Profile.{profile-flag}
 use Rattle.lists.specs.ListChecking.{Turned, Verdict, verdict, limits-of, check-list}
 use Rattle.list_reader.specs.declared.checking.Verdict as judged
-use Rattle.list_reader.specs.Places.{Dimensions}
-use Rattle.list_reader.specs.Values.{fields-in}
-use Rattle.list_reader.specs.Checks.{limits, Checks as ChecksList}
+use Rattle.list_reader.specs.Contracts.Places.{Dimensions}
+use Rattle.list_reader.specs.Contracts.Values.{fields-in}
+use Rattle.list_reader.specs.Contracts.Checks.{limits, Checks as ChecksList}
 use Rattle.list_reader.proofs.CursorLaws.{verdict-is, dimensions-are}
 use Rattle.services.specs.Running.{CountsAsked, counts-of, Asked, ask, good-counts, admitted}
-use Rattle.services.specs.RunningLaws.{turned, list-decides, counts-refused, refused-first, list-passes, run-refused}
+use Rattle.services.proofs.Theorems.RunningLaws.{turned, list-decides, counts-refused, refused-first, list-passes, run-refused}
 use Rattle.services.specs.Services.{run-begins, run-read, run-source}
 use Rattle.checker.specs.declared.checking.Outline.{Outline}
-use Rattle.checker.specs.Promises.{Loads, Checks, is-accepted}
+use Rattle.checker.specs.Contracts.Promises.{Loads, Checks, is-accepted}
 use Rattle.profile.specs.Contracts.Standing.{rule-in}
 use Rattle.profile.specs.Contracts.Flags.{FlagOf}
 use Rattle.profile.proofs.StandingLaws.{sized}
-use Rattle.loading.specs.Loaded.{Accepts}
+use Rattle.loading.specs.Contracts.Loaded.{Accepts}
 use Rattle.loading.proofs.Theorems.SourceLoaded.{accepts}
 use Rattle.admission.proofs.RequestLaws.{cast-in}
 use Rattle.admission.specs.declared.admitting.Admitted.{Admitted}
-use Rattle.admission.specs.Admitting.{request-of, Admits}
+use Rattle.admission.specs.Contracts.Admitting.{request-of, Admits}
 use Rattle.runner.specs.declared.opening.Opening.{Opening}
-use Rattle.runner.specs.Sourcewise.{counts-right, Opens}
+use Rattle.runner.specs.Contracts.Sourcewise.{counts-right, Opens}
 
 -- ---- an accepted source
 

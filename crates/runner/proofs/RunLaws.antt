@@ -14,12 +14,12 @@ use mir.Val.{Fits, SFits, toZ, ofZ}
 use mir.Facts.{toZ-ofZ}
 use borrow.Author.Tests.{eq-eqb, eqb-true, ltb-true, not-true, not-false}
 use Rattle.value.specs.Choice.{if_then_else_}
-use Rattle.value.specs.Laws.{never, and-both}
+use Rattle.value.proofs.Theorems.Laws.{never, and-both}
 use Rattle.automaton.specs.Rows.{row-counts}
 use Rattle.automaton.specs.Step.{Quiet as Gives, Run, Blocks, every-cell, run-of, open-count, full-count, quiet-run}
-use Rattle.automaton.specs.Quiet.{Lawful, quiet-agrees}
+use Rattle.automaton.proofs.Theorems.Quiet.{Lawful, quiet-agrees}
 use Rattle.automaton.specs.Grid.{automaton}
-use Rattle.automaton.specs.Going.{always-open, full-run}
+use Rattle.automaton.proofs.Theorems.Going.{always-open, full-run}
 use Rattle.program.specs.Syntax.{Program}
 use Rattle.token.specs.Bytes.{same as same-bytes}
 use Rattle.token.specs.Lexeme.{built-in-names, is-built-in}
@@ -31,26 +31,28 @@ use Rattle.semantics.specs.Written.{relatives-in, written-in}
 use Rattle.semantics.specs.Places.{places}
 use Rattle.stepper.specs.declared.Reach.{Reach}
 use Rattle.stepper.specs.Reach.{box, reach, running}
-use Rattle.stepper.specs.Covering.{running-lawful}
+use Rattle.stepper.proofs.Theorems.Covering.{running-lawful}
 use Rattle.stepper.specs.Report as report
 use Rattle.stepper.specs.Report.{Manner, full, quiet, ended}
-use Rattle.stepper.specs.Fitting.{held-fields}
+use Rattle.stepper.specs.Contracts.Fitting.{held-fields}
 use Rattle.lists.specs.Setting.{set-block}
 use Rattle.one_move.specs.Profile.{profile-flag}
 use Rattle.services.specs.Running.{counts-of, Asked, good-counts, admitted, blocks, report-of, standing}
-use Rattle.services.specs.RunningLaws.{run-admitted, counts-admitted as counts-admits}
+use Rattle.services.proofs.Theorems.RunningLaws.{run-admitted, counts-admitted as counts-admits}
 use Rattle.services.specs.Services.{run-begins, run-read, run-source, room-after, marks-admitted, marks-read, marks-after, counts-admitted, counts-read, counts-after}
 use Rattle.services.specs.Calls.{NameForm, flat-names, Memory, memory, Lent, lent, fits, asked, read-lent, run-report, names-left, run-left}
-use Rattle.services.specs.RangesKept.{RangesKept, grid-in-ranges}
+use Rattle.services.specs.RangesKept.{RangesKept}
+use Rattle.services.proofs.Theorems.GridInRanges.{grid-in-ranges}
 use Rattle.iteration.specs.declared.Report.{Report}
 use Rattle.iteration.specs.declared.Manner.{Manner as Way}
 use Rattle.iteration.specs.declared.Manner.the-variants.{Full, Quiet, Pausing, Resuming}
 use Rattle.runner.specs.declared.opening.Opening.{Opening}
-use Rattle.iteration.specs.Stepwise.{pending-in, Begins, blocks-in, Runs, told, steps-give, report-in, Ran}
-use Rattle.iteration.specs.Countwise.{CountsFit, Filled, Tallied}
+use Rattle.iteration.specs.Contracts.Stepwise.{pending-in, Begins, blocks-in, Runs, told, steps-give, report-in, Ran}
+use Rattle.iteration.specs.Contracts.Countwise.{CountsFit, Filled, Tallied}
 use Rattle.iteration.proofs.StepwiseLaws.{runs-sound}
-use Rattle.runner.specs.Sourcewise.{manner-of, every-step, is-resumed, marks-left, Begun, Opens, RunLeaves, RunsListed}
-use Rattle.runner.specs.Property3.{Agree, AgreesFresh, same, property-3, paused-agrees}
+use Rattle.runner.specs.Contracts.Sourcewise.{manner-of, every-step, is-resumed, marks-left, Begun, Opens, RunLeaves, RunsListed}
+use Rattle.runner.specs.Contracts.Agreement.{Agree, AgreesFresh}
+use Rattle.runner.proofs.Theorems.Property3.{same, property-3, paused-agrees}
 use Rattle.admission.proofs.RequestLaws.{cast-in}
 
 -- ---- a full run: every cell is open in each step, as if `time` stood in the source

@@ -1,3 +1,2 @@
 -- A run of a source, and property 3.
-pub mod Sourcewise
-pub mod Property3
+pub mod Contracts

@@ -1,11 +1,9 @@
 -- What evaluating one cell gives. Read in this order.
 pub mod Operators
 pub mod Evaluation
-pub mod Kept
 pub mod Written
 pub mod Places
 -- Which faults an operator gives.
-pub mod FaultLaws
 -- What it is for a program to stand in the word table, and what its leaf table is.
 pub mod Stands
 pub mod Leaves

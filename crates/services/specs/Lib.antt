@@ -2,8 +2,4 @@
 pub mod Running
 pub mod Services
 pub mod Calls
-pub mod RunningLaws
-pub mod AcceptedSources
 pub mod RangesKept
-pub mod Cases
-pub mod Examples

@@ -13,7 +13,7 @@ use Rattle.value.specs.Choice.{if_then_else_}
 use Rattle.token.specs.Bytes.{same}
 use Rattle.token.specs.Lexeme.{built-in-names, read-token}
 use Rattle.token.specs.declared.Lexed.{Lexed}
-use Rattle.token.specs.Promises as token
+use Rattle.token.specs.Contracts.Promises as token
 use Rattle.spelling.specs.declared.Part.{Part}
 use Rattle.spelling.specs.Spelling.{names-token, part, token-part, part-at, part-entries, told-entries, taken, spelling-of, Parts}
 

@@ -64,7 +64,7 @@ fn token_part(k: u32, len: usize, place: usize) -> Part
 }
 
 // Where the spelling of a reply stands, within the source or the built-in list.
-pub fn part_at(source: &[u8], number: u32, place: u32) -> Part
+fn part_at(source: &[u8], number: u32, place: u32) -> Part
     ensures { λ r. ⌜ Parts (now (source .entry)) number place r ⌝ }
 {
     let at = place as usize;

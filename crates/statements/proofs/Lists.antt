@@ -11,13 +11,13 @@ use Rattle.grammar.specs.Reader.{Reader, _>>=_, _>>_, _▷_, return, Turn, agai
 use Rattle.grammar.specs.Constants.{read-declaration}
 use Rattle.grammar.specs.Expressions.{Cell, read-expression}
 use Rattle.grammar.specs.Statements.{read-assignment, Arm, arm-turn, read-if, statement-turn, read-block}
-use Rattle.reader.specs.Reading.{input, state, anything, Told, Goes, Gives, Onward, Reads, refusal}
+use Rattle.reader.specs.Contracts.Reading.{input, state, anything, Told, Goes, Gives, Onward, Reads, refusal}
 use Rattle.reader.specs.declared.Reading.{Reading}
 use Rattle.reader.specs.declared.Read.{Read}
 use Rattle.reader.specs.declared.Read.the-variants.{Next, Refused}
 use Rattle.reader.proofs.Steps.{went-on, made, refused}
 use Rattle.reader.proofs.Turns.{Turning, turn-first}
-use Rattle.statements.specs.Promises.{once, ends, whatever, arms-in, parts-of, list-in, if-with}
+use Rattle.statements.specs.Contracts.Promises.{once, ends, whatever, arms-in, parts-of, list-in, if-with}
 
 -- ---- statements of a list
 

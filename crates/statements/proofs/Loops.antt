@@ -13,11 +13,11 @@ use Rattle.grammar.specs.Reader.{Result, ok, fail, Input, State, Reader, and-th
 use Rattle.grammar.specs.Constants.{read-range}
 use Rattle.grammar.specs.Expressions.{Cell}
 use Rattle.grammar.specs.Statements.{read-forall, read-block}
-use Rattle.reader.specs.Reading.{input, state, anything, Gives, refusal}
+use Rattle.reader.specs.Contracts.Reading.{input, state, anything, Gives, refusal}
 use Rattle.reader.specs.declared.Reading.{Reading}
 use Rattle.reader.specs.declared.Read.{Read}
 use Rattle.reader.proofs.Steps.{by-another, off, here, refused}
-use Rattle.statements.specs.Promises.{loop-range, loop-head, loop-end, parts-of, forall-with}
+use Rattle.statements.specs.Contracts.Promises.{loop-range, loop-head, loop-end, parts-of, forall-with}
 
 module _ {A B : Type 0} (m : Reader A) (i : Input) (s : State) where
   regroup : {C : Type 0} (f : A → Reader B) (g : B → Reader C) → ((m >>= f) >>= g) i s ≡ (m >>= λ a. f a >>= g) i s

@@ -13,13 +13,13 @@ use Rattle.program.specs.Syntax.{Clause}
 use Rattle.program.specs.Table.{with-word}
 use Rattle.grammar.specs.Reader.{ok, Reader, return, put}
 use Rattle.grammar.specs.Expressions.{read-expression}
-use Rattle.reader.specs.Reading.{state, anything, word, Gives, Reads, Carries}
+use Rattle.reader.specs.Contracts.Reading.{state, anything, word, Gives, Reads, Carries}
 use Rattle.reader.specs.declared.Reading.{Reading}
 use Rattle.reader.specs.declared.Read.{Read}
 use Rattle.reader.specs.declared.Read.the-variants.{Next}
 use Rattle.reader.proofs.Steps.{went-on, told-as, put-in}
 use Rattle.expressions.specs.declared.Cell.{Cell}
-use Rattle.expressions.specs.Promises.{cell-of, slot-in, Climbs}
+use Rattle.expressions.specs.Contracts.Promises.{cell-of, slot-in, Climbs}
 
 -- an expression of any operators
 pub expression : {cell : Cell} {room : ℕ} {source : List ℕ} {sc : Scan} {s : Reading} {ns ws : List ℕ} {r : Read} {ws₁ : List ℕ} → Climbs cell 1 room source sc s ns ws r ws₁ → Reads anything (read-expression (cell-of cell) room) source sc (s .count) s ns ws r ns ws₁

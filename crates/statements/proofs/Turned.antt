@@ -4,12 +4,12 @@ use mathlib.Core.Path.{_≡_}
 use mathlib.Core.List.{List}
 use Rattle.token.specs.declared.Scan.{Scan}
 use Rattle.grammar.specs.Reader.{ok, Reader, Turn, again, done}
-use Rattle.reader.specs.Reading.{input, state, anything, once-more, at-end, Gives}
+use Rattle.reader.specs.Contracts.Reading.{input, state, anything, once-more, at-end, Gives}
 use Rattle.reader.specs.declared.Reading.{Reading}
 use Rattle.reader.specs.declared.Read.{Read}
 use Rattle.reader.specs.declared.Read.the-variants.{Next}
 use Rattle.reader.proofs.Steps.{went-on}
-use Rattle.statements.specs.Promises.{TurnIn, once, ends}
+use Rattle.statements.specs.Contracts.Promises.{TurnIn, once, ends}
 
 module _ {S T : Type 0} {A : S → Reading → Type 0} {D : Reading → Type 0} {m : Reader (Turn S T)} {source : List ℕ} {sc : Scan} {s t : Reading} {ns ws ns₁ ws₁ : List ℕ} {r : Read} (x : Gives (TurnIn A D) m source sc s ns ws r ns₁ ws₁) (e : r ≡ Next t) where
   -- a turn that is not the last

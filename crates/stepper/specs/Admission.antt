@@ -21,6 +21,10 @@ pub record Request : Type 0 where
   pub scratch : ℕ
   pub marks : ℕ
 
+-- what was asked of a run, with another grid
+abbrev pub on-grid : Request → List ℤ → Request
+on-grid q g = record { sizes = q .sizes; grid = g; start = q .start; steps = q .steps; scratch = q .scratch; marks = q .marks }
+
 -- a refusal's number and place; number 0: admitted
 pub record Refusal : Type 0 where
   pub number : ℕ

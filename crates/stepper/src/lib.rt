@@ -1,7 +1,7 @@
 // Runs of a program on a grid: the definitions, and the reach as a record.
 ghost use mathlib.Core.Path.{_≡_};
 ghost use Prim.Native.Nat.{_*_, _≤_, min};
-ghost use Rattle.stepper.specs.Fitting.{OwnOnly};
+ghost use Rattle.stepper.specs.Contracts.Fitting.{OwnOnly};
 
 // A box, for each of up to three dimensions: how far the lowest index that is written lies below 0, and the highest above it.
 pub struct Bounds {

@@ -10,21 +10,21 @@ use lib.ListN.{length}
 use lib.IntN.{ℤ}
 use Rattle.automaton.specs.Listed.{last-or-below}
 use Rattle.automaton.specs.Step.{Outcome, state, fault, Fault, no-fault, fault-at, fault-of, or-else, first-fault, how-many, marked, up-to, quiet-outcome, quiet-step}
-use Rattle.automaton.specs.Quiet.{first-fault-here, how-many-le}
+use Rattle.automaton.proofs.Theorems.Quiet.{first-fault-here, how-many-le}
 use Rattle.automaton.specs.Shape.{product}
 use Rattle.automaton.specs.Grid.{cell-of, automaton}
-use Rattle.automaton.specs.GridLaws.{cell-room}
+use Rattle.automaton.proofs.Theorems.GridLaws.{cell-room}
 use Rattle.program.specs.Syntax.{Program}
 use Rattle.semantics.specs.declared.Rule.{Rule}
 use Rattle.semantics.specs.Stands.{Holds}
 use Rattle.stepper.specs.Reach.{running}
-use Rattle.stepper.specs.Fitting.{held-fields}
+use Rattle.stepper.specs.Contracts.Fitting.{held-fields}
 use Rattle.stepping.specs.declared.Evaluation.the-variants as Gave
 use Rattle.stepping.specs.declared.Step.the-variants as Gives
 use Rattle.stepping.specs.declared.Evaluation.{Evaluation}
-use Rattle.stepping.specs.Stepping.{Ready}
-use Rattle.marked_cells.specs.Marked.{NextMarked, Placed}
-use Rattle.stepping.specs.Turns.{given, outcome-in, count-after, Turning, Turned, FilledFor}
+use Rattle.stepping.specs.Contracts.Stepping.{Ready}
+use Rattle.marked_cells.specs.Contracts.Marked.{NextMarked, Placed}
+use Rattle.stepping.specs.Contracts.Turns.{given, outcome-in, count-after, Turning, Turned, FilledFor}
 use Rattle.marked_cells.proofs.ScanLaws.{below-or}
 use Rattle.stepping.proofs.TurnLaws.{roomed}
 

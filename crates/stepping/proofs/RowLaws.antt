@@ -11,23 +11,23 @@ use lib.Seq.{length-take-le}
 use lib.IntN.{ℤ}
 use Rattle.automaton.specs.Listed.{last-or-below}
 use Rattle.automaton.specs.Step.{Outcome, state, fault, Fault, no-fault, fault-at, state-or, first-fault}
-use Rattle.automaton.specs.Quiet.{first-fault-here}
+use Rattle.automaton.proofs.Theorems.Quiet.{first-fault-here}
 use Rattle.automaton.specs.Shape.{product}
 use Rattle.automaton.specs.Grid.{cell-of}
-use Rattle.automaton.specs.GridLaws.{cell-room}
+use Rattle.automaton.proofs.Theorems.GridLaws.{cell-room}
 use Rattle.automaton.specs.Bands.{reached, next-rows, part-step, band-outcome, band-step}
 use Rattle.program.specs.Syntax.{Program}
 use Rattle.semantics.specs.declared.Rule.{Rule}
 use Rattle.semantics.specs.Stands.{Holds}
-use Rattle.marked_cells.specs.Marked.{Placed, Moving}
+use Rattle.marked_cells.specs.Contracts.Marked.{Placed, Moving}
 use Rattle.marked_cells.proofs.PartLaws.{flat-ext}
 use Rattle.stepping.specs.declared.Evaluation.the-variants as Gave
 use Rattle.stepping.specs.declared.Evaluation.{Evaluation}
 use Rattle.stepping.specs.declared.Step.{Step}
 use Rattle.stepping.specs.declared.Step.the-variants as Gives
-use Rattle.stepping.specs.Stepping.{fault-in, count-in}
-use Rattle.stepping.specs.Turns.{given, outcome-in, count-after, Turning, Turned}
-use Rattle.stepping.specs.Rows.{CellsReady, CellsStepped, RowsReady, RowsStepped}
+use Rattle.stepping.specs.Contracts.Stepping.{fault-in, count-in}
+use Rattle.stepping.specs.Contracts.Turns.{given, outcome-in, count-after, Turning, Turned}
+use Rattle.stepping.specs.Contracts.Rows.{CellsReady, CellsStepped, RowsReady, RowsStepped}
 
 -- ---- cells in rising order
 

@@ -14,12 +14,12 @@ use Rattle.program.specs.Syntax.{Program}
 use Rattle.semantics.specs.declared.Rule.{Rule}
 use Rattle.semantics.specs.Stands.{Holds}
 use Rattle.stepper.specs.Reach.{running}
-use Rattle.stepper.specs.Fitting.{Sized, Shaped, held-fields}
+use Rattle.stepper.specs.Contracts.Fitting.{Sized, Shaped, held-fields}
 use Rattle.stepping.specs.declared.Step.{Step}
 use Rattle.stepping.specs.declared.Step.the-variants as Gives
-use Rattle.stepping.specs.Stepping.{fault-in, count-in, Ready, SteppedFor}
-use Rattle.marked_cells.specs.Marked.{NextMarked, Placed, Moving, Exchanging, Exchanged}
-use Rattle.stepping.specs.Turns.{FilledFor}
+use Rattle.stepping.specs.Contracts.Stepping.{fault-in, count-in, Ready, SteppedFor}
+use Rattle.marked_cells.specs.Contracts.Marked.{NextMarked, Placed, Moving, Exchanging, Exchanged}
+use Rattle.stepping.specs.Contracts.Turns.{FilledFor}
 use Rattle.marked_cells.proofs.PartLaws.{flat-ext}
 use Rattle.stepping.proofs.FillLaws.{outcome, of-marked, of-unmarked}
 

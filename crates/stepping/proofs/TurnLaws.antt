@@ -9,11 +9,11 @@ use lib.IntN.{ℤ}
 use Rattle.semantics.specs.declared.Rule.{Rule}
 use Rattle.executor.specs.declared.Outcome.{Outcome}
 use Rattle.executor.specs.declared.Outcome.the-variants.{Done, Fault}
-use Rattle.executor.specs.Running.{Fit, outcome-is, Evaluates}
+use Rattle.executor.specs.Contracts.Running.{Fit, outcome-is, Evaluates}
 use Rattle.stepping.specs.declared.Evaluation.{Evaluation}
 use Rattle.stepping.specs.declared.Evaluation.the-variants as Gave
-use Rattle.stepper.specs.Fitting.{Shaped}
-use Rattle.stepping.specs.Turns.{Counted, outcome-in, Roomed, Turning, Turned}
+use Rattle.stepper.specs.Contracts.Fitting.{Shaped}
+use Rattle.stepping.specs.Contracts.Turns.{Counted, outcome-in, Roomed, Turning, Turned}
 use Rattle.marked_cells.proofs.PartLaws.{part-own, part-kept}
 
 -- an evaluated cell, counted

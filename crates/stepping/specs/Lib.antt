@@ -1,4 +1,2 @@
 -- One step under marks, and one of the rows of a band: what the functions promise. `Stepping` has the step's contract, `Rows` the band's, `Turns` those of their parts.
-pub mod Stepping
-pub mod Turns
-pub mod Rows
+pub mod Contracts

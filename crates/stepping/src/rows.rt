@@ -1,7 +1,7 @@
 // One step of the rows of a band.
 ghost use mathlib.Core.Path.{_≡_};
 ghost use lib.ListN.{length};
-ghost use Rattle.stepping.specs.Rows.{CellsReady, CellsStepped, RowsReady, RowsStepped};
+ghost use Rattle.stepping.specs.Contracts.Rows.{CellsReady, CellsStepped, RowsReady, RowsStepped};
 use crate::Evaluation;
 use crate::Step;
 use crate::cells::evaluate_into;

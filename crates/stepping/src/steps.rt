@@ -1,8 +1,8 @@
 // One step under marks.
 ghost use mathlib.Core.Path.{_≡_};
 ghost use lib.ListN.{length};
-ghost use Rattle.stepping.specs.Turns.{Filled};
-ghost use Rattle.stepping.specs.Stepping.{Ready, Stepped};
+ghost use Rattle.stepping.specs.Contracts.Turns.{Filled};
+ghost use Rattle.stepping.specs.Contracts.Stepping.{Ready, Stepped};
 use crate::Evaluation;
 use crate::Step;
 use crate::cells::evaluate_open;

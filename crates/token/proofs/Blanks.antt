@@ -10,7 +10,7 @@ use borrow.Author.Tests.{ne-eqb}
 use Rattle.value.specs.Choice.{if_then_else_}
 use Rattle.token.specs.Bytes.{kind-of}
 use Rattle.token.specs.Scanning.{blanks}
-use Rattle.token.specs.Promises.{Walks, Skips, head-kind, blank-turn}
+use Rattle.token.specs.Contracts.Promises.{Walks, Skips, head-kind, blank-turn}
 use Rattle.token.proofs.Heads.{walks, drop-here}
 
 -- ---- the turn that a byte takes

@@ -11,7 +11,7 @@ use lib.Dec.{eqb}
 use borrow.Author.Tests.{ne-eqb}
 use Rattle.token.specs.Bytes.{kind-of}
 use Rattle.token.specs.Lexeme.{starts, in-name, in-literal, extent}
-use Rattle.token.specs.Promises.{Walks, head-kind, run-test, goes-on}
+use Rattle.token.specs.Contracts.Promises.{Walks, head-kind, run-test, goes-on}
 use Rattle.token.proofs.Heads.{walks, starts-as, drop-here}
 
 -- ---- the test of one byte

@@ -10,7 +10,7 @@ use lib.Dec.{eqb}
 use borrow.Author.Tests.{ne-eqb}
 use Rattle.token.specs.Bytes.{kind-of}
 use Rattle.token.specs.Lexeme.{starts}
-use Rattle.token.specs.Promises.{Walks, head-kind}
+use Rattle.token.specs.Contracts.Promises.{Walks, head-kind}
 
 -- what stands at a position, and what stands behind it
 pub drop-here : (s : List ℕ) (i : ℕ) → i < length s → drop i s ≡ getD s i 0 ∷ drop (i + 1) s

@@ -14,7 +14,7 @@ use Rattle.token.specs.Bytes.{kind-of, member, fold}
 use Rattle.token.specs.Lexeme.{Lexeme, find-kind, keywords, two-byte-tokens, starts, in-name, in-literal, extent, decimal, lexeme-of, unreadable, word, digits, punctuation, read-token}
 use Rattle.token.specs.declared.Lexed.{Lexed}
 use Rattle.token.specs.declared.spelling.Group.{Group}
-use Rattle.token.specs.Promises.{Walks, head-kind, too-large, spellings, Groups, word-here, digits-here, lexed-of, Reads}
+use Rattle.token.specs.Contracts.Promises.{Walks, head-kind, too-large, spellings, Groups, word-here, digits-here, lexed-of, Reads}
 use Rattle.token.proofs.Heads.{drop-here, starts-as}
 use Rattle.token.proofs.Extents.{extent-within, extent-first}
 use Rattle.token.proofs.Words.{bytes-of, size-a, by-length, some-kind, signs-fold, too-short}

@@ -9,7 +9,7 @@ use lib.Dec.{eqb}
 use borrow.Author.Tests.{eq-eqb, ne-eqb}
 use Rattle.value.specs.Choice.{if_then_else_}
 use Rattle.token.specs.Lexeme.{decimal}
-use Rattle.token.specs.Promises.{too-large, with-digit}
+use Rattle.token.specs.Contracts.Promises.{too-large, with-digit}
 use Rattle.token.proofs.Heads.{drop-here}
 
 -- ---- one byte

@@ -14,7 +14,7 @@ use Rattle.token.specs.Scanning.{Scanned, blanks, stop-number, stopped, 
 use Rattle.token.specs.declared.Token.{Token}
 use Rattle.token.specs.declared.Scan.{Scan}
 use Rattle.token.specs.declared.Lexed.{Lexed}
-use Rattle.token.specs.Promises.{Walks, Reads, Stops, Fills, Scans}
+use Rattle.token.specs.Contracts.Promises.{Walks, Reads, Stops, Fills, Scans}
 
 -- ---- the number of the stop
 

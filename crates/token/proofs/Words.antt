@@ -14,7 +14,7 @@ use Rattle.token.specs.Bytes.{between, fold, same}
 use Rattle.token.specs.Lexeme.{Spelled, find-kind}
 use Rattle.token.specs.declared.spelling.Fixed.{Fixed}
 use Rattle.token.specs.declared.spelling.Group.{Group}
-use Rattle.token.specs.Promises.{of-length, spellings, spelling, all-rows, Fixes, Groups}
+use Rattle.token.specs.Contracts.Promises.{of-length, spellings, spelling, all-rows, Fixes, Groups}
 use Rattle.token.proofs.Table.{both, below}
 use Rattle.token.proofs.Heads.{drop-here}
 

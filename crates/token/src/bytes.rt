@@ -2,7 +2,7 @@
 ghost use mathlib.Core.Path.{_≡_};
 ghost use lib.ListN.{drop};
 ghost use Rattle.token.specs.Bytes.{kind-of};
-ghost use Rattle.token.specs.Promises.{Sorts, head-kind};
+ghost use Rattle.token.specs.Contracts.Promises.{Sorts, head-kind};
 
 // The kinds of bytes; 0 is any other. No byte has kind END, which stands for the end of the source.
 pub const BLANK: u8 = 1;

@@ -3,7 +3,7 @@ ghost use mathlib.Core.Path.{_≡_};
 ghost use Prim.Native.Nat.{_≤_, _<_};
 ghost use lib.ListN.{length, take, drop};
 ghost use Rattle.token.specs.Lexeme.{find-kind, two-byte-tokens, lexeme-of, punctuation};
-ghost use Rattle.token.specs.Promises.{Sorts, all-rows, lexed-of, word-here, digits-here};
+ghost use Rattle.token.specs.Contracts.Promises.{Sorts, all-rows, lexed-of, word-here, digits-here};
 use crate::Cursor;
 use crate::Lexed;
 use crate::Token;

@@ -4,7 +4,7 @@ ghost use Prim.Native.Nat.{_≤_, _<_};
 ghost use lib.ListN.{length, drop};
 ghost use mathlib.Core.Bool.{false};
 ghost use Rattle.token.specs.Scanning.{blanks};
-ghost use Rattle.token.specs.Promises.{Sorts, all-rows, Walks, Reads, Scans};
+ghost use Rattle.token.specs.Contracts.Promises.{Sorts, all-rows, Walks, Reads, Scans};
 
 pub mod bytes;
 pub mod kind;

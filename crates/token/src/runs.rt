@@ -5,7 +5,7 @@ ghost use Prim.Native.Nat.{_-_, _≤_, _<_, min};
 ghost use lib.ListN.{length, take, drop};
 ghost use Rattle.token.specs.Lexeme.{extent, decimal};
 ghost use Rattle.token.specs.Scanning.{blanks};
-ghost use Rattle.token.specs.Promises.{Sorts, Walks, Skips, run-test, goes-on, blank-turn, with-digit, too-large};
+ghost use Rattle.token.specs.Contracts.Promises.{Sorts, Walks, Skips, run-test, goes-on, blank-turn, with-digit, too-large};
 use crate::bytes;
 
 // The least value that is too large for a literal.

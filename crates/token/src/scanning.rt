@@ -4,7 +4,7 @@ ghost use mathlib.Core.List.{[], _∷_, _++_};
 ghost use Prim.Native.Nat.{_+_, _*_, _≤_, _<_};
 ghost use lib.ListN.{length, take, drop, replicate};
 ghost use Rattle.token.specs.Scanning.{token-words};
-ghost use Rattle.token.specs.Promises.{Sorts, all-rows, Stops, Fills};
+ghost use Rattle.token.specs.Contracts.Promises.{Sorts, all-rows, Stops, Fills};
 use crate::Cursor;
 use crate::Scan;
 use crate::Token;

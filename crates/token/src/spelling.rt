@@ -6,7 +6,7 @@ ghost use lib.ListN.{length, take, drop, getD};
 ghost use lib.Seq.{slice};
 ghost use Rattle.token.specs.Bytes.{fold, same};
 ghost use Rattle.token.specs.Lexeme.{find-kind};
-ghost use Rattle.token.specs.Promises.{spellings, all-rows, Fixes, Groups};
+ghost use Rattle.token.specs.Contracts.Promises.{spellings, all-rows, Fixes, Groups};
 
 // How many there are: the keywords and predefined names, and all.
 pub const KEYWORDS: usize = 17;

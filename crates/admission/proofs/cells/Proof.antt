@@ -4,7 +4,7 @@ use mathlib.Core.Path.{_≡_, sym, _∙_}
 use Prim.Native.Nat.{_≤_, _-_}
 use native.Mathlib.Omega.{arith}
 use lib.ListN.{length, drop}
-use Rattle.admission.specs.Admitting.{cells-of}
+use Rattle.admission.specs.Contracts.Admitting.{cells-of}
 use Rattle.admission.proofs.RequestLaws.{cells-start, cells-turn, cells-stop, cells-small}
 use Rattle.admission.proofs.cells.Statement.{statement}
 use Rattle.admission.proofs.cells.Tie as tie
@@ -18,27 +18,12 @@ abbrev μ-loop : tie.MeasureT-loop
 loop-holds : tie.Need-loop-holds Inv-loop μ-loop
 loop-holds c = (omega arith, cells-start (c .before .args .sizes .now), omega arith)
 
-sub-k : tie.Need-sub-k Inv-loop μ-loop
-sub-k c = search needs
-
-mul-times : tie.Need-mul-times Inv-loop μ-loop
-mul-times c = search needs
-
-shared-slice-read-times : tie.Need-shared-slice-read-times Inv-loop μ-loop
-shared-slice-read-times c = search needs
-
-times-requires : tie.Need-times-requires Inv-loop μ-loop
-times-requires c κs = search needs
-
 returns : tie.Need-returns Inv-loop μ-loop
 returns c =
     let ns = c .before .before .before .before .before .before .args .sizes .now in
     let k = c .before .before .before .before .loop .k in
     let e = cells-turn ns k (omega arith) (omega arith) (c .before .before .before .before .loop .inv .1) (c .before .times .ensures) in
     sym (cells-stop (k - 1) ns (sym e ∙ c .if1 .taken))
-
-loop-less : tie.Need-loop-less Inv-loop μ-loop
-loop-less c = search needs
 
 loop-again : tie.Need-loop-again Inv-loop μ-loop
 loop-again c =
@@ -59,11 +44,11 @@ cells-spec =
     Inv-loop
     μ-loop
     loop-holds
-    sub-k
-    mul-times
-    shared-slice-read-times
-    times-requires
+    (λ c. search needs)
+    (λ c. search needs)
+    (λ c. search needs)
+    (λ c κs. search needs)
     returns
-    loop-less
+    (λ c. search needs)
     loop-again
     returns-2)

@@ -3,9 +3,6 @@ use Rattle.admission.proofs.EntryLaws.{field-first, field-next}
 use Rattle.admission.proofs.next_field.Statement.{statement}
 use Rattle.admission.proofs.next_field.Tie as tie
 
-add-next : tie.Need-add-next
-add-next c = search needs
-
 returns : tie.Need-returns
 returns c = field-first _ _ (c .if1 .taken)
 
@@ -13,4 +10,4 @@ returns-2 : tie.Need-returns-2
 returns-2 c = field-next _ _ (search needs) (c .if1 .left)
 
 pub next-field-spec : {M : Type 1} → statement M
-next-field-spec = tie.close (tie.spec add-next returns returns-2)
+next-field-spec = tie.close (tie.spec (λ c. search needs) returns returns-2)

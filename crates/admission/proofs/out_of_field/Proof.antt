@@ -15,29 +15,17 @@ Inv-loop words rule grid fields which₀ e₀ which e = Passed words rule grid w
 abbrev μ-loop : tie.MeasureT-loop
 μ-loop words rule grid fields which₀ e₀ which e = length grid - e
 
-cast-fields : tie.Need-cast-fields Inv-loop μ-loop
-cast-fields c = search needs
-
 loop-holds : tie.Need-loop-holds Inv-loop μ-loop
 loop-holds c = (passed-start _ _ _, refl)
 
 fits-requires : tie.Need-fits-requires Inv-loop μ-loop
 fits-requires c κs = (search needs, passed-field _ _ _ _ _ (c .before .loop .inv .0) (search needs), search needs)
 
-cast-t10 : tie.Need-cast-t10 Inv-loop μ-loop
-cast-t10 c = search needs
-
 returns : tie.Need-returns Inv-loop μ-loop
 returns c = passed-out _ _ _ _ _ (c .before .before .before .loop .inv .0) (omega arith) (c .before .fits2 .ensures) (not-true _ (c .if1 .taken))
 
 next-field-requires : tie.Need-next-field-requires Inv-loop μ-loop
 next-field-requires c κs = passed-field _ _ _ _ _ (c .before .before .before .loop .inv .0) (search needs)
-
-add-e : tie.Need-add-e Inv-loop μ-loop
-add-e c = search needs
-
-loop-less : tie.Need-loop-less Inv-loop μ-loop
-loop-less c = search needs
 
 loop-again : tie.Need-loop-again Inv-loop μ-loop
 loop-again c = (
@@ -55,13 +43,13 @@ out-of-field-spec =
     (tie.spec
     Inv-loop
     μ-loop
-    cast-fields
+    (λ c. search needs)
     loop-holds
     fits-requires
-    cast-t10
+    (λ c. search needs)
     returns
     next-field-requires
-    add-e
-    loop-less
+    (λ c. search needs)
+    (λ c. search needs)
     loop-again
     returns-2)

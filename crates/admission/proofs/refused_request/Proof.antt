@@ -14,17 +14,11 @@ use Rattle.admission.proofs.refused_request.Tie as tie
 read-is : (s : tie.Start) → good-times (toZ w64 (ofZ w64 (s .args .start))) (toZ w64 (ofZ w64 (s .args .steps))) ≡ good-times (s .args .start) (s .args .steps)
 read-is s = ap₂ good-times (toZ-ofZ (s .fits .start)) (toZ-ofZ (s .fits .steps))
 
-cast-if1 : tie.Need-cast-if1
-cast-if1 c = search needs
-
 returns : tie.Need-returns
 returns c =
     let s = c .before .before .before in
     refuse-dims (s .args .rule) (s .args .sizes .now) (s .args .entries) (s .args .scratch) (s .args .marks) (s .args .start) (s .args .steps)
     (c .if1 .taken)
-
-cells-requires : tie.Need-cells-requires
-cells-requires c κs = search needs
 
 returns-2 : tie.Need-returns-2
 returns-2 c =
@@ -43,9 +37,6 @@ returns-3 c =
     refuse-rooms (s .args .rule) (s .args .sizes .now) (s .args .entries) (s .args .scratch) (s .args .marks) (s .args .start) (s .args .steps)
     (c .before .before .before .before .if1 .left) (c .before .before .before .cells .ensures) (c .before .before .if2 .left)
     (c .before .good-rooms .ensures) (not-true _ (c .if3 .taken))
-
-good-times-requires : tie.Need-good-times-requires
-good-times-requires c κs = search needs
 
 returns-4 : tie.Need-returns-4
 returns-4 c =
@@ -69,12 +60,12 @@ pub refused-request-spec : {M : Type 1} → statement M
 refused-request-spec =
     tie.close
     (tie.spec
-    cast-if1
+    (λ c. search needs)
     returns
-    cells-requires
+    (λ c κs. search needs)
     returns-2
     good-rooms-requires
     returns-3
-    good-times-requires
+    (λ c κs. search needs)
     returns-4
     returns-5)

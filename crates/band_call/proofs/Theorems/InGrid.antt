@@ -8,12 +8,12 @@ use Rattle.automaton.specs.Shape.{product, neighbour}
 use Rattle.automaton.specs.ShapeLaws.{Positive}
 use Rattle.automaton.specs.Grid.{cell-of}
 use Rattle.automaton.specs.Bands.{Band, rows-in, rows-with, part-step, rows-lent, band-of}
-use Rattle.automaton.specs.BandLaws.{band-is}
+use Rattle.automaton.proofs.Theorems.BandLaws.{band-is}
 use Rattle.program.specs.Syntax.{Program}
 use Rattle.semantics.specs.Evaluation.{evaluate}
 use Rattle.stepper.specs.Reach.{reach}
-use Rattle.stepper.specs.Locality.{Flagged, evaluate-bounded}
-use Rattle.stepper.specs.Covering.{reach-covers}
+use Rattle.stepper.proofs.Theorems.Locality.{Flagged, evaluate-bounded}
+use Rattle.stepper.proofs.Theorems.Covering.{reach-covers}
 use Rattle.bands.specs.Edge.{edge}
 use Rattle.bands.proofs.Theorems.EdgeTheorems.{edged}
 use Rattle.band_call.specs.BandCall.{BandAsked, band-stepped}

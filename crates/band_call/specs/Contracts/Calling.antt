@@ -15,11 +15,11 @@ use Rattle.grammar.specs.Checking.{words-after, names-after}
 use Rattle.semantics.specs.declared.Rule.{Rule}
 use Rattle.semantics.specs.Evaluation.{evaluate}
 use Rattle.semantics.specs.Stands.{Holds}
-use Rattle.stepper.specs.Fitting.{Sized}
+use Rattle.stepper.specs.Contracts.Fitting.{Sized}
 use Rattle.stepper.specs.Report as report
 use Rattle.services.specs.Calls.{NameForm}
 use Rattle.iteration.specs.declared.Report.{Report}
-use Rattle.iteration.specs.Stepwise.{told}
+use Rattle.iteration.specs.Contracts.Stepwise.{told}
 use Rattle.band_call.specs.BandCall.{row-cells, BandAsked, band-ended, band-source, BandLent, band-left}
 
 -- `step_lent`: what is asked of an admitted call

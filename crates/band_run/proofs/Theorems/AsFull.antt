@@ -13,7 +13,7 @@ use Rattle.one_move.specs.Profile.{profile-flag}
 use Rattle.stepper.specs.Report.{full}
 use Rattle.lists.specs.ListChecking.{Turned}
 use Rattle.services.specs.Running.{admitted}
-use Rattle.services.specs.RunningLaws.{run-refused}
+use Rattle.services.proofs.Theorems.RunningLaws.{run-refused}
 use Rattle.services.specs.Services.{run-begins, run-read, run-source}
 use Rattle.services.specs.Calls.{NameForm, fits, asked, read-lent, run-left}
 use Rattle.bands.specs.Plans.{plan-fits}

@@ -14,7 +14,7 @@ use Rattle.services.specs.Calls.{NameForm, flat-names, Memory, Lent}
 use Rattle.bands.specs.Edge.{edge}
 use Rattle.bands.specs.Plans.{plan-right}
 use Rattle.iteration.specs.declared.Report.{Report}
-use Rattle.iteration.specs.Stepwise.{Runs, told}
+use Rattle.iteration.specs.Contracts.Stepwise.{Runs, told}
 use Rattle.band_run.specs.BandedRun.{BandedLent, banded-left}
 
 -- `run_admitted`: what is asked beside a run: the border rows are those of the program and no more than the grid's rows, the plan is accepted, and the

@@ -13,13 +13,13 @@ use Rattle.program.specs.Syntax.{Program}
 use Rattle.semantics.specs.declared.Rule.{Rule}
 use Rattle.semantics.specs.Leaves.{Leaves}
 use Rattle.semantics.specs.Stands.{Holds}
-use Rattle.stepper.specs.Fitting.{Sized, Shaped}
-use Rattle.stepper.specs.Locality.{Flagged}
+use Rattle.stepper.specs.Contracts.Fitting.{Sized, Shaped}
+use Rattle.stepper.proofs.Theorems.Locality.{Flagged}
 use Rattle.bands.specs.Edge.{bound, edge}
 use Rattle.bands.specs.Plans.{plan-right}
 use Rattle.stepping.specs.declared.Step.{Step}
-use Rattle.stepping.specs.Stepping.{fault-in, count-in}
-use Rattle.stepping.specs.Turns.{Roomed, given}
+use Rattle.stepping.specs.Contracts.Stepping.{fault-in, count-in}
+use Rattle.stepping.specs.Contracts.Turns.{Roomed, given}
 
 -- the programs of which a step by bands tells: they stand in the table, and have these border rows
 pub record Bordered (words : List ℕ) (rule : Rule) (border : Bound) (p : Program) : Type 0 where

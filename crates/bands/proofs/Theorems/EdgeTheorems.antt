@@ -12,14 +12,14 @@ use Rattle.automaton.specs.Step.{step-of}
 use Rattle.automaton.specs.Shape.{Bound, box-indices}
 use Rattle.automaton.specs.ShapeLaws.{Positive, Alike, alike-length, Within, AllWithin, mem-box, box-alike, zeros, zeros-within}
 use Rattle.automaton.specs.Bands.{Band, accepts, step-under}
-use Rattle.automaton.specs.BandLaws.{Edged, step-under-is}
+use Rattle.automaton.proofs.Theorems.BandLaws.{Edged, step-under-is}
 use Rattle.program.specs.Syntax.{range, Program}
 use Rattle.semantics.specs.Evaluation.{evaluate}
 use Rattle.semantics.specs.Places.{places}
 use Rattle.stepper.specs.Reach.{below, above, widen, box, reach-from, reach, running}
-use Rattle.stepper.specs.Locality.{Flagged, evaluate-bounded}
-use Rattle.stepper.specs.Covering.{box-length, reach-covers}
-use Rattle.stepper.specs.PlacesLaws.{places-within}
+use Rattle.stepper.proofs.Theorems.Locality.{Flagged, evaluate-bounded}
+use Rattle.stepper.proofs.Theorems.Covering.{box-length, reach-covers}
+use Rattle.stepper.proofs.Theorems.PlacesLaws.{places-within}
 use Rattle.bands.specs.Edge.{first-index, edge-of, edge}
 
 -- ---- index vectors

@@ -10,17 +10,17 @@ use lib.ListN.{length, take, drop}
 use lib.Seq.{take-at, drop-at}
 use lib.Dec.{eqb, leb}
 use borrow.Author.Tests.{eqb-true, eqb-false, eq-eqb, leb-true, lt-ltb}
-use Rattle.value.specs.Laws.{never, and-both}
+use Rattle.value.proofs.Theorems.Laws.{never, and-both}
 use Rattle.automaton.specs.Shape.{Bound, product}
 use Rattle.automaton.specs.Bands.{Band, accepts, plannable, longest, plan-of}
-use Rattle.automaton.specs.BandLaws.{plan-accepted, plan-needs, AsLong, plan-longest, plan-short}
+use Rattle.automaton.proofs.Theorems.BandLaws.{plan-accepted, plan-needs, AsLong, plan-longest, plan-short}
 use Rattle.program.specs.Syntax.{Program}
 use Rattle.grammar.specs.Source.{Accepted}
 use Rattle.grammar.specs.Checking.{Outcome, turned-away, refused, accepted, read-source, reply-of, check}
-use Rattle.refusals.specs.Replies.{zero-accepts}
+use Rattle.refusals.proofs.Theorems.Replies.{zero-accepts}
 use Rattle.semantics.specs.Written.{written-in}
 use Rattle.stepper.specs.Admission.{Refusal, refusal, all-between, good-sizes, too-far}
-use Rattle.services.specs.AcceptedSources.{accepted-declared}
+use Rattle.services.proofs.Theorems.AcceptedSources.{accepted-declared}
 use Rattle.bands.specs.Edge.{edge}
 use Rattle.bands.specs.OnSizes.{OnGrid, no-grid, on-grid, on-sizes}
 use Rattle.bands.specs.Plans.{rows, before-others, bands-in, entries-of, accepts-some, plan-right, plan-fits, check-plan, check-plan-on, Planned, unplanned, put-plan, planned, planned-on}

@@ -4,7 +4,7 @@ ghost use Rattle.bands.specs.PlanCalls.{plan-lent};
 ghost use Rattle.band_call.specs.Contracts.Calling.{band-asked, band-lent};
 ghost use Rattle.services.specs.Calls.{memory, lent};
 ghost use Rattle.band_run.specs.Contracts.Running.{banded-lent};
-ghost use Rattle.cellang.specs.Told.{TellsBorders, TellsPlanCheck, TellsPlanned, TellsBand, is-asked, TellsBanded};
+ghost use Rattle.cellang.specs.Contracts.Told.{TellsBorders, TellsPlanCheck, TellsPlanned, TellsBand, is-asked, TellsBanded};
 use band_call::step_band;
 use band_run::run_banded;
 use entries::put_borders;

@@ -1,7 +1,7 @@
 // Checking a source.
 ghost use lib.ListN.{length};
 ghost use Rattle.grammar.specs.Checking.{lent-fit};
-ghost use Rattle.cellang.specs.Told.{TellsCheck};
+ghost use Rattle.cellang.specs.Contracts.Told.{TellsCheck};
 use checker::check;
 use entries::put_reply;
 use spelling::told_part;

@@ -1,5 +1,5 @@
 // Comparing two grids.
-ghost use Rattle.cellang.specs.Told.{TellsComparison};
+ghost use Rattle.cellang.specs.Contracts.Told.{TellsComparison};
 use comparison::compare;
 use entries::put_comparison;
 

@@ -3,8 +3,8 @@ ghost use mathlib.Core.Bool.{true};
 ghost use Rattle.stepper.specs.Report.{full, quiet, pausing, resuming};
 ghost use Rattle.services.specs.Calls.{flat-names, memory, lent, asked, read-lent, run-report};
 ghost use Rattle.services.specs.RangesKept.{RangesKept};
-ghost use Rattle.runner.specs.Property3.{Agree};
-ghost use Rattle.cellang.specs.Told.{TellsRun};
+ghost use Rattle.runner.specs.Contracts.Agreement.{Agree};
+ghost use Rattle.cellang.specs.Contracts.Told.{TellsRun};
 use crate::exports::telling::run_told;
 use iteration::Manner;
 

@@ -1,7 +1,7 @@
 // Whether a source moves a pixel once.
 ghost use lib.ListN.{length};
 ghost use Rattle.grammar.specs.Checking.{lent-fit};
-ghost use Rattle.cellang.specs.Told.{TellsProfile};
+ghost use Rattle.cellang.specs.Contracts.Told.{TellsProfile};
 use entries::put_profile;
 use profile::check_one_move;
 

@@ -1,5 +1,5 @@
 // What row counts alone tell.
-ghost use Rattle.cellang.specs.Told.{TellsRows};
+ghost use Rattle.cellang.specs.Contracts.Told.{TellsRows};
 ghost use Rattle.row_counts.specs.RowQueries.{rows-asked, row-asked};
 use entries::put_rows;
 use row_counts::queries::first_zero_row;

@@ -2,9 +2,9 @@
 ghost use Rattle.stepper.specs.Report.{full};
 ghost use Rattle.services.specs.Calls.{flat-names, memory, lent, asked, read-lent, run-report};
 ghost use Rattle.services.specs.RangesKept.{RangesKept};
-ghost use Rattle.runner.specs.Sourcewise.{manner-of};
-ghost use Rattle.runner.specs.Property3.{AgreesFresh};
-ghost use Rattle.cellang.specs.Told.{TellsRun};
+ghost use Rattle.runner.specs.Contracts.Sourcewise.{manner-of};
+ghost use Rattle.runner.specs.Contracts.Agreement.{AgreesFresh};
+ghost use Rattle.cellang.specs.Contracts.Told.{TellsRun};
 use entries::put_report;
 use iteration::Manner;
 use runner::run;

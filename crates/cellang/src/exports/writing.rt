@@ -1,6 +1,6 @@
 // Writing a value list.
 ghost use Rattle.list_writer.specs.WriterCalls.{wanted, writer-lent};
-ghost use Rattle.cellang.specs.Told.{TellsWritten};
+ghost use Rattle.cellang.specs.Contracts.Told.{TellsWritten};
 use entries::put_written;
 use list_writer::write_list;
 use spelling::told_part;

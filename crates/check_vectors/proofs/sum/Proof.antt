@@ -11,32 +11,8 @@ Inv-loop words n sum₀ i₀ sum i = sum ≤ i * 70368744177664
 abbrev μ-loop : tie.MeasureT-loop
 μ-loop words n sum₀ i₀ sum i = n - i
 
-loop-holds : tie.Need-loop-holds Inv-loop μ-loop
-loop-holds c = search needs
-
-mul-weighed : tie.Need-mul-weighed Inv-loop μ-loop
-mul-weighed c = search needs
-
-shared-slice-read-weighed : tie.Need-shared-slice-read-weighed Inv-loop μ-loop
-shared-slice-read-weighed c = search needs
-
-weighed-requires : tie.Need-weighed-requires Inv-loop μ-loop
-weighed-requires c κs = search needs
-
-add-sum : tie.Need-add-sum Inv-loop μ-loop
-add-sum c = search needs
-
-add-i : tie.Need-add-i Inv-loop μ-loop
-add-i c = search needs
-
-loop-less : tie.Need-loop-less Inv-loop μ-loop
-loop-less c = search needs
-
-loop-again : tie.Need-loop-again Inv-loop μ-loop
-loop-again c = search needs
-
 returns : tie.Need-returns Inv-loop μ-loop
 returns c = tt
 
 pub sum-spec : {M : Type 1} → statement M
-sum-spec = tie.close (tie.spec Inv-loop μ-loop loop-holds mul-weighed shared-slice-read-weighed weighed-requires add-sum add-i loop-less loop-again returns)
+sum-spec = tie.close (tie.spec Inv-loop μ-loop (λ c. search needs) (λ c. search needs) (λ c. search needs) (λ c κs. search needs) (λ c. search needs) (λ c. search needs) (λ c. search needs) (λ c. search needs) returns)

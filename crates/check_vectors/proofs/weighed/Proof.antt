@@ -6,12 +6,6 @@ use borrow.Author.Needs.{needs}
 use Rattle.check_vectors.proofs.weighed.Statement.{statement}
 use Rattle.check_vectors.proofs.weighed.Tie as tie
 
-wide-word-requires : tie.Need-wide-word-requires
-wide-word-requires c κs = search needs
-
-add-result : tie.Need-add-result
-add-result c = search needs
-
 mul-result : tie.Need-mul-result
 mul-result c =
     let l : c .wide-word .result ≤ 4294967295 = c .wide-word .ensures in
@@ -25,4 +19,4 @@ returns c =
     omega (arith, mul-le-mul l h)
 
 pub weighed-spec : {M : Type 1} → statement M
-weighed-spec = tie.close (tie.spec wide-word-requires add-result mul-result returns)
+weighed-spec = tie.close (tie.spec (λ c κs. search needs) (λ c. search needs) mul-result returns)

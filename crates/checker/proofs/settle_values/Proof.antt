@@ -14,21 +14,6 @@ abbrev μ-loop : tie.MeasureT-loop
 loop-holds : tie.Need-loop-holds Inv-loop μ-loop
 loop-holds c = (settled-start _ _, search needs)
 
-entry-in-requires : tie.Need-entry-in-requires Inv-loop μ-loop
-entry-in-requires c κs = search needs
-
-settled-value-requires : tie.Need-settled-value-requires Inv-loop μ-loop
-settled-value-requires c κs = search needs
-
-write-value-requires : tie.Need-write-value-requires Inv-loop μ-loop
-write-value-requires c κs = search needs
-
-add-i : tie.Need-add-i Inv-loop μ-loop
-add-i c = search needs
-
-loop-less : tie.Need-loop-less Inv-loop μ-loop
-loop-less c = search needs
-
 loop-again : tie.Need-loop-again Inv-loop μ-loop
 loop-again c =
     let loop = c .before .before .before .before .before .before .before .before .loop in
@@ -55,11 +40,11 @@ settle-values-spec =
     Inv-loop
     μ-loop
     loop-holds
-    entry-in-requires
-    settled-value-requires
-    write-value-requires
-    add-i
-    loop-less
+    (λ c κs. search needs)
+    (λ c κs. search needs)
+    (λ c κs. search needs)
+    (λ c. search needs)
+    (λ c. search needs)
     loop-again
     same-length
     returns)

@@ -22,9 +22,6 @@ Inv-loop left right k room₀ total₀ i₀ room total i =
 abbrev μ-loop : tie.MeasureT-loop
 μ-loop left right k room₀ total₀ i₀ room total i = length left - i
 
-can-compare-requires : tie.Need-can-compare-requires Inv-loop μ-loop
-can-compare-requires c κs = search needs
-
 returns : tie.Need-returns Inv-loop μ-loop
 returns c =
     let start = c .before .before .args in
@@ -40,27 +37,12 @@ loop-holds c =
     let thirds = fits c .thirds in
     (thirds, omega arith, omega arith, omega arith, all-to-come (start .k) _ (start .room .now) thirds)
 
-mul-compare-entry : tie.Need-mul-compare-entry Inv-loop μ-loop
-mul-compare-entry c = search needs
-
-shared-slice-copy-out-compare-entry : tie.Need-shared-slice-copy-out-compare-entry Inv-loop μ-loop
-shared-slice-copy-out-compare-entry c = search needs
-
-mul-compare-entry-2 : tie.Need-mul-compare-entry-2 Inv-loop μ-loop
-mul-compare-entry-2 c = search needs
-
 shared-slice-copy-out-compare-entry-2 :
     tie.Need-shared-slice-copy-out-compare-entry-2 Inv-loop μ-loop
 shared-slice-copy-out-compare-entry-2 c = omega (arith, fits (c .before .before .before .before) .alike)
 
 compare-entry-requires : tie.Need-compare-entry-requires Inv-loop μ-loop
 compare-entry-requires c κs = (c .before .before .before .before .loop .inv .0, omega (arith, fits (c .before .before .before .before .before) .short), omega arith)
-
-add-i : tie.Need-add-i Inv-loop μ-loop
-add-i c = search needs
-
-loop-less : tie.Need-loop-less Inv-loop μ-loop
-loop-less c = search needs
 
 loop-again : tie.Need-loop-again Inv-loop μ-loop
 loop-again c =
@@ -105,16 +87,16 @@ compare-spec =
     (tie.spec
     Inv-loop
     μ-loop
-    can-compare-requires
+    (λ c κs. search needs)
     returns
     loop-holds
-    mul-compare-entry
-    shared-slice-copy-out-compare-entry
-    mul-compare-entry-2
+    (λ c. search needs)
+    (λ c. search needs)
+    (λ c. search needs)
     shared-slice-copy-out-compare-entry-2
     compare-entry-requires
-    add-i
-    loop-less
+    (λ c. search needs)
+    (λ c. search needs)
     loop-again
     cast-t21
     same-length

@@ -28,12 +28,6 @@ module _ (s : tie.Start) where
 returns : tie.Need-returns
 returns c = equal-values (alike (c .before) (c .if1 .taken))
 
-write-difference-requires : tie.Need-write-difference-requires
-write-difference-requires c κs = search needs
-
-add-result : tie.Need-add-result
-add-result c = search needs
-
 same-length : tie.Need-same-length
 same-length c = c .before .write-difference .kept .0
 
@@ -42,11 +36,8 @@ returns-2 c =
     let s = c .before .before .before .before .before in
     difference-written (unlike s (c .before .before .before .before .if1 .left)) (c .before .before .before .if2 .taken) (read-back (s .args .left) (small-a s)) (read-back (s .args .right) (small-b s)) (c .before .write-difference .ensures)
 
-add-result-2 : tie.Need-add-result-2
-add-result-2 c = search needs
-
 returns-3 : tie.Need-returns-3
 returns-3 c = no-place-left (unlike (c .before .before) (c .before .if1 .left)) (c .if2 .left)
 
 pub compare-entry-spec : {M : Type 1} → statement M
-compare-entry-spec = tie.close (tie.spec returns write-difference-requires add-result same-length returns-2 add-result-2 returns-3)
+compare-entry-spec = tie.close (tie.spec returns (λ c κs. search needs) (λ c. search needs) same-length returns-2 (λ c. search needs) returns-3)

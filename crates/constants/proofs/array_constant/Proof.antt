@@ -8,20 +8,8 @@ use Rattle.constants.proofs.Values.{word-of}
 use Rattle.constants.proofs.array_constant.Statement.{statement}
 use Rattle.constants.proofs.array_constant.Tie as tie
 
-array-head-requires : tie.Need-array-head-requires
-array-head-requires c κs = search needs
-
-enum-known-r : tie.Need-enum-known-r
-enum-known-r c = search needs
-
 enum-told : tie.Need-enum-told
 enum-told c = search needs
-
-same-length : tie.Need-same-length
-same-length c = search needs
-
-same-length-2 : tie.Need-same-length-2
-same-length-2 c = search needs
 
 returns : tie.Need-returns
 unfolding array-constant
@@ -30,21 +18,6 @@ returns c =
     let enum-told = c .enum-told in
     let y = enum-told .given .1 in
     record { gives = off _ (array-head .ensures .gives) y; onward = nowhere y }
-
-expect-requires : tie.Need-expect-requires
-expect-requires c κs = search needs
-
-enum-known-q : tie.Need-enum-known-q
-enum-known-q c = search needs
-
-enum-told-2 : tie.Need-enum-told-2
-enum-told-2 c = search needs
-
-same-length-3 : tie.Need-same-length-3
-same-length-3 c = search needs
-
-same-length-4 : tie.Need-same-length-4
-same-length-4 c = search needs
 
 returns-2 : tie.Need-returns-2
 unfolding array-constant
@@ -71,18 +44,6 @@ read-values-requires c κs =
     let u = went (array-head .ensures .onward) (r .given .1) in
     let v = went (expect .ensures .onward) (q .given .1) in
     still (pre .0) refl (array-head .kept .1 .1 .0) v (omega (arith, u .few, pre .0 .few))
-
-enum-known-p : tie.Need-enum-known-p
-enum-known-p c = search needs
-
-enum-told-3 : tie.Need-enum-told-3
-enum-told-3 c = search needs
-
-same-length-5 : tie.Need-same-length-5
-same-length-5 c = search needs
-
-same-length-6 : tie.Need-same-length-6
-same-length-6 c = search needs
 
 returns-3 : tie.Need-returns-3
 unfolding array-constant
@@ -152,9 +113,6 @@ declare-requires c κs =
       pre .0 .list,
     )
 
-same-length-7 : tie.Need-same-length-7
-same-length-7 c = search needs
-
 same-length-8 : tie.Need-same-length-8
 same-length-8 c =
     let array-head = c .before .before .before .before .before .before .before .before .before .before .before .before .before .before .before .before .before .before .before .before .before .before .before .before .before .before .before .before .before .before .before .before .array-head in
@@ -202,29 +160,29 @@ pub array-constant-spec : {M : Type 1} → statement M
 array-constant-spec =
     tie.close
     (tie.spec
-    array-head-requires
-    enum-known-r
+    (λ c κs. search needs)
+    (λ c. search needs)
     enum-told
-    same-length
-    same-length-2
+    (λ c. search needs)
+    (λ c. search needs)
     returns
-    expect-requires
-    enum-known-q
-    enum-told-2
-    same-length-3
-    same-length-4
+    (λ c κs. search needs)
+    (λ c. search needs)
+    (λ c. search needs)
+    (λ c. search needs)
+    (λ c. search needs)
     returns-2
     read-values-requires
-    enum-known-p
-    enum-told-3
-    same-length-5
-    same-length-6
+    (λ c. search needs)
+    (λ c. search needs)
+    (λ c. search needs)
+    (λ c. search needs)
     returns-3
     put-word-requires
     cast-put-word
     put-word-requires-2
     cast-declare
     declare-requires
-    same-length-7
+    (λ c. search needs)
     same-length-8
     returns-4)

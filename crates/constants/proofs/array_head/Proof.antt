@@ -7,17 +7,8 @@ use borrow.Author.Needs.{needs}
 use Rattle.constants.proofs.array_head.Statement.{statement}
 use Rattle.constants.proofs.array_head.Tie as tie
 
-opening-requires : tie.Need-opening-requires
-opening-requires c κs = search needs
-
-enum-known-r : tie.Need-enum-known-r
-enum-known-r c = search needs
-
 enum-told : tie.Need-enum-told
 enum-told c = search needs
-
-same-length : tie.Need-same-length
-same-length c = search needs
 
 returns : tie.Need-returns
 unfolding array-head
@@ -26,18 +17,6 @@ returns c =
     let enum-told = c .enum-told in
     let y = enum-told .given .1 in
     record { gives = off _ (opening .ensures .gives _ _) y; onward = nowhere y }
-
-expect-requires : tie.Need-expect-requires
-expect-requires c κs = search needs
-
-enum-known-q : tie.Need-enum-known-q
-enum-known-q c = search needs
-
-enum-told-2 : tie.Need-enum-told-2
-enum-told-2 c = search needs
-
-same-length-2 : tie.Need-same-length-2
-same-length-2 c = search needs
 
 returns-2 : tie.Need-returns-2
 unfolding array-head
@@ -51,18 +30,6 @@ returns-2 c =
       gives = on _ (opening .ensures .gives _ _) (r .given .1) (λ _ _. off _ (expect .ensures .gives _ _) y);
       onward = nowhere y;
     }
-
-expect-requires-2 : tie.Need-expect-requires-2
-expect-requires-2 c κs = search needs
-
-enum-known-p : tie.Need-enum-known-p
-enum-known-p c = search needs
-
-enum-told-3 : tie.Need-enum-told-3
-enum-told-3 c = search needs
-
-same-length-3 : tie.Need-same-length-3
-same-length-3 c = search needs
 
 returns-3 : tie.Need-returns-3
 unfolding array-head
@@ -96,9 +63,6 @@ read-size-requires c κs =
     let w = went (expect2 .ensures .onward) (p .given .1) in
     still (pre .0) refl refl w (omega (arith, u .few, v .few, pre .0 .few))
 
-same-length-4 : tie.Need-same-length-4
-same-length-4 c = search needs
-
 returns-4 : tie.Need-returns-4
 unfolding array-head
 returns-4 c =
@@ -125,21 +89,21 @@ pub array-head-spec : {M : Type 1} → statement M
 array-head-spec =
     tie.close
     (tie.spec
-    opening-requires
-    enum-known-r
+    (λ c κs. search needs)
+    (λ c. search needs)
     enum-told
-    same-length
+    (λ c. search needs)
     returns
-    expect-requires
-    enum-known-q
-    enum-told-2
-    same-length-2
+    (λ c κs. search needs)
+    (λ c. search needs)
+    (λ c. search needs)
+    (λ c. search needs)
     returns-2
-    expect-requires-2
-    enum-known-p
-    enum-told-3
-    same-length-3
+    (λ c κs. search needs)
+    (λ c. search needs)
+    (λ c. search needs)
+    (λ c. search needs)
     returns-3
     read-size-requires
-    same-length-4
+    (λ c. search needs)
     returns-4)

@@ -6,18 +6,6 @@ use borrow.Author.Needs.{needs}
 use Rattle.constants.proofs.constant_value.Statement.{statement}
 use Rattle.constants.proofs.constant_value.Tie as tie
 
-token-at-requires : tie.Need-token-at-requires
-token-at-requires c κs = search needs
-
-simple-constant-requires : tie.Need-simple-constant-requires
-simple-constant-requires c κs = search needs
-
-same-length : tie.Need-same-length
-same-length c = search needs
-
-same-length-2 : tie.Need-same-length-2
-same-length-2 c = search needs
-
 returns : tie.Need-returns
 unfolding constant-value
 returns c =
@@ -31,15 +19,6 @@ returns c =
           (simple-constant .ensures .gives));
       onward = simple-constant .ensures .onward;
     }
-
-array-constant-requires : tie.Need-array-constant-requires
-array-constant-requires c κs = search needs
-
-same-length-3 : tie.Need-same-length-3
-same-length-3 c = search needs
-
-same-length-4 : tie.Need-same-length-4
-same-length-4 c = search needs
 
 returns-2 : tie.Need-returns-2
 unfolding constant-value
@@ -56,12 +35,6 @@ returns-2 c =
           (array-constant .ensures .gives)));
       onward = array-constant .ensures .onward;
     }
-
-refuse-requires : tie.Need-refuse-requires
-refuse-requires c κs = search needs
-
-same-length-5 : tie.Need-same-length-5
-same-length-5 c = search needs
 
 returns-3 : tie.Need-returns-3
 unfolding constant-value
@@ -84,15 +57,15 @@ pub constant-value-spec : {M : Type 1} → statement M
 constant-value-spec =
     tie.close
     (tie.spec
-    token-at-requires
-    simple-constant-requires
-    same-length
-    same-length-2
+    (λ c κs. search needs)
+    (λ c κs. search needs)
+    (λ c. search needs)
+    (λ c. search needs)
     returns
-    array-constant-requires
-    same-length-3
-    same-length-4
+    (λ c κs. search needs)
+    (λ c. search needs)
+    (λ c. search needs)
     returns-2
-    refuse-requires
-    same-length-5
+    (λ c κs. search needs)
+    (λ c. search needs)
     returns-3)

@@ -3,15 +3,6 @@ use Rattle.constants.proofs.Values.{rule-reversed, rule-none, rule-long
 use Rattle.constants.proofs.range_rule.Statement.{statement}
 use Rattle.constants.proofs.range_rule.Tie as tie
 
-decode-requires : tie.Need-decode-requires
-decode-requires c κs = search needs
-
-decode-requires-2 : tie.Need-decode-requires-2
-decode-requires-2 c κs = search needs
-
-span-requires : tie.Need-span-requires
-span-requires c κs = search needs
-
 returns : tie.Need-returns
 returns c =
     let args = c .before .before .before .before .args in
@@ -37,4 +28,4 @@ returns-3 c =
     rule-long (args .low) (args .high) (args .most) (decode .ensures) (decode2 .ensures) (span .ensures) (c .before .if1 .left) (c .if2 .left)
 
 pub range-rule-spec : {M : Type 1} → statement M
-range-rule-spec = tie.close (tie.spec decode-requires decode-requires-2 span-requires returns returns-2 returns-3)
+range-rule-spec = tie.close (tie.spec (λ c κs. search needs) (λ c κs. search needs) (λ c κs. search needs) returns returns-2 returns-3)

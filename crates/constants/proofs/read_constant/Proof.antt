@@ -9,18 +9,6 @@ use borrow.Author.Needs.{needs}
 use Rattle.constants.proofs.read_constant.Statement.{statement}
 use Rattle.constants.proofs.read_constant.Tie as tie
 
-token-at-requires : tie.Need-token-at-requires
-token-at-requires c κs = search needs
-
-moved-requires : tie.Need-moved-requires
-moved-requires c κs = search needs
-
-carrying-requires : tie.Need-carrying-requires
-carrying-requires c κs = search needs
-
-same-length : tie.Need-same-length
-same-length c = search needs
-
 returns : tie.Need-returns
 unfolding read-constant
 returns c =
@@ -43,23 +31,8 @@ returns c =
           (omega (arith, m .count, k .count));
     }
 
-is-name-requires : tie.Need-is-name-requires
-is-name-requires c κs = search needs
-
-find-name-requires : tie.Need-find-name-requires
-find-name-requires c κs = search needs
-
-enum-known-f : tie.Need-enum-known-f
-enum-known-f c = search needs
-
 enum-told : tie.Need-enum-told
 enum-told c = search needs
-
-refuse-requires : tie.Need-refuse-requires
-refuse-requires c κs = search needs
-
-same-length-2 : tie.Need-same-length-2
-same-length-2 c = search needs
 
 returns-2 : tie.Need-returns-2
 unfolding read-constant
@@ -101,12 +74,6 @@ use-name-requires c κs =
       omega (arith, token-at .ensures .inside, is-name .ensures .kind (if2 .taken), pre .tokens),
     )
 
-carrying-requires-2 : tie.Need-carrying-requires-2
-carrying-requires-2 c κs = search needs
-
-same-length-3 : tie.Need-same-length-3
-same-length-3 c = search needs
-
 returns-3 : tie.Need-returns-3
 unfolding read-constant named-constant
 returns-3 c =
@@ -139,12 +106,6 @@ returns-3 c =
           (omega (arith, u .count, k .count));
     }
 
-refuse-requires-2 : tie.Need-refuse-requires-2
-refuse-requires-2 c κs = search needs
-
-same-length-4 : tie.Need-same-length-4
-same-length-4 c = search needs
-
 returns-4 : tie.Need-returns-4
 unfolding read-constant named-constant
 returns-4 c =
@@ -170,12 +131,6 @@ returns-4 c =
       onward = nowhere y;
     }
 
-refuse-requires-3 : tie.Need-refuse-requires-3
-refuse-requires-3 c κs = search needs
-
-same-length-5 : tie.Need-same-length-5
-same-length-5 c = search needs
-
 returns-5 : tie.Need-returns-5
 unfolding read-constant
 returns-5 c =
@@ -198,26 +153,26 @@ pub read-constant-spec : {M : Type 1} → statement M
 read-constant-spec =
     tie.close
     (tie.spec
-    token-at-requires
-    moved-requires
-    carrying-requires
-    same-length
+    (λ c κs. search needs)
+    (λ c κs. search needs)
+    (λ c κs. search needs)
+    (λ c. search needs)
     returns
-    is-name-requires
-    find-name-requires
-    enum-known-f
+    (λ c κs. search needs)
+    (λ c κs. search needs)
+    (λ c. search needs)
     enum-told
-    refuse-requires
-    same-length-2
+    (λ c κs. search needs)
+    (λ c. search needs)
     returns-2
     entry-in-requires
     use-name-requires
-    carrying-requires-2
-    same-length-3
+    (λ c κs. search needs)
+    (λ c. search needs)
     returns-3
-    refuse-requires-2
-    same-length-4
+    (λ c κs. search needs)
+    (λ c. search needs)
     returns-4
-    refuse-requires-3
-    same-length-5
+    (λ c κs. search needs)
+    (λ c. search needs)
     returns-5)

@@ -75,9 +75,6 @@ read-declaration-requires c κs =
       omega (arith, token-at .ensures .inside, if1 .left),
     )
 
-enum-known-r : tie.Need-enum-known-r Inv-loop μ-loop
-enum-known-r c = search needs
-
 enum-told : tie.Need-enum-told Inv-loop μ-loop
 enum-told c = search needs
 
@@ -158,7 +155,7 @@ read-constants-spec =
     same-length-2
     returns
     read-declaration-requires
-    enum-known-r
+    (λ c. search needs)
     enum-told
     same-length-3
     same-length-4

@@ -7,23 +7,8 @@ use borrow.Author.Needs.{needs}
 use Rattle.constants.proofs.read_declaration.Statement.{statement}
 use Rattle.constants.proofs.read_declaration.Tie as tie
 
-moved-requires : tie.Need-moved-requires
-moved-requires c κs = search needs
-
-fresh-requires : tie.Need-fresh-requires
-fresh-requires c κs = search needs
-
-enum-known-r : tie.Need-enum-known-r
-enum-known-r c = search needs
-
 enum-told : tie.Need-enum-told
 enum-told c = search needs
-
-same-length : tie.Need-same-length
-same-length c = search needs
-
-same-length-2 : tie.Need-same-length-2
-same-length-2 c = search needs
 
 returns : tie.Need-returns
 unfolding read-declaration
@@ -51,18 +36,6 @@ constant-value-requires c κs =
     let r = c .before .before .before .before .r in
     let w = went (fresh .ensures .onward) (r .given .1) in
     (still (pre .0) refl refl w (omega arith), omega (arith, w .few), omega (arith, w .past, w .within))
-
-enum-known-q : tie.Need-enum-known-q
-enum-known-q c = search needs
-
-enum-told-2 : tie.Need-enum-told-2
-enum-told-2 c = search needs
-
-same-length-3 : tie.Need-same-length-3
-same-length-3 c = search needs
-
-same-length-4 : tie.Need-same-length-4
-same-length-4 c = search needs
 
 returns-2 : tie.Need-returns-2
 unfolding read-declaration
@@ -96,12 +69,6 @@ put-word-requires c κs =
     let constant-value = c .before .before .before .before .before .before .before .before .before .constant-value in
     (omega arith, constant-value .kept .1 .1 .0 ∙ pre .0 .table)
 
-same-length-5 : tie.Need-same-length-5
-same-length-5 c = search needs
-
-same-length-6 : tie.Need-same-length-6
-same-length-6 c = search needs
-
 returns-3 : tie.Need-returns-3
 unfolding read-declaration
 returns-3 c =
@@ -129,22 +96,22 @@ pub read-declaration-spec : {M : Type 1} → statement M
 read-declaration-spec =
     tie.close
     (tie.spec
-    moved-requires
-    fresh-requires
-    enum-known-r
+    (λ c κs. search needs)
+    (λ c κs. search needs)
+    (λ c. search needs)
     enum-told
-    same-length
-    same-length-2
+    (λ c. search needs)
+    (λ c. search needs)
     returns
     sub-constant-value
     constant-value-requires
-    enum-known-q
-    enum-told-2
-    same-length-3
-    same-length-4
+    (λ c. search needs)
+    (λ c. search needs)
+    (λ c. search needs)
+    (λ c. search needs)
     returns-2
     cast-put-word
     put-word-requires
-    same-length-5
-    same-length-6
+    (λ c. search needs)
+    (λ c. search needs)
     returns-3)

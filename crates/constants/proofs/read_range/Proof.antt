@@ -8,17 +8,8 @@ use borrow.Author.Tests.{eq-eqb, ne-eqb}
 use Rattle.constants.proofs.read_range.Statement.{statement}
 use Rattle.constants.proofs.read_range.Tie as tie
 
-read-signed-requires : tie.Need-read-signed-requires
-read-signed-requires c κs = search needs
-
-enum-known-r : tie.Need-enum-known-r
-enum-known-r c = search needs
-
 enum-told : tie.Need-enum-told
 enum-told c = search needs
-
-same-length : tie.Need-same-length
-same-length c = search needs
 
 returns : tie.Need-returns
 unfolding read-range
@@ -27,18 +18,6 @@ returns c =
     let enum-told = c .enum-told in
     let y = enum-told .given .1 in
     record { gives = off _ (read-signed .ensures .gives) y; onward = nowhere y }
-
-expect-requires : tie.Need-expect-requires
-expect-requires c κs = search needs
-
-enum-known-q : tie.Need-enum-known-q
-enum-known-q c = search needs
-
-enum-told-2 : tie.Need-enum-told-2
-enum-told-2 c = search needs
-
-same-length-2 : tie.Need-same-length-2
-same-length-2 c = search needs
 
 returns-2 : tie.Need-returns-2
 unfolding read-range
@@ -64,15 +43,6 @@ read-signed-requires-2 c κs =
     let v = went (expect .ensures .onward) (q .given .1) in
     still (pre) refl (read-signed .kept .1 .1 .0) v (omega (arith, u .few, pre .few))
 
-enum-known-p : tie.Need-enum-known-p
-enum-known-p c = search needs
-
-enum-told-3 : tie.Need-enum-told-3
-enum-told-3 c = search needs
-
-same-length-3 : tie.Need-same-length-3
-same-length-3 c = search needs
-
 returns-3 : tie.Need-returns-3
 unfolding read-range
 returns-3 c =
@@ -90,12 +60,6 @@ returns-3 c =
           (λ _ _. off _ (read-signed2 .ensures .gives) y));
       onward = nowhere y;
     }
-
-range-rule-requires : tie.Need-range-rule-requires
-range-rule-requires c κs = search needs
-
-carrying-requires : tie.Need-carrying-requires
-carrying-requires c κs = search needs
 
 same-length-4 : tie.Need-same-length-4
 same-length-4 c =
@@ -179,23 +143,23 @@ pub read-range-spec : {M : Type 1} → statement M
 read-range-spec =
     tie.close
     (tie.spec
-    read-signed-requires
-    enum-known-r
+    (λ c κs. search needs)
+    (λ c. search needs)
     enum-told
-    same-length
+    (λ c. search needs)
     returns
-    expect-requires
-    enum-known-q
-    enum-told-2
-    same-length-2
+    (λ c κs. search needs)
+    (λ c. search needs)
+    (λ c. search needs)
+    (λ c. search needs)
     returns-2
     read-signed-requires-2
-    enum-known-p
-    enum-told-3
-    same-length-3
+    (λ c. search needs)
+    (λ c. search needs)
+    (λ c. search needs)
     returns-3
-    range-rule-requires
-    carrying-requires
+    (λ c κs. search needs)
+    (λ c κs. search needs)
     same-length-4
     returns-4
     sub-refuse

@@ -9,23 +9,8 @@ use borrow.Author.Needs.{needs}
 use Rattle.constants.proofs.read_signed.Statement.{statement}
 use Rattle.constants.proofs.read_signed.Tie as tie
 
-token-at-requires : tie.Need-token-at-requires
-token-at-requires c κs = search needs
-
-moved-requires : tie.Need-moved-requires
-moved-requires c κs = search needs
-
-read-constant-requires : tie.Need-read-constant-requires
-read-constant-requires c κs = search needs
-
-enum-known-r : tie.Need-enum-known-r
-enum-known-r c = search needs
-
 enum-told : tie.Need-enum-told
 enum-told c = search needs
-
-same-length : tie.Need-same-length
-same-length c = search needs
 
 returns : tie.Need-returns
 unfolding read-signed
@@ -44,15 +29,6 @@ returns c =
           (off _ (on _ (advanced m) refl (λ _ _. read-constant .ensures .gives)) y));
       onward = nowhere y;
     }
-
-opposite-requires : tie.Need-opposite-requires
-opposite-requires c κs = search needs
-
-carrying-requires : tie.Need-carrying-requires
-carrying-requires c κs = search needs
-
-same-length-2 : tie.Need-same-length-2
-same-length-2 c = search needs
 
 returns-2 : tie.Need-returns-2
 unfolding read-signed
@@ -75,15 +51,6 @@ returns-2 c =
       onward = goes-on (omega (arith, carrying .ensures .at, w .past, m .at)) (omega (arith, carrying .ensures .at, w .within)) (omega (arith, carrying .ensures .count, w .few, m .count));
     }
 
-moved-requires-2 : tie.Need-moved-requires-2
-moved-requires-2 c κs = search needs
-
-read-constant-requires-2 : tie.Need-read-constant-requires-2
-read-constant-requires-2 c κs = search needs
-
-same-length-3 : tie.Need-same-length-3
-same-length-3 c = search needs
-
 returns-3 : tie.Need-returns-3
 unfolding read-signed
 returns-3 c =
@@ -101,12 +68,6 @@ returns-3 c =
           (on _ (advanced m) refl (λ _ _. read-constant2 .ensures .gives))));
       onward = further (read-constant2 .ensures .onward) (omega (arith, m .at)) (omega (arith, m .count));
     }
-
-read-constant-requires-3 : tie.Need-read-constant-requires-3
-read-constant-requires-3 c κs = search needs
-
-same-length-4 : tie.Need-same-length-4
-same-length-4 c = search needs
 
 returns-4 : tie.Need-returns-4
 unfolding read-signed
@@ -128,21 +89,21 @@ pub read-signed-spec : {M : Type 1} → statement M
 read-signed-spec =
     tie.close
     (tie.spec
-    token-at-requires
-    moved-requires
-    read-constant-requires
-    enum-known-r
+    (λ c κs. search needs)
+    (λ c κs. search needs)
+    (λ c κs. search needs)
+    (λ c. search needs)
     enum-told
-    same-length
+    (λ c. search needs)
     returns
-    opposite-requires
-    carrying-requires
-    same-length-2
+    (λ c κs. search needs)
+    (λ c κs. search needs)
+    (λ c. search needs)
     returns-2
-    moved-requires-2
-    read-constant-requires-2
-    same-length-3
+    (λ c κs. search needs)
+    (λ c κs. search needs)
+    (λ c. search needs)
     returns-3
-    read-constant-requires-3
-    same-length-4
+    (λ c κs. search needs)
+    (λ c. search needs)
     returns-4)

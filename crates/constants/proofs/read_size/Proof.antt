@@ -8,17 +8,8 @@ use Rattle.constants.proofs.Values.{size-test}
 use Rattle.constants.proofs.read_size.Statement.{statement}
 use Rattle.constants.proofs.read_size.Tie as tie
 
-read-constant-requires : tie.Need-read-constant-requires
-read-constant-requires c κs = search needs
-
-enum-known-r : tie.Need-enum-known-r
-enum-known-r c = search needs
-
 enum-told : tie.Need-enum-told
 enum-told c = search needs
-
-same-length : tie.Need-same-length
-same-length c = search needs
 
 returns : tie.Need-returns
 unfolding read-size
@@ -27,15 +18,6 @@ returns c =
     let enum-told = c .enum-told in
     let y = enum-told .given .1 in
     record { gives = off _ (read-constant .ensures .gives) y; onward = nowhere y }
-
-decode-requires : tie.Need-decode-requires
-decode-requires c κs = search needs
-
-within-requires : tie.Need-within-requires
-within-requires c κs = search needs
-
-same-length-2 : tie.Need-same-length-2
-same-length-2 c = search needs
 
 returns-2 : tie.Need-returns-2
 unfolding read-size
@@ -60,12 +42,6 @@ sub-refuse c =
     let r = c .before .before .before .before .before .before .r in
     omega (arith, went (read-constant .ensures .onward) (r .given .1) .past)
 
-refuse-requires : tie.Need-refuse-requires
-refuse-requires c κs = search needs
-
-same-length-3 : tie.Need-same-length-3
-same-length-3 c = search needs
-
 returns-3 : tie.Need-returns-3
 unfolding read-size
 returns-3 c =
@@ -88,16 +64,16 @@ pub read-size-spec : {M : Type 1} → statement M
 read-size-spec =
     tie.close
     (tie.spec
-    read-constant-requires
-    enum-known-r
+    (λ c κs. search needs)
+    (λ c. search needs)
     enum-told
-    same-length
+    (λ c. search needs)
     returns
-    decode-requires
-    within-requires
-    same-length-2
+    (λ c κs. search needs)
+    (λ c κs. search needs)
+    (λ c. search needs)
     returns-2
     sub-refuse
-    refuse-requires
-    same-length-3
+    (λ c κs. search needs)
+    (λ c. search needs)
     returns-3)

@@ -36,9 +36,6 @@ read-signed-requires c κs =
     let loop = c .before .loop in
     record { tokens = pre .tokens; table = loop .inv .1; list = pre .list; here = loop .inv .2; few = omega (arith, loop .inv .3, pre .few) }
 
-enum-known-r : tie.Need-enum-known-r Inv-loop μ-loop
-enum-known-r c = search needs
-
 enum-told : tie.Need-enum-told Inv-loop μ-loop
 enum-told c = search needs
 
@@ -270,7 +267,7 @@ read-values-spec =
     μ-loop
     loop-holds
     read-signed-requires
-    enum-known-r
+    (λ c. search needs)
     enum-told
     same-length
     returns

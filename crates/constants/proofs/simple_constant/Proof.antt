@@ -8,23 +8,8 @@ use Rattle.constants.proofs.Values.{word-of}
 use Rattle.constants.proofs.simple_constant.Statement.{statement}
 use Rattle.constants.proofs.simple_constant.Tie as tie
 
-moved-requires : tie.Need-moved-requires
-moved-requires c κs = search needs
-
-read-signed-requires : tie.Need-read-signed-requires
-read-signed-requires c κs = search needs
-
-enum-known-r : tie.Need-enum-known-r
-enum-known-r c = search needs
-
 enum-told : tie.Need-enum-told
 enum-told c = search needs
-
-same-length : tie.Need-same-length
-same-length c = search needs
-
-same-length-2 : tie.Need-same-length-2
-same-length-2 c = search needs
 
 returns : tie.Need-returns
 unfolding simple-constant
@@ -45,12 +30,6 @@ declare-requires c κs =
     let m = moved .ensures in
     let w = went (read-signed .ensures .onward) (r .given .1) in
     (pre .0 .tokens, read-signed .kept .1 .1 .0 ∙ pre .0 .table, omega (arith, w .few, m .count, pre .2), pre .0 .list)
-
-same-length-3 : tie.Need-same-length-3
-same-length-3 c = search needs
-
-same-length-4 : tie.Need-same-length-4
-same-length-4 c = search needs
 
 returns-2 : tie.Need-returns-2
 unfolding simple-constant
@@ -82,14 +61,14 @@ pub simple-constant-spec : {M : Type 1} → statement M
 simple-constant-spec =
     tie.close
     (tie.spec
-    moved-requires
-    read-signed-requires
-    enum-known-r
+    (λ c κs. search needs)
+    (λ c κs. search needs)
+    (λ c. search needs)
     enum-told
-    same-length
-    same-length-2
+    (λ c. search needs)
+    (λ c. search needs)
     returns
     declare-requires
-    same-length-3
-    same-length-4
+    (λ c. search needs)
+    (λ c. search needs)
     returns-2)

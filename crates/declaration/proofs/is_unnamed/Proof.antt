@@ -21,9 +21,6 @@ returns-3 c =
     let if3 = c .if3 in
     unnamed-literal _ _ (if1 .left) (if2 .left) (if3 .taken)
 
-is-name-requires : tie.Need-is-name-requires
-is-name-requires c κs = search needs
-
 returns-4 : tie.Need-returns-4
 returns-4 c =
     let if1 = c .before .before .before .before .before .before .if1 in
@@ -44,4 +41,4 @@ returns-5 c =
 
 pub is-unnamed-spec : {M : Type 1} → statement M
 is-unnamed-spec =
-    tie.close (tie.spec returns returns-2 returns-3 is-name-requires returns-4 returns-5)
+    tie.close (tie.spec returns returns-2 returns-3 (λ c κs. search needs) returns-4 returns-5)

@@ -2,7 +2,7 @@ use Rattle.reader.proofs.Going.{nowhere, went, goes-on}
 use native.Mathlib.Omega.{arith}
 use mathlib.Core.Path.{_∙_, refl}
 use Rattle.grammar.specs.Source.{read-cell}
-use Rattle.reader.specs.Reading.{anything}
+use Rattle.reader.specs.Contracts.Reading.{anything}
 use Rattle.reader.proofs.Steps.{on, off, here, no-further}
 use lib.IntN.{pos}
 use borrow.Author.Needs.{needs}
@@ -10,23 +10,8 @@ use Rattle.declaration.proofs.Cells.{told-at, stopped, cell-of}
 use Rattle.declaration.proofs.read_cell.Statement.{statement}
 use Rattle.declaration.proofs.read_cell.Tie as tie
 
-read-dims-requires : tie.Need-read-dims-requires
-read-dims-requires c κs = search needs
-
-enum-known-r : tie.Need-enum-known-r
-enum-known-r c = search needs
-
 enum-told : tie.Need-enum-told
 enum-told c = search needs
-
-no-cell-requires : tie.Need-no-cell-requires
-no-cell-requires c κs = search needs
-
-same-length : tie.Need-same-length
-same-length c = search needs
-
-same-length-2 : tie.Need-same-length-2
-same-length-2 c = search needs
 
 returns : tie.Need-returns
 unfolding read-cell
@@ -37,24 +22,6 @@ returns c =
     let y = enum-told .given .1 in
     let e = no-cell .ensures in
     record { gives = stopped (off {Q = anything} _ (read-dims .ensures .gives) y) e y; onward = nowhere (e ∙ y) }
-
-expect-requires : tie.Need-expect-requires
-expect-requires c κs = search needs
-
-enum-known-q : tie.Need-enum-known-q
-enum-known-q c = search needs
-
-enum-told-2 : tie.Need-enum-told-2
-enum-told-2 c = search needs
-
-no-cell-requires-2 : tie.Need-no-cell-requires-2
-no-cell-requires-2 c κs = search needs
-
-same-length-3 : tie.Need-same-length-3
-same-length-3 c = search needs
-
-same-length-4 : tie.Need-same-length-4
-same-length-4 c = search needs
 
 returns-2 : tie.Need-returns-2
 unfolding read-cell
@@ -70,24 +37,6 @@ returns-2 c =
       gives = stopped (on {Q = anything} _ (read-dims .ensures .gives) (r .given .1) (λ z d. off _ (expect .ensures .gives _ _) y)) e y;
       onward = nowhere (e ∙ y);
     }
-
-expect-requires-2 : tie.Need-expect-requires-2
-expect-requires-2 c κs = search needs
-
-enum-known-p : tie.Need-enum-known-p
-enum-known-p c = search needs
-
-enum-told-3 : tie.Need-enum-told-3
-enum-told-3 c = search needs
-
-no-cell-requires-3 : tie.Need-no-cell-requires-3
-no-cell-requires-3 c κs = search needs
-
-same-length-5 : tie.Need-same-length-5
-same-length-5 c = search needs
-
-same-length-6 : tie.Need-same-length-6
-same-length-6 c = search needs
 
 returns-3 : tie.Need-returns-3
 unfolding read-cell
@@ -123,18 +72,6 @@ read-fields-requires c κs =
     let i = pre in
     (record { tokens = i .tokens; table = read-dims .kept .1 .1 .0 ∙ i .table; list = i .list; here = d .within; few = omega (arith, d .few, b .few, a .few, i .few) }, omega (arith, d .past))
 
-enum-known-f : tie.Need-enum-known-f
-enum-known-f c = search needs
-
-enum-told-4 : tie.Need-enum-told-4
-enum-told-4 c = search needs
-
-no-cell-requires-4 : tie.Need-no-cell-requires-4
-no-cell-requires-4 c κs = search needs
-
-same-length-7 : tie.Need-same-length-7
-same-length-7 c = search needs
-
 same-length-8 : tie.Need-same-length-8
 same-length-8 c =
     let read-dims = c .before .before .before .before .before .before .before .before .before .before .before .before .before .before .before .before .before .before .before .before .before .before .before .before .before .read-dims in
@@ -161,9 +98,6 @@ returns-4 c =
           (λ _ _. here _ (on _ (expect2 .ensures .gives _ _) (p .given .1) (λ _ _. no-further (read-fields .ensures z .gives) y))))) e y;
       onward = nowhere (e ∙ y);
     }
-
-same-length-9 : tie.Need-same-length-9
-same-length-9 c = search needs
 
 same-length-10 : tie.Need-same-length-10
 same-length-10 c =
@@ -198,34 +132,34 @@ pub read-cell-spec : {M : Type 1} → statement M
 read-cell-spec =
     tie.close
     (tie.spec
-    read-dims-requires
-    enum-known-r
+    (λ c κs. search needs)
+    (λ c. search needs)
     enum-told
-    no-cell-requires
-    same-length
-    same-length-2
+    (λ c κs. search needs)
+    (λ c. search needs)
+    (λ c. search needs)
     returns
-    expect-requires
-    enum-known-q
-    enum-told-2
-    no-cell-requires-2
-    same-length-3
-    same-length-4
+    (λ c κs. search needs)
+    (λ c. search needs)
+    (λ c. search needs)
+    (λ c κs. search needs)
+    (λ c. search needs)
+    (λ c. search needs)
     returns-2
-    expect-requires-2
-    enum-known-p
-    enum-told-3
-    no-cell-requires-3
-    same-length-5
-    same-length-6
+    (λ c κs. search needs)
+    (λ c. search needs)
+    (λ c. search needs)
+    (λ c κs. search needs)
+    (λ c. search needs)
+    (λ c. search needs)
     returns-3
     read-fields-requires
-    enum-known-f
-    enum-told-4
-    no-cell-requires-4
-    same-length-7
+    (λ c. search needs)
+    (λ c. search needs)
+    (λ c κs. search needs)
+    (λ c. search needs)
     same-length-8
     returns-4
-    same-length-9
+    (λ c. search needs)
     same-length-10
     returns-5)

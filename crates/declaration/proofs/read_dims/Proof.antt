@@ -8,17 +8,8 @@ use Rattle.declaration.proofs.Tests.{dims-good, dims-none, dims-many}
 use Rattle.declaration.proofs.read_dims.Statement.{statement}
 use Rattle.declaration.proofs.read_dims.Tie as tie
 
-read-constant-requires : tie.Need-read-constant-requires
-read-constant-requires c κs = search needs
-
-enum-known-r : tie.Need-enum-known-r
-enum-known-r c = search needs
-
 enum-told : tie.Need-enum-told
 enum-told c = search needs
-
-same-length : tie.Need-same-length
-same-length c = search needs
 
 returns : tie.Need-returns
 unfolding read-dims
@@ -33,12 +24,6 @@ sub-refuse c =
     let read-constant = c .before .before .before .before .before .before .before .before .before .read-constant in
     let r = c .before .before .before .before .before .r in
     omega (arith, went (read-constant .ensures .onward) (r .given .1) .past)
-
-refuse-requires : tie.Need-refuse-requires
-refuse-requires c κs = search needs
-
-same-length-2 : tie.Need-same-length-2
-same-length-2 c = search needs
 
 returns-2 : tie.Need-returns-2
 unfolding read-dims
@@ -59,12 +44,6 @@ sub-refuse-2 c =
     let r = c .before .before .before .before .before .before .before .r in
     omega (arith, went (read-constant .ensures .onward) (r .given .1) .past)
 
-refuse-requires-2 : tie.Need-refuse-requires-2
-refuse-requires-2 c κs = search needs
-
-same-length-3 : tie.Need-same-length-3
-same-length-3 c = search needs
-
 returns-3 : tie.Need-returns-3
 unfolding read-dims
 returns-3 c =
@@ -80,9 +59,6 @@ returns-3 c =
           (omega (arith, known-told .given))) (refused-last _ y));
       onward = nowhere y;
     }
-
-same-length-4 : tie.Need-same-length-4
-same-length-4 c = search needs
 
 returns-4 : tie.Need-returns-4
 unfolding read-dims
@@ -103,18 +79,18 @@ pub read-dims-spec : {M : Type 1} → statement M
 read-dims-spec =
     tie.close
     (tie.spec
-    read-constant-requires
-    enum-known-r
+    (λ c κs. search needs)
+    (λ c. search needs)
     enum-told
-    same-length
+    (λ c. search needs)
     returns
     sub-refuse
-    refuse-requires
-    same-length-2
+    (λ c κs. search needs)
+    (λ c. search needs)
     returns-2
     sub-refuse-2
-    refuse-requires-2
-    same-length-3
+    (λ c κs. search needs)
+    (λ c. search needs)
     returns-3
-    same-length-4
+    (λ c. search needs)
     returns-4)

@@ -2,7 +2,7 @@ use native.Mathlib.Omega.{arith}
 use mathlib.Core.Path.{_∙_, sym, refl}
 use mathlib.Core.Bool.{true, false}
 use Rattle.grammar.specs.Source.{read-fields, declared}
-use Rattle.reader.specs.Reading.{anything}
+use Rattle.reader.specs.Contracts.Reading.{anything}
 use Rattle.reader.proofs.Steps.{on-told, off, so, other, token, kind-behind, made}
 use Rattle.reader.proofs.Going.{nowhere, went, goes-on}
 use borrow.Author.Needs.{needs}
@@ -11,32 +11,8 @@ use Rattle.declaration.proofs.Cells.{with-fields}
 use Rattle.declaration.proofs.read_fields.Statement.{statement}
 use Rattle.declaration.proofs.read_fields.Tie as tie
 
-token-at-requires : tie.Need-token-at-requires
-token-at-requires c κs = search needs
-
-add-kind-at : tie.Need-add-kind-at
-add-kind-at c = search needs
-
-kind-at-requires : tie.Need-kind-at-requires
-kind-at-requires c κs = search needs
-
-is-unnamed-requires : tie.Need-is-unnamed-requires
-is-unnamed-requires c κs = search needs
-
-read-range-requires : tie.Need-read-range-requires
-read-range-requires c κs = search needs
-
-enum-known-r : tie.Need-enum-known-r
-enum-known-r c = search needs
-
 enum-told : tie.Need-enum-told
 enum-told c = search needs
-
-same-length : tie.Need-same-length
-same-length c = search needs
-
-same-length-2 : tie.Need-same-length-2
-same-length-2 c = search needs
 
 returns : tie.Need-returns
 unfolding read-fields
@@ -62,15 +38,6 @@ write-ranges-requires c κs =
     let read-range = c .before .before .before .before .before .before .read-range in
     (read-range .kept .1 .1 .0 ∙ pre .0 .table, omega (arith, pre .1, pre .0 .here, pre .0 .tokens))
 
-carrying-requires : tie.Need-carrying-requires
-carrying-requires c κs = search needs
-
-same-length-3 : tie.Need-same-length-3
-same-length-3 c = search needs
-
-same-length-4 : tie.Need-same-length-4
-same-length-4 c = search needs
-
 returns-2 : tie.Need-returns-2
 unfolding read-fields
 returns-2 c =
@@ -94,15 +61,6 @@ returns-2 c =
       onward = goes-on (omega (arith, m .at, w .past)) (omega (arith, m .at, w .within)) (omega (arith, m .count, w .few, pre .0 .few));
     }
 
-read-groups-requires : tie.Need-read-groups-requires
-read-groups-requires c κs = search needs
-
-same-length-5 : tie.Need-same-length-5
-same-length-5 c = search needs
-
-same-length-6 : tie.Need-same-length-6
-same-length-6 c = search needs
-
 returns-3 : tie.Need-returns-3
 unfolding read-fields
 returns-3 c =
@@ -124,22 +82,22 @@ pub read-fields-spec : {M : Type 1} → statement M
 read-fields-spec =
     tie.close
     (tie.spec
-    token-at-requires
-    add-kind-at
-    kind-at-requires
-    is-unnamed-requires
-    read-range-requires
-    enum-known-r
+    (λ c κs. search needs)
+    (λ c. search needs)
+    (λ c κs. search needs)
+    (λ c κs. search needs)
+    (λ c κs. search needs)
+    (λ c. search needs)
     enum-told
-    same-length
-    same-length-2
+    (λ c. search needs)
+    (λ c. search needs)
     returns
     write-ranges-requires
-    carrying-requires
-    same-length-3
-    same-length-4
+    (λ c κs. search needs)
+    (λ c. search needs)
+    (λ c. search needs)
     returns-2
-    read-groups-requires
-    same-length-5
-    same-length-6
+    (λ c κs. search needs)
+    (λ c. search needs)
+    (λ c. search needs)
     returns-3)

@@ -9,20 +9,8 @@ use Rattle.declaration.proofs.Grouping.{behind, group-put}
 use Rattle.declaration.proofs.read_group.Statement.{statement}
 use Rattle.declaration.proofs.read_group.Tie as tie
 
-read-names-requires : tie.Need-read-names-requires
-read-names-requires c κs = search needs
-
-enum-known-r : tie.Need-enum-known-r
-enum-known-r c = search needs
-
 enum-told : tie.Need-enum-told
 enum-told c = search needs
-
-same-length : tie.Need-same-length
-same-length c = search needs
-
-same-length-2 : tie.Need-same-length-2
-same-length-2 c = search needs
 
 returns : tie.Need-returns
 unfolding read-group
@@ -39,18 +27,6 @@ read-range-requires c κs =
     let read-names = c .before .before .before .before .before .before .before .read-names in
     let r = c .before .before .before .r in
     still (pre .0) (read-names .kept .1 .0) refl (went (read-names .ensures .onward) (r .given .1)) (omega arith)
-
-enum-known-q : tie.Need-enum-known-q
-enum-known-q c = search needs
-
-enum-told-2 : tie.Need-enum-told-2
-enum-told-2 c = search needs
-
-same-length-3 : tie.Need-same-length-3
-same-length-3 c = search needs
-
-same-length-4 : tie.Need-same-length-4
-same-length-4 c = search needs
 
 returns-2 : tie.Need-returns-2
 unfolding read-group
@@ -77,9 +53,6 @@ add-write-ranges c =
     let pre = c .before .before .before .before .before .before .before .before .before .before .before .before .before .before .before .before .before .before .before .before .before .pre in
     omega (arith, pre .1, pre .0 .here, pre .0 .tokens)
 
-cast-write-ranges : tie.Need-cast-write-ranges
-cast-write-ranges c = search needs
-
 write-ranges-requires : tie.Need-write-ranges-requires
 write-ranges-requires c κs =
     let pre = c .before .before .before .before .before .before .before .before .before .before .before .before .before .before .before .before .before .before .before .before .before .pre in
@@ -90,16 +63,10 @@ write-ranges-requires c κs =
     let a = went (read-names .ensures .onward) (r .given .1) in
     (read-range .kept .1 .1 .0 ∙ pre .0 .table, omega (arith, pre .1, pre .0 .tokens, n .more, n .far, a .within))
 
-carrying-requires : tie.Need-carrying-requires
-carrying-requires c κs = search needs
-
 same-length-5 : tie.Need-same-length-5
 same-length-5 c =
     let read-names = c .before .before .before .before .before .before .before .before .before .before .before .before .before .before .before .before .before .before .before .read-names in
     read-names .kept .1 .0
-
-same-length-6 : tie.Need-same-length-6
-same-length-6 c = search needs
 
 returns-3 : tie.Need-returns-3
 unfolding read-group
@@ -130,23 +97,23 @@ pub read-group-spec : {M : Type 1} → statement M
 read-group-spec =
     tie.close
     (tie.spec
-    read-names-requires
-    enum-known-r
+    (λ c κs. search needs)
+    (λ c. search needs)
     enum-told
-    same-length
-    same-length-2
+    (λ c. search needs)
+    (λ c. search needs)
     returns
     read-range-requires
-    enum-known-q
-    enum-told-2
-    same-length-3
-    same-length-4
+    (λ c. search needs)
+    (λ c. search needs)
+    (λ c. search needs)
+    (λ c. search needs)
     returns-2
     sub-more
     add-write-ranges
-    cast-write-ranges
+    (λ c. search needs)
     write-ranges-requires
-    carrying-requires
+    (λ c κs. search needs)
     same-length-5
-    same-length-6
+    (λ c. search needs)
     returns-3)

@@ -6,11 +6,11 @@ use mathlib.Core.List.{[]}
 use lib.ListN.{length}
 use Rattle.grammar.specs.Reader.{repeat, turns, again, done}
 use Rattle.grammar.specs.Source.{group-turn}
-use Rattle.reader.specs.Reading.{Ready}
+use Rattle.reader.specs.Contracts.Reading.{Ready}
 use Rattle.reader.proofs.Steps.{on, off, so, token, went-on, carried, returned, advanced}
 use Rattle.reader.proofs.Turns.{Turning, turn-first, turn-again, turn-done, turn-refused}
 use Rattle.reader.proofs.Going.{nowhere, went, goes-on, still}
-use Rattle.declaration.specs.Fields.{Ranges}
+use Rattle.declaration.specs.Contracts.Fields.{Ranges}
 use Rattle.declaration.proofs.Tests.{end-test}
 use Rattle.declaration.proofs.Grouping.{no-ranges, turn-group}
 use Rattle.declaration.proofs.read_groups.Statement.{statement}
@@ -37,9 +37,6 @@ token-at-requires c κs =
     let loop = c .before .loop in
     let i = loop .inv .1 in (i .tokens, i .table)
 
-is-end-requires : tie.Need-is-end-requires Inv-loop μ-loop
-is-end-requires c κs = search needs
-
 moved-requires : tie.Need-moved-requires Inv-loop μ-loop
 moved-requires c κs =
     let loop = c .before .before .before .before .loop in
@@ -47,9 +44,6 @@ moved-requires c κs =
     let is-end = c .before .is-end in
     let if1 = c .if1 in
     omega (arith, loop .inv .1 .tokens, token-at .ensures .inside, is-end .ensures .kind (if1 .taken))
-
-carrying-requires : tie.Need-carrying-requires Inv-loop μ-loop
-carrying-requires c κs = search needs
 
 same-length : tie.Need-same-length Inv-loop μ-loop
 same-length c =
@@ -100,9 +94,6 @@ read-group-requires c κs =
     let i = loop .inv .1 in
     let g = group-start .ensures in
     (record { tokens = i .tokens; table = i .table; list = i .list; here = omega (arith, g .near, i .here, token-at .ensures .inside); few = omega (arith, g .count, i .few) }, omega (arith, g .past, loop .inv .2), loop .inv .3)
-
-enum-known-r : tie.Need-enum-known-r Inv-loop μ-loop
-enum-known-r c = search needs
 
 enum-told : tie.Need-enum-told Inv-loop μ-loop
 enum-told c = search needs
@@ -183,15 +174,15 @@ read-groups-spec =
     μ-loop
     loop-holds
     token-at-requires
-    is-end-requires
+    (λ c κs. search needs)
     moved-requires
-    carrying-requires
+    (λ c κs. search needs)
     same-length
     same-length-2
     returns
     group-start-requires
     read-group-requires
-    enum-known-r
+    (λ c. search needs)
     enum-told
     same-length-3
     same-length-4

@@ -6,7 +6,7 @@ use mathlib.Core.Path.{_∙_, refl, sym}
 use lib.ListN.{length}
 use Rattle.grammar.specs.Reader.{again, done}
 use Rattle.grammar.specs.Source.{field-turn}
-use Rattle.reader.specs.Reading.{Ready}
+use Rattle.reader.specs.Contracts.Reading.{Ready}
 use Rattle.reader.proofs.Steps.{on, on-told, off, so, other, token, carried, returned, advanced, declared}
 use Rattle.reader.proofs.Turns.{turn-again, turn-done, turn-refused, with-this}
 use Rattle.reader.proofs.Going.{nowhere, went, goes-on}
@@ -25,16 +25,10 @@ loop-holds c =
     let pre = c .before .before .before .pre in
     (naming-start _ _ (pre .1), pre .0)
 
-full-requires : tie.Need-full-requires Inv-loop μ-loop
-full-requires c κs = search needs
-
 fresh-requires : tie.Need-fresh-requires Inv-loop μ-loop
 fresh-requires c κs =
     let loop = c .before .before .loop in
     loop .inv .1
-
-enum-known-r : tie.Need-enum-known-r Inv-loop μ-loop
-enum-known-r c = search needs
 
 enum-told : tie.Need-enum-told Inv-loop μ-loop
 enum-told c = search needs
@@ -84,12 +78,6 @@ forbid-requires c κs =
     let i = loop .inv .1 in
     (i .tokens, i .table, omega (arith, went (fresh .ensures .onward) (r .given .1) .within, declare .ensures .at))
 
-enum-known-q : tie.Need-enum-known-q Inv-loop μ-loop
-enum-known-q c = search needs
-
-enum-told-2 : tie.Need-enum-told-2 Inv-loop μ-loop
-enum-told-2 c = search needs
-
 same-length-2 : tie.Need-same-length-2 Inv-loop μ-loop
 same-length-2 c =
     let pre = c .before .before .before .before .before .before .before .before .before .before .before .before .before .before .before .before .before .before .pre in
@@ -132,12 +120,6 @@ expect-requires c κs =
     let loop = c .before .before .before .before .before .before .before .before .before .before .before .before .before .before .before .before .before .before .loop in
     let i = loop .inv .1 in (i .tokens, i .table, omega arith)
 
-enum-known-p : tie.Need-enum-known-p Inv-loop μ-loop
-enum-known-p c = search needs
-
-enum-told-3 : tie.Need-enum-told-3 Inv-loop μ-loop
-enum-told-3 c = search needs
-
 same-length-3 : tie.Need-same-length-3 Inv-loop μ-loop
 same-length-3 c =
     let pre = c .before .before .before .before .before .before .before .before .before .before .before .before .before .before .before .before .before .before .before .before .before .before .before .before .before .pre in
@@ -169,9 +151,6 @@ returns-3 c =
           (token-at .ensures) (other _ _ (ne-eqb _ _ (if1 .taken)) (off _ (expect .ensures .gives _ _) y))))))) y;
       onward = nowhere y;
     }
-
-carrying-requires : tie.Need-carrying-requires Inv-loop μ-loop
-carrying-requires c κs = search needs
 
 same-length-4 : tie.Need-same-length-4 Inv-loop μ-loop
 same-length-4 c =
@@ -275,27 +254,27 @@ read-names-spec =
     Inv-loop
     μ-loop
     loop-holds
-    full-requires
+    (λ c κs. search needs)
     fresh-requires
-    enum-known-r
+    (λ c. search needs)
     enum-told
     same-length
     returns
     sub-declare
     declare-requires
     forbid-requires
-    enum-known-q
-    enum-told-2
+    (λ c. search needs)
+    (λ c. search needs)
     same-length-2
     returns-2
     add-n
     token-at-requires
     expect-requires
-    enum-known-p
-    enum-told-3
+    (λ c. search needs)
+    (λ c. search needs)
     same-length-3
     returns-3
-    carrying-requires
+    (λ c κs. search needs)
     same-length-4
     returns-4
     moved-requires

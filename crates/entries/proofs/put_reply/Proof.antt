@@ -3,24 +3,6 @@ use Rattle.entries.proofs.EntryLaws.{put-five}
 use Rattle.entries.proofs.put_reply.Statement.{statement}
 use Rattle.entries.proofs.put_reply.Tie as tie
 
-put-word-requires : tie.Need-put-word-requires
-put-word-requires c κs = search needs
-
-put-word-requires-2 : tie.Need-put-word-requires-2
-put-word-requires-2 c κs = search needs
-
-put-word-requires-3 : tie.Need-put-word-requires-3
-put-word-requires-3 c κs = search needs
-
-put-word-requires-4 : tie.Need-put-word-requires-4
-put-word-requires-4 c κs = search needs
-
-put-word-requires-5 : tie.Need-put-word-requires-5
-put-word-requires-5 c κs = search needs
-
-same-length : tie.Need-same-length
-same-length c = search needs
-
 returns : tie.Need-returns
 returns c =
     let e5 = c .before .before in
@@ -35,10 +17,10 @@ pub put-reply-spec : {M : Type 1} → statement M
 put-reply-spec =
     tie.close
     (tie.spec
-    put-word-requires
-    put-word-requires-2
-    put-word-requires-3
-    put-word-requires-4
-    put-word-requires-5
-    same-length
+    (λ c κs. search needs)
+    (λ c κs. search needs)
+    (λ c κs. search needs)
+    (λ c κs. search needs)
+    (λ c κs. search needs)
+    (λ c. search needs)
     returns)

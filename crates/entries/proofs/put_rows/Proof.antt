@@ -3,15 +3,6 @@ use Rattle.entries.proofs.EntryLaws.{put-two}
 use Rattle.entries.proofs.put_rows.Statement.{statement}
 use Rattle.entries.proofs.put_rows.Tie as tie
 
-put-number-requires : tie.Need-put-number-requires
-put-number-requires c κs = search needs
-
-put-number-requires-2 : tie.Need-put-number-requires-2
-put-number-requires-2 c κs = search needs
-
-same-length : tie.Need-same-length
-same-length c = search needs
-
 returns : tie.Need-returns
 returns c =
     let u = c .before .before in
@@ -20,4 +11,4 @@ returns c =
     put-two (s .args .entries .now) (s .args .number) (s .args .value) (t .put-number .ensures) (u .put-number2 .ensures)
 
 pub put-rows-spec : {M : Type 1} → statement M
-put-rows-spec = tie.close (tie.spec put-number-requires put-number-requires-2 same-length returns)
+put-rows-spec = tie.close (tie.spec (λ c κs. search needs) (λ c κs. search needs) (λ c. search needs) returns)

@@ -23,7 +23,7 @@ use Rattle.reader.proofs.moved.Reads as moved-reads
 use Rattle.reader.proofs.noting.Reads as noting-reads
 use Rattle.reader.proofs.refuse.Reads as refuse-reads
 use Rattle.reader.proofs.use_name.Reads as use-name-reads
-use Rattle.expressions.specs.Promises.{cell-of}
+use Rattle.expressions.specs.Contracts.Promises.{cell-of}
 use Rattle.token.proofs.Levels.{level-few}
 use Rattle.expressions.proofs.Levels.{operator-inside}
 use Rattle.expressions.proofs.Operands.{looked, either, operand-by, closed, entered}

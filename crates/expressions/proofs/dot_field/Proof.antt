@@ -7,12 +7,6 @@ use Rattle.reader.proofs.Going.{nowhere, went, further, still}
 use Rattle.expressions.proofs.dot_field.Statement.{statement}
 use Rattle.expressions.proofs.dot_field.Tie as tie
 
-expect-requires : tie.Need-expect-requires
-expect-requires c κs = search needs
-
-enum-known-r : tie.Need-enum-known-r
-enum-known-r c = search needs
-
 enum-told : tie.Need-enum-told
 enum-told c = search needs
 
@@ -45,4 +39,4 @@ returns-2 c =
 pub dot-field-spec : {M : Type 1} → statement M
 dot-field-spec =
     tie.close
-    (tie.spec expect-requires enum-known-r enum-told returns field-name-requires returns-2)
+    (tie.spec (λ c κs. search needs) (λ c. search needs) enum-told returns field-name-requires returns-2)

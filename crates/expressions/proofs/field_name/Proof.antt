@@ -7,23 +7,8 @@ use Rattle.reader.proofs.Going.{nowhere, goes-on}
 use Rattle.expressions.proofs.field_name.Statement.{statement}
 use Rattle.expressions.proofs.field_name.Tie as tie
 
-token-at-requires : tie.Need-token-at-requires
-token-at-requires c κs = search needs
-
-is-name-requires : tie.Need-is-name-requires
-is-name-requires c κs = search needs
-
-find-name-requires : tie.Need-find-name-requires
-find-name-requires c κs = search needs
-
-enum-known-f : tie.Need-enum-known-f
-enum-known-f c = search needs
-
 enum-told : tie.Need-enum-told
 enum-told c = search needs
-
-refuse-requires : tie.Need-refuse-requires
-refuse-requires c κs = search needs
 
 returns : tie.Need-returns
 unfolding field-name
@@ -55,9 +40,6 @@ cast-carrying c =
     let f = c .before .before .f in
     omega (arith, below-slot (find-name .ensures .below) (f .given .1), pre .few)
 
-carrying-requires : tie.Need-carrying-requires
-carrying-requires c κs = search needs
-
 returns-2 : tie.Need-returns-2
 unfolding field-name
 returns-2 c =
@@ -76,9 +58,6 @@ returns-2 c =
       onward = goes-on (omega (arith, m .at, k .at)) (omega (arith, m .at, k .at, token-at .ensures .inside, is-name .ensures .kind (if1 .taken))) (omega (arith, k .count, m .count));
     }
 
-refuse-requires-2 : tie.Need-refuse-requires-2
-refuse-requires-2 c κs = search needs
-
 returns-3 : tie.Need-returns-3
 unfolding field-name
 returns-3 c =
@@ -92,16 +71,16 @@ pub field-name-spec : {M : Type 1} → statement M
 field-name-spec =
     tie.close
     (tie.spec
-    token-at-requires
-    is-name-requires
-    find-name-requires
-    enum-known-f
+    (λ c κs. search needs)
+    (λ c κs. search needs)
+    (λ c κs. search needs)
+    (λ c. search needs)
     enum-told
-    refuse-requires
+    (λ c κs. search needs)
     returns
     moved-requires
     cast-carrying
-    carrying-requires
+    (λ c κs. search needs)
     returns-2
-    refuse-requires-2
+    (λ c κs. search needs)
     returns-3)

@@ -8,17 +8,8 @@ use Rattle.expressions.proofs.Indices.{put-decoded}
 use Rattle.expressions.proofs.fixed_index.Statement.{statement}
 use Rattle.expressions.proofs.fixed_index.Tie as tie
 
-read-signed-requires : tie.Need-read-signed-requires
-read-signed-requires c κs = search needs
-
-enum-known-r : tie.Need-enum-known-r
-enum-known-r c = search needs
-
 enum-told : tie.Need-enum-told
 enum-told c = search needs
-
-same-length : tie.Need-same-length
-same-length c = search needs
 
 returns : tie.Need-returns
 unfolding fixed-index
@@ -26,12 +17,6 @@ returns c =
     let read-signed = c .before .before .before .before .read-signed in
     let enum-told = c .enum-told in
     λ t. record { gives = here _ (off _ (read-signed .ensures .gives) (enum-told .given .1)); onward = nowhere (enum-told .given .1) }
-
-put-word-requires : tie.Need-put-word-requires
-put-word-requires c κs = search needs
-
-same-length-2 : tie.Need-same-length-2
-same-length-2 c = search needs
 
 returns-2 : tie.Need-returns-2
 unfolding fixed-index
@@ -46,11 +31,11 @@ pub fixed-index-spec : {M : Type 1} → statement M
 fixed-index-spec =
     tie.close
     (tie.spec
-    read-signed-requires
-    enum-known-r
+    (λ c κs. search needs)
+    (λ c. search needs)
     enum-told
-    same-length
+    (λ c. search needs)
     returns
-    put-word-requires
-    same-length-2
+    (λ c κs. search needs)
+    (λ c. search needs)
     returns-2)

@@ -7,15 +7,6 @@ use Rattle.reader.proofs.Going.{nowhere, goes-on}
 use Rattle.expressions.proofs.named_index.Statement.{statement}
 use Rattle.expressions.proofs.named_index.Tie as tie
 
-entry-in-requires : tie.Need-entry-in-requires
-entry-in-requires c κs = search needs
-
-use-name-requires : tie.Need-use-name-requires
-use-name-requires c κs = search needs
-
-same-length : tie.Need-same-length
-same-length c = search needs
-
 returns : tie.Need-returns
 unfolding named-index
 returns c =
@@ -24,12 +15,6 @@ returns c =
     let if1 = c .before .before .before .before .if1 in
     let use-name = c .before .before .use-name in
     λ source t. let u = use-name .ensures in record { gives = named _ _ (entry-in .ensures) (so _ _ (eq-eqb _ _ (if1 .taken)) (made _ (used _ (entry-in .ensures) u) (λ _ _ _. tt))); onward = goes-on (omega (arith, u .at)) (omega (arith, u .at, pre .1)) (omega (arith, u .count)) }
-
-use-name-requires-2 : tie.Need-use-name-requires-2
-use-name-requires-2 c κs = search needs
-
-same-length-2 : tie.Need-same-length-2
-same-length-2 c = search needs
 
 returns-2 : tie.Need-returns-2
 unfolding named-index
@@ -40,12 +25,6 @@ returns-2 c =
     let if2 = c .before .before .before .before .if2 in
     let use-name2 = c .before .before .use-name2 in
     λ source t. let u = use-name2 .ensures in record { gives = named _ _ (entry-in .ensures) (other _ _ (ne-eqb _ _ (if1 .left)) (so _ _ (eq-eqb _ _ (if2 .taken)) (made _ (used _ (entry-in .ensures) u) (λ _ _ _. tt)))); onward = goes-on (omega (arith, u .at)) (omega (arith, u .at, pre .1)) (omega (arith, u .count)) }
-
-refuse-requires : tie.Need-refuse-requires
-refuse-requires c κs = search needs
-
-same-length-3 : tie.Need-same-length-3
-same-length-3 c = search needs
 
 returns-3 : tie.Need-returns-3
 unfolding named-index
@@ -60,13 +39,13 @@ pub named-index-spec : {M : Type 1} → statement M
 named-index-spec =
     tie.close
     (tie.spec
-    entry-in-requires
-    use-name-requires
-    same-length
+    (λ c κs. search needs)
+    (λ c κs. search needs)
+    (λ c. search needs)
     returns
-    use-name-requires-2
-    same-length-2
+    (λ c κs. search needs)
+    (λ c. search needs)
     returns-2
-    refuse-requires
-    same-length-3
+    (λ c κs. search needs)
+    (λ c. search needs)
     returns-3)

@@ -6,12 +6,6 @@ use Rattle.reader.proofs.Going.{nowhere, went, further}
 use Rattle.expressions.proofs.plain.Statement.{statement}
 use Rattle.expressions.proofs.plain.Tie as tie
 
-forbid-requires : tie.Need-forbid-requires
-forbid-requires c κs = search needs
-
-enum-known-r : tie.Need-enum-known-r
-enum-known-r c = search needs
-
 enum-told : tie.Need-enum-told
 enum-told c = search needs
 
@@ -43,4 +37,4 @@ returns-2 c =
 
 pub plain-spec : {M : Type 1} → statement M
 plain-spec =
-    tie.close (tie.spec forbid-requires enum-known-r enum-told returns forbid-requires-2 returns-2)
+    tie.close (tie.spec (λ c κs. search needs) (λ c. search needs) enum-told returns forbid-requires-2 returns-2)

@@ -2,18 +2,12 @@ use mathlib.Core.Path.{sym}
 use native.Mathlib.Omega.{arith}
 use borrow.Author.Needs.{needs}
 use Rattle.grammar.specs.Expressions.{read-field}
-use Rattle.reader.specs.Reading.{anything}
+use Rattle.reader.specs.Contracts.Reading.{anything}
 use Rattle.reader.proofs.Steps.{on, off, so, other, carried}
 use Rattle.reader.proofs.Going.{nowhere, went, goes-on}
 use Rattle.expressions.proofs.Fields.{slot-below, field-read}
 use Rattle.expressions.proofs.read_field.Statement.{statement}
 use Rattle.expressions.proofs.read_field.Tie as tie
-
-dot-field-requires : tie.Need-dot-field-requires
-dot-field-requires c κs = search needs
-
-enum-known-r : tie.Need-enum-known-r
-enum-known-r c = search needs
 
 enum-told : tie.Need-enum-told
 enum-told c = search needs
@@ -36,12 +30,6 @@ forbid-requires c κs =
     let r = c .before .r in
     let w = went (dot-field .ensures .onward) (r .given .1) in (pre .tokens, pre .table, w .within)
 
-enum-known-q : tie.Need-enum-known-q
-enum-known-q c = search needs
-
-enum-told-2 : tie.Need-enum-told-2
-enum-told-2 c = search needs
-
 returns-2 : tie.Need-returns-2
 unfolding read-field
 returns-2 c =
@@ -55,18 +43,12 @@ returns-2 c =
       onward = nowhere (enum-told2 .given .1);
     }
 
-cast-entry-in : tie.Need-cast-entry-in
-cast-entry-in c = search needs
-
 entry-in-requires : tie.Need-entry-in-requires
 entry-in-requires c κs =
     let pre = c .before .before .before .before .before .before .before .before .before .before .before .before .before .pre in
     let dot-field = c .before .before .before .before .before .before .before .before .dot-field in
     let r = c .before .before .before .before .before .before .r in
     let w = went (dot-field .ensures .onward) (r .given .1) in (omega (arith, slot-below (dot-field .ensures .gives) (r .given .1), w .few, pre .few), pre .list)
-
-carrying-requires : tie.Need-carrying-requires
-carrying-requires c κs = search needs
 
 returns-3 : tie.Need-returns-3
 unfolding read-field
@@ -86,15 +68,6 @@ returns-3 c =
       onward = goes-on (omega (arith, w .past, v .past, k .at)) (omega (arith, v .within, k .at)) (omega (arith, w .few, v .few, k .count));
     }
 
-unnamed-requires : tie.Need-unnamed-requires
-unnamed-requires c κs = search needs
-
-enum-known-r-2 : tie.Need-enum-known-r-2
-enum-known-r-2 c = search needs
-
-enum-told-3 : tie.Need-enum-told-3
-enum-told-3 c = search needs
-
 returns-4 : tie.Need-returns-4
 unfolding read-field
 returns-4 c =
@@ -102,9 +75,6 @@ returns-4 c =
     let unnamed = c .before .before .unnamed in
     let enum-told3 = c .enum-told3 in
     record { gives = other _ _ (if1 .left) (off _ (unnamed .ensures .gives _ _) (enum-told3 .given .1)); onward = nowhere (enum-told3 .given .1) }
-
-carrying-requires-2 : tie.Need-carrying-requires-2
-carrying-requires-2 c κs = search needs
 
 returns-5 : tie.Need-returns-5
 unfolding read-field
@@ -124,21 +94,21 @@ pub read-field-spec : {M : Type 1} → statement M
 read-field-spec =
     tie.close
     (tie.spec
-    dot-field-requires
-    enum-known-r
+    (λ c κs. search needs)
+    (λ c. search needs)
     enum-told
     returns
     forbid-requires
-    enum-known-q
-    enum-told-2
+    (λ c. search needs)
+    (λ c. search needs)
     returns-2
-    cast-entry-in
+    (λ c. search needs)
     entry-in-requires
-    carrying-requires
+    (λ c κs. search needs)
     returns-3
-    unnamed-requires
-    enum-known-r-2
-    enum-told-3
+    (λ c κs. search needs)
+    (λ c. search needs)
+    (λ c. search needs)
     returns-4
-    carrying-requires-2
+    (λ c κs. search needs)
     returns-5)

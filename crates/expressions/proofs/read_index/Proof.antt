@@ -8,26 +8,8 @@ use Rattle.reader.proofs.Going.{nowhere}
 use Rattle.expressions.proofs.read_index.Statement.{statement}
 use Rattle.expressions.proofs.read_index.Tie as tie
 
-token-at-requires : tie.Need-token-at-requires
-token-at-requires c κs = search needs
-
-is-name-requires : tie.Need-is-name-requires
-is-name-requires c κs = search needs
-
-find-name-requires : tie.Need-find-name-requires
-find-name-requires c κs = search needs
-
-enum-known-f : tie.Need-enum-known-f
-enum-known-f c = search needs
-
 enum-told : tie.Need-enum-told
 enum-told c = search needs
-
-refuse-requires : tie.Need-refuse-requires
-refuse-requires c κs = search needs
-
-same-length : tie.Need-same-length
-same-length c = search needs
 
 returns : tie.Need-returns
 unfolding read-index
@@ -54,9 +36,6 @@ named-index-requires c κs =
     let f = c .before .before .f in
     (pre, omega (arith, token-at .ensures .inside, is-name .ensures .kind (if1 .taken)), below-slot (find-name .ensures .below) (f .given .1))
 
-same-length-2 : tie.Need-same-length-2
-same-length-2 c = search needs
-
 returns-2 : tie.Need-returns-2
 unfolding read-index
 returns-2 c =
@@ -70,12 +49,6 @@ returns-2 c =
       gives = token _ (token-at .ensures) (so _ _ (sym (is-name .ensures .is) ∙ if1 .taken) (found-it _ _ _ (find-name .ensures) (f .given .1) (named-index .ensures _ (token-at .result) .gives)));
       onward = named-index .ensures [] (token-at .result) .onward;
     }
-
-fixed-index-requires : tie.Need-fixed-index-requires
-fixed-index-requires c κs = search needs
-
-same-length-3 : tie.Need-same-length-3
-same-length-3 c = search needs
 
 returns-3 : tie.Need-returns-3
 unfolding read-index
@@ -93,17 +66,17 @@ pub read-index-spec : {M : Type 1} → statement M
 read-index-spec =
     tie.close
     (tie.spec
-    token-at-requires
-    is-name-requires
-    find-name-requires
-    enum-known-f
+    (λ c κs. search needs)
+    (λ c κs. search needs)
+    (λ c κs. search needs)
+    (λ c. search needs)
     enum-told
-    refuse-requires
-    same-length
+    (λ c κs. search needs)
+    (λ c. search needs)
     returns
     named-index-requires
-    same-length-2
+    (λ c. search needs)
     returns-2
-    fixed-index-requires
-    same-length-3
+    (λ c κs. search needs)
+    (λ c. search needs)
     returns-3)

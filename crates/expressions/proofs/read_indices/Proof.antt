@@ -11,7 +11,7 @@ use Rattle.grammar.specs.Expressions.{index-turn, read-indices}
 use Rattle.reader.proofs.Steps.{on, off, so, other, token, advanced, refused, returned, both-hold, first-not, second-not, not-false, not-true}
 use Rattle.reader.proofs.Turns.{Turning, turn-first, turn-again, turn-done, turn-refused}
 use Rattle.reader.proofs.Going.{nowhere, went, goes-on}
-use Rattle.expressions.specs.Promises.{cell-of}
+use Rattle.expressions.specs.Contracts.Promises.{cell-of}
 use Rattle.expressions.proofs.Indices.{first-holds, second-holds, neither, counted, full, not-full}
 use Rattle.expressions.proofs.read_indices.Statement.{statement}
 use Rattle.expressions.proofs.read_indices.Tie as tie
@@ -32,9 +32,6 @@ read-index-requires c κs =
     let pre = c .before .before .before .before .before .pre in
     let loop = c .before .loop in
     record { tokens = pre .tokens; table = loop .inv .1; list = pre .list; here = loop .inv .3; few = omega (arith, loop .inv .4, pre .few) }
-
-enum-known-r : tie.Need-enum-known-r Inv-loop μ-loop
-enum-known-r c = search needs
 
 enum-told : tie.Need-enum-told Inv-loop μ-loop
 enum-told c = search needs
@@ -235,7 +232,7 @@ read-indices-spec =
     μ-loop
     loop-holds
     read-index-requires
-    enum-known-r
+    (λ c. search needs)
     enum-told
     same-length
     returns

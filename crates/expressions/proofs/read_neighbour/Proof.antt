@@ -8,17 +8,8 @@ use Rattle.expressions.proofs.Operands.{opening-as}
 use Rattle.expressions.proofs.read_neighbour.Statement.{statement}
 use Rattle.expressions.proofs.read_neighbour.Tie as tie
 
-opening-requires : tie.Need-opening-requires
-opening-requires c κs = search needs
-
-enum-known-o : tie.Need-enum-known-o
-enum-known-o c = search needs
-
 enum-told : tie.Need-enum-told
 enum-told c = search needs
-
-same-length : tie.Need-same-length
-same-length c = search needs
 
 returns : tie.Need-returns
 unfolding read-neighbour
@@ -34,15 +25,6 @@ read-indices-requires c κs =
     let opening = c .before .before .before .before .opening in
     let o = c .before .before .o in
     let u = went (opening .ensures .onward) (o .given .1) in still (pre .0) refl refl u (pre .0 .few)
-
-enum-known-q : tie.Need-enum-known-q
-enum-known-q c = search needs
-
-enum-told-2 : tie.Need-enum-told-2
-enum-told-2 c = search needs
-
-same-length-2 : tie.Need-same-length-2
-same-length-2 c = search needs
 
 returns-2 : tie.Need-returns-2
 unfolding read-neighbour
@@ -68,15 +50,6 @@ read-field-requires c κs =
     let v = went (read-indices .ensures .onward) (q .given .1) in
     still (pre .0) refl (read-indices .kept .1 .1 .0) v (omega (arith, u .few, pre .0 .few))
 
-enum-known-r : tie.Need-enum-known-r
-enum-known-r c = search needs
-
-enum-told-3 : tie.Need-enum-told-3
-enum-told-3 c = search needs
-
-same-length-3 : tie.Need-same-length-3
-same-length-3 c = search needs
-
 returns-3 : tie.Need-returns-3
 unfolding read-neighbour
 returns-3 c =
@@ -99,9 +72,6 @@ put-field-requires c κs =
     let read-field = c .before .before .before .before .read-field in
     let r = c .before .before .r in
     let w = went (read-field .ensures .onward) (r .given .1) in (read-indices .kept .1 .1 .0 ∙ pre .0 .table, omega (arith, w .within, pre .0 .tokens))
-
-same-length-4 : tie.Need-same-length-4
-same-length-4 c = search needs
 
 returns-4 : tie.Need-returns-4
 unfolding read-neighbour
@@ -126,21 +96,21 @@ pub read-neighbour-spec : {M : Type 1} → statement M
 read-neighbour-spec =
     tie.close
     (tie.spec
-    opening-requires
-    enum-known-o
+    (λ c κs. search needs)
+    (λ c. search needs)
     enum-told
-    same-length
+    (λ c. search needs)
     returns
     read-indices-requires
-    enum-known-q
-    enum-told-2
-    same-length-2
+    (λ c. search needs)
+    (λ c. search needs)
+    (λ c. search needs)
     returns-2
     read-field-requires
-    enum-known-r
-    enum-told-3
-    same-length-3
+    (λ c. search needs)
+    (λ c. search needs)
+    (λ c. search needs)
     returns-3
     put-field-requires
-    same-length-4
+    (λ c. search needs)
     returns-4)

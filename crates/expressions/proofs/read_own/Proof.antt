@@ -7,20 +7,8 @@ use Rattle.reader.proofs.Going.{nowhere, went, goes-on}
 use Rattle.expressions.proofs.read_own.Statement.{statement}
 use Rattle.expressions.proofs.read_own.Tie as tie
 
-moved-requires : tie.Need-moved-requires
-moved-requires c κs = search needs
-
-read-field-requires : tie.Need-read-field-requires
-read-field-requires c κs = search needs
-
-enum-known-r : tie.Need-enum-known-r
-enum-known-r c = search needs
-
 enum-told : tie.Need-enum-told
 enum-told c = search needs
-
-same-length : tie.Need-same-length
-same-length c = search needs
 
 returns : tie.Need-returns
 unfolding read-own
@@ -36,9 +24,6 @@ put-field-requires c κs =
     let read-field = c .before .before .before .before .read-field in
     let r = c .before .before .r in
     let w = went (read-field .ensures .onward) (r .given .1) in (pre .0 .table, omega (arith, w .within, pre .0 .tokens))
-
-same-length-2 : tie.Need-same-length-2
-same-length-2 c = search needs
 
 returns-2 : tie.Need-returns-2
 unfolding read-own
@@ -58,12 +43,12 @@ pub read-own-spec : {M : Type 1} → statement M
 read-own-spec =
     tie.close
     (tie.spec
-    moved-requires
-    read-field-requires
-    enum-known-r
+    (λ c κs. search needs)
+    (λ c κs. search needs)
+    (λ c. search needs)
     enum-told
-    same-length
+    (λ c. search needs)
     returns
     put-field-requires
-    same-length-2
+    (λ c. search needs)
     returns-2)

@@ -2,17 +2,11 @@ use borrow.Author.Needs.{needs}
 use Rattle.expressions.proofs.unnamed.Statement.{statement}
 use Rattle.expressions.proofs.unnamed.Tie as tie
 
-plain-requires : tie.Need-plain-requires
-plain-requires c κs = search needs
-
 returns : tie.Need-returns
 returns c =
     let if1 = c .before .if1 in
     let plain = c .plain in
     rw (if1 .taken) (plain .ensures)
-
-forbid-requires : tie.Need-forbid-requires
-forbid-requires c κs = search needs
 
 returns-2 : tie.Need-returns-2
 returns-2 c =
@@ -21,4 +15,4 @@ returns-2 c =
     rw (if1 .left) (forbid .ensures)
 
 pub unnamed-spec : {M : Type 1} → statement M
-unnamed-spec = tie.close (tie.spec plain-requires returns forbid-requires returns-2)
+unnamed-spec = tie.close (tie.spec (λ c κs. search needs) returns (λ c κs. search needs) returns-2)

@@ -9,26 +9,27 @@ use lib.Dec.{eqb}
 use lib.IntN.{ℤ, natAbs}
 use borrow.Author.Tests.{eqb-true, eq-eqb}
 use Rattle.value.specs.Choice.{if_then_else_}
-use Rattle.value.specs.Laws.{never}
+use Rattle.value.proofs.Theorems.Laws.{never}
 use Rattle.automaton.specs.Step.{Fault, no-fault, fault-at, Run, Quiet, every-cell, marked, run-of, open-count, full-count, quiet-run}
-use Rattle.automaton.specs.Quiet as property
-use Rattle.automaton.specs.Quiet.{Lawful, Settled, quiet-run-agrees, open-le-full}
-use Rattle.automaton.specs.Pause.{joined}
+use Rattle.automaton.proofs.Theorems.Quiet as property
+use Rattle.automaton.proofs.Theorems.Quiet.{Lawful, Settled, quiet-run-agrees, open-le-full}
+use Rattle.automaton.proofs.Theorems.Pause.{joined}
 use Rattle.program.specs.Syntax.{Program}
 use Rattle.grammar.specs.Source.{Accepted}
 use Rattle.grammar.specs.Checking as checking
 use Rattle.grammar.specs.Checking.{Outcome, turned-away, accepted, read-source}
 use Rattle.stepper.specs.Reach.{running}
 use Rattle.stepper.specs.Report.{Manner, full, quiet, pausing, resuming, pending-of, Report, ended}
-use Rattle.stepper.specs.Covering.{running-lawful}
-use Rattle.stepper.specs.Ranges.{admitted-dims}
+use Rattle.stepper.proofs.Theorems.Covering.{running-lawful}
+use Rattle.stepper.proofs.Theorems.Ranges.{admitted-dims}
 use Rattle.one_move.specs.Profile.{profile-flag}
 use Rattle.services.specs.Running.{Asked, admitted, blocks, report-of, run, standing}
-use Rattle.services.specs.RunningLaws.{request-admitted, run-admitted}
+use Rattle.services.proofs.Theorems.RunningLaws.{request-admitted, run-admitted}
 use Rattle.services.specs.Services.{run-read, run-source, run-begins, marks-admitted, marks-read, marks-after}
-use Rattle.services.specs.AcceptedSources.{accepted-flagged}
-use Rattle.iteration.specs.Stepwise.{report-in}
-use Rattle.runner.specs.Property3.{Agree, paused-agrees}
+use Rattle.services.proofs.Theorems.AcceptedSources.{accepted-flagged}
+use Rattle.iteration.specs.Contracts.Stepwise.{report-in}
+use Rattle.runner.specs.Contracts.Agreement.{Agree}
+use Rattle.runner.proofs.Theorems.Property3.{paused-agrees}
 use Rattle.joining.specs.Joins.{Pauses, GoesOn, behind, at-once, together, all-at-once, all-together, last-marks, Chain}
 use Rattle.joining.proofs.RunLaws.{quiet-of, report-is, standing-is, steps-in, grid-in, joined-report, at-once-admitted, no-stop, stopped, both-calls}
 

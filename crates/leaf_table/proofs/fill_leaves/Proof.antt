@@ -17,15 +17,6 @@ abbrev μ-loop : tie.MeasureT-loop
 loop-holds : tie.Need-loop-holds Inv-loop μ-loop
 loop-holds c = filled-start _ _ _ _ _ _
 
-write-leaf-requires : tie.Need-write-leaf-requires Inv-loop μ-loop
-write-leaf-requires c κs = search needs
-
-add-p : tie.Need-add-p Inv-loop μ-loop
-add-p c = search needs
-
-loop-less : tie.Need-loop-less Inv-loop μ-loop
-loop-less c = search needs
-
 loop-again : tie.Need-loop-again Inv-loop μ-loop
 loop-again c =
     let before-known = c .before .before .before .before .before .before in
@@ -46,4 +37,4 @@ returns c =
 pub fill-leaves-spec : {M : Type 1} → statement M
 fill-leaves-spec =
     tie.close
-    (tie.spec Inv-loop μ-loop loop-holds write-leaf-requires add-p loop-less loop-again write-shapes-requires returns)
+    (tie.spec Inv-loop μ-loop loop-holds (λ c κs. search needs) (λ c. search needs) (λ c. search needs) loop-again write-shapes-requires returns)

@@ -16,15 +16,15 @@ use Rattle.program.specs.Syntax.{Program}
 use Rattle.grammar.specs.Source.{Accepted}
 use Rattle.grammar.specs.Checking as checking
 use Rattle.grammar.specs.Checking.{Outcome, turned-away, accepted, reply-of, read-source, check}
-use Rattle.refusals.specs.Replies.{zero-accepts}
+use Rattle.refusals.proofs.Theorems.Replies.{zero-accepts}
 use Rattle.stepper.specs.Admission.{Request}
 use Rattle.services.specs.Calls.{NameForm}
 use Rattle.one_move.specs.Profile.{profile-flag}
 use Rattle.lists.specs.ListChecking.{limits-of, verdict, check-list}
 use Rattle.lists.specs.Setting.{set-block}
 use Rattle.lists.specs.Writing.{Wanted, Wrote, unwritten, put-text, writing-admission, write, write-read, write-source}
-use Rattle.lists.specs.RoundTrip.{text-of, NoFlagFalls, RoundTrip}
-use Rattle.lists.specs.Sources.{round-trip-source}
+use Rattle.lists.proofs.Theorems.RoundTrip.{text-of, NoFlagFalls, RoundTrip}
+use Rattle.lists.proofs.Theorems.Sources.{round-trip-source}
 use Rattle.list_writer.specs.WriterCalls.{WriterLent, writer-fits, writer-left}
 
 -- the first `length` bytes of the room, as a list, for the program p and its flag

@@ -5,26 +5,11 @@ use borrow.Author.Needs.{needs}
 use Rattle.list_writer.proofs.write_list.Statement.{statement}
 use Rattle.list_writer.proofs.write_list.Tie as tie
 
-is-built-in-requires : tie.Need-is-built-in-requires
-is-built-in-requires c κs = search needs
-
 returns : tie.Need-returns
 returns c =
     let o = c .before in
     let s = o .before .before .before .before .before .before .before in
     unlisted (writer-lent (s .args .source .now) (s .args .list .now) (wanted (s .args .sizes .now) (s .args .earlier .now) (s .args .later .now) (s .args .time)) _ _ _) (o .is-built-in .ensures) (c .if1 .taken)
-
-write-listed-requires : tie.Need-write-listed-requires
-write-listed-requires c κs = search needs
-
-same-length : tie.Need-same-length
-same-length c = search needs
-
-same-length-2 : tie.Need-same-length-2
-same-length-2 c = search needs
-
-same-length-3 : tie.Need-same-length-3
-same-length-3 c = search needs
 
 returns-2 : tie.Need-returns-2
 returns-2 c =
@@ -38,10 +23,10 @@ pub write-list-spec : {M : Type 1} → statement M
 write-list-spec =
     tie.close
     (tie.spec
-    is-built-in-requires
+    (λ c κs. search needs)
     returns
-    write-listed-requires
-    same-length
-    same-length-2
-    same-length-3
+    (λ c κs. search needs)
+    (λ c. search needs)
+    (λ c. search needs)
+    (λ c. search needs)
     returns-2)

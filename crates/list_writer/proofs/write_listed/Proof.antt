@@ -7,22 +7,10 @@ use borrow.Author.Needs.{needs}
 use Rattle.list_writer.proofs.write_listed.Statement.{statement}
 use Rattle.list_writer.proofs.write_listed.Tie as tie
 
-load-requires : tie.Need-load-requires
-load-requires c κs = search needs
-
-same-length : tie.Need-same-length
-same-length c = search needs
-
-same-length-2 : tie.Need-same-length-2
-same-length-2 c = search needs
-
 returns : tie.Need-returns
 returns c =
     let s = c .before .before .before .before .before .before in
     source-refused (s .load .ensures .0) (s .load .ensures .1) _ _ (c .if1 .taken)
-
-rule-of-requires : tie.Need-rule-of-requires
-rule-of-requires c κs = search needs
 
 flag-of-requires : tie.Need-flag-of-requires
 flag-of-requires c κs =
@@ -38,15 +26,6 @@ write-loaded-requires c κs =
     let s = p .before .before .before .before .before .before in
     let a = source-read (s .load .ensures .0) (s .load .ensures .1) (not-false _ (p .if1 .left)) (o .rule-of .ensures) in (a .sized, a .some-fields)
 
-same-length-3 : tie.Need-same-length-3
-same-length-3 c = search needs
-
-same-length-4 : tie.Need-same-length-4
-same-length-4 c = search needs
-
-same-length-5 : tie.Need-same-length-5
-same-length-5 c = search needs
-
 returns-2 : tie.Need-returns-2
 returns-2 c =
     let o = c .before .before in
@@ -61,14 +40,14 @@ pub write-listed-spec : {M : Type 1} → statement M
 write-listed-spec =
     tie.close
     (tie.spec
-    load-requires
-    same-length
-    same-length-2
+    (λ c κs. search needs)
+    (λ c. search needs)
+    (λ c. search needs)
     returns
-    rule-of-requires
+    (λ c κs. search needs)
     flag-of-requires
     write-loaded-requires
-    same-length-3
-    same-length-4
-    same-length-5
+    (λ c. search needs)
+    (λ c. search needs)
+    (λ c. search needs)
     returns-2)

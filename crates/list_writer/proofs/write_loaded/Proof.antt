@@ -4,20 +4,11 @@ use borrow.Author.Needs.{needs}
 use Rattle.list_writer.proofs.write_loaded.Statement.{statement}
 use Rattle.list_writer.proofs.write_loaded.Tie as tie
 
-cell-count-requires : tie.Need-cell-count-requires
-cell-count-requires c κs = search needs
-
-admit-both-requires : tie.Need-admit-both-requires
-admit-both-requires c κs = search needs
-
 returns : tie.Need-returns
 returns c =
     let o = c .before .before in
     let s = o .before .before .before .before .before in
     read-loaded (s .fits .time) (loaded-refused (o .admit-both .ensures) _ _ (c .if1 .taken))
-
-cast-write-text : tie.Need-cast-write-text
-cast-write-text c = search needs
 
 cast-write-text-2 : tie.Need-cast-write-text-2
 cast-write-text-2 c =
@@ -31,9 +22,6 @@ write-text-requires c κs =
     let s = o .before .before in
     let w = s .admit-both .ensures .ready (o .if1 .left) in (w .grids, w .counted)
 
-same-length : tie.Need-same-length
-same-length c = search needs
-
 returns-2 : tie.Need-returns-2
 returns-2 c =
     let o = c .before .before in
@@ -46,11 +34,11 @@ pub write-loaded-spec : {M : Type 1} → statement M
 write-loaded-spec =
     tie.close
     (tie.spec
-    cell-count-requires
-    admit-both-requires
+    (λ c κs. search needs)
+    (λ c κs. search needs)
     returns
-    cast-write-text
+    (λ c. search needs)
     cast-write-text-2
     write-text-requires
-    same-length
+    (λ c. search needs)
     returns-2)

@@ -4,17 +4,8 @@ use borrow.Author.Needs.{needs}
 use Rattle.list_writer.proofs.write_text.Statement.{statement}
 use Rattle.list_writer.proofs.write_text.Tie as tie
 
-text-length-requires : tie.Need-text-length-requires
-text-length-requires c κs = search needs
-
 returns : tie.Need-returns
 returns c = too-short _ _ (c .before .text-length .ensures) (c .if1 .taken)
-
-put-list-requires : tie.Need-put-list-requires
-put-list-requires c κs = search needs
-
-same-length : tie.Need-same-length
-same-length c = search needs
 
 returns-2 : tie.Need-returns-2
 returns-2 c =
@@ -25,4 +16,4 @@ returns-2 c =
 
 pub write-text-spec : {M : Type 1} → statement M
 write-text-spec =
-    tie.close (tie.spec text-length-requires returns put-list-requires same-length returns-2)
+    tie.close (tie.spec (λ c κs. search needs) returns (λ c κs. search needs) (λ c. search needs) returns-2)

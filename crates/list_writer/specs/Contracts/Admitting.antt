@@ -11,9 +11,9 @@ use Rattle.semantics.specs.declared.Rule.{Rule}
 use Rattle.semantics.specs.Stands.{Holds}
 use Rattle.semantics.specs.Written.{relatives-in}
 use Rattle.stepper.specs.Admission.{refusal, all-between, admission}
-use Rattle.stepper.specs.Fitting.{Shaped}
+use Rattle.stepper.specs.Contracts.Fitting.{Shaped}
 use Rattle.admission.specs.declared.Refusal.{Refusal}
-use Rattle.admission.specs.Admitting.{request-of, Lists}
+use Rattle.admission.specs.Contracts.Admitting.{request-of, Lists}
 use Rattle.lists.specs.Writing.{Wanted, writing-admission}
 use Rattle.list_writer.specs.Contracts.Lines.{Grids}
 

@@ -10,7 +10,7 @@ use Rattle.semantics.specs.declared.Rule.{Rule}
 use Rattle.semantics.specs.Stands.{Holds}
 use Rattle.semantics.specs.Written.{relatives-in}
 use Rattle.services.specs.Calls.{NameForm}
-use Rattle.admission.specs.Admitting.{Lists}
+use Rattle.admission.specs.Contracts.Admitting.{Lists}
 use Rattle.one_move.specs.Profile.{flag-told}
 use Rattle.lists.specs.Writing.{Wanted, Wrote, write, write-source}
 use Rattle.list_writer.specs.declared.Written.{Written}

@@ -12,7 +12,7 @@ use lib.Dec.{eqb, ltb}
 use lib.IntN.{ℤ, pos}
 use borrow.Author.Tests.{ltb-false, ltb-true}
 use Rattle.value.specs.Number.{eqZ}
-use Rattle.value.specs.Laws.{never, and-both}
+use Rattle.value.proofs.Theorems.Laws.{never, and-both}
 use Rattle.automaton.specs.Listed.{getD-list-of}
 use Rattle.automaton.specs.Shape as shape
 use Rattle.automaton.specs.ShapeLaws.{Positive}
@@ -26,8 +26,8 @@ use Rattle.lists.specs.Lines.{Said, bad, time, cell, said}
 use Rattle.lists.specs.ListChecking.{Limits, value-fits, all-fit, is-zero, clears, cell-number}
 use Rattle.lists.specs.Setting.{store-values, set-lines, set-block}
 use Rattle.lists.specs.Passing.{Passes, passes-first}
-use Rattle.lists.specs.Kept.{right-cell}
-use Rattle.lists.specs.RoundTrip.{store-length, Flagged, zero-or-one, flag-in-range}
+use Rattle.lists.proofs.Theorems.Kept.{right-cell}
+use Rattle.lists.proofs.Theorems.RoundTrip.{store-length, Flagged, zero-or-one, flag-in-range}
 
 -- ---- values stored
 

@@ -8,13 +8,13 @@ use lib.ListN.{length}
 use Rattle.grammar.specs.Checking.{rooms-fit}
 use Rattle.semantics.specs.declared.Rule.{Rule}
 use Rattle.semantics.specs.Written.{relatives-in}
-use Rattle.linking.specs.Accepted.{written}
-use Rattle.services.specs.AcceptedSources.{accepted-flagged}
+use Rattle.linking.proofs.Theorems.Accepted.{written}
+use Rattle.services.proofs.Theorems.AcceptedSources.{accepted-flagged}
 use Rattle.checker.specs.declared.checking.Outline.{Outline}
-use Rattle.checker.specs.Promises.{Trace, Outlines, accepted-by, Loads, Checks}
+use Rattle.checker.specs.Contracts.Promises.{Trace, Outlines, accepted-by, Loads, Checks}
 use Rattle.profile.proofs.StandingLaws.{linked-by, parsed-by, words-by, rule-by, stood-by, sized}
-use Rattle.admission.specs.Admitting.{Lists}
-use Rattle.loading.specs.Loaded.{Accepts}
+use Rattle.admission.specs.Contracts.Admitting.{Lists}
+use Rattle.loading.specs.Contracts.Loaded.{Accepts}
 
 module _ {source ws ns : List ℕ} {known : Bool} {o : Outline} {n place : ℕ} {ws′ ns′ : List ℕ}
     (checked : Checks (rooms-fit (length ws) (length ns)) source ws ns n place ws′ ns′) (loaded : Loads source ws ns known o) (sure : known ≡ true) where

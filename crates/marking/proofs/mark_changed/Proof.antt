@@ -2,7 +2,7 @@ use Prim.Native.Nat.{_-_}
 use mathlib.Core.Path.{_≡_, refl, _∙_}
 use native.Mathlib.Omega.{arith}
 use lib.ListN.{length}
-use Rattle.marking.specs.Noting.{cells-by, Counts}
+use Rattle.marking.specs.Contracts.Noting.{cells-by, Counts}
 use Rattle.marking.proofs.OpenLaws.{Opening, shaped, opening-start, opening-more, changed-done}
 use borrow.Author.Needs.{needs}
 use Rattle.marking.proofs.mark_changed.Statement.{statement}
@@ -26,22 +26,10 @@ open-changed-requires c κs =
     let l = c .before .before .before .loop in
     (shaped _ _ _ _ _ _ _ _ p, l .inv .2, p .led, p .few, p .old-fits, p .grid-fits, l .inv .0 .len ∙ p .marks-fit, omega (arith, p .marks-fit, c .before .before .loop-test .taken, l .inv .1))
 
-add-c : tie.Need-add-c Inv-loop μ-loop
-add-c c = search needs
-
-loop-less : tie.Need-loop-less Inv-loop μ-loop
-loop-less c = search needs
-
 loop-again : tie.Need-loop-again Inv-loop μ-loop
 loop-again c =
     let l = c .before .before .before .before .before .before .loop in
     (opening-more _ _ _ _ _ _ _ _ (c .before .before .before .before .before .before .before .before .before .before .before .pre) (l .marks) _ (l .c) (l .inv .0) (omega (arith, c .before .before .before .before .before .loop-test .taken, l .inv .1)) (c .before .before .open-changed .ensures), l .inv .1, l .inv .2)
-
-flag-marks-requires : tie.Need-flag-marks-requires Inv-loop μ-loop
-flag-marks-requires c κs = search needs
-
-same-length : tie.Need-same-length Inv-loop μ-loop
-same-length c = search needs
 
 returns : tie.Need-returns Inv-loop μ-loop
 returns c =
@@ -57,9 +45,9 @@ mark-changed-spec =
     counts-of-requires
     loop-holds
     open-changed-requires
-    add-c
-    loop-less
+    (λ c. search needs)
+    (λ c. search needs)
     loop-again
-    flag-marks-requires
-    same-length
+    (λ c κs. search needs)
+    (λ c. search needs)
     returns)

@@ -2,7 +2,7 @@ use Prim.Native.Nat.{_-_}
 use mathlib.Core.Path.{_≡_, refl, _∙_}
 use native.Mathlib.Omega.{arith}
 use lib.ListN.{length}
-use Rattle.marking.specs.Noting.{cells-by, Counts}
+use Rattle.marking.specs.Contracts.Noting.{cells-by, Counts}
 use Rattle.marking.proofs.OpenLaws.{Opening, shaped, opening-start, opening-more, opening-skip, opening-done}
 use borrow.Author.Needs.{needs}
 use Rattle.marking.proofs.mark_open.Statement.{statement}
@@ -17,9 +17,6 @@ abbrev μ-loop : tie.MeasureT-loop
 counts-of-requires : tie.Need-counts-of-requires Inv-loop μ-loop
 counts-of-requires c κs = shaped _ _ _ _ _ _ _ _ (c .before .before .before .pre .markable)
 
-next-odd-requires : tie.Need-next-odd-requires Inv-loop μ-loop
-next-odd-requires c κs = search needs
-
 loop-holds : tie.Need-loop-holds Inv-loop μ-loop
 loop-holds c = (opening-skip _ _ _ _ _ _ _ _ (c .before .before .before .before .before .before .pre) _ _ _ (opening-start _ _ _ _ _ _ _ _ (c .before .before .before .before .before .before .pre .markable)) (c .next-odd .ensures), refl, c .before .before .counts-of .ensures)
 
@@ -29,20 +26,8 @@ open-changed-requires c κs = (shaped _ _ _ _ _ _ _ _ (c .before .before .before
 add-next-odd : tie.Need-add-next-odd Inv-loop μ-loop
 add-next-odd c = omega (arith, c .before .before .before .before .before .before .loop-test .taken)
 
-next-odd-requires-2 : tie.Need-next-odd-requires-2 Inv-loop μ-loop
-next-odd-requires-2 c κs = search needs
-
-loop-less : tie.Need-loop-less Inv-loop μ-loop
-loop-less c = search needs
-
 loop-again : tie.Need-loop-again Inv-loop μ-loop
 loop-again c = (opening-skip _ _ _ _ _ _ _ _ (c .before .before .before .before .before .before .before .before .before .before .before .before .before .before .before .pre) _ _ _ (opening-more _ _ _ _ _ _ _ _ (c .before .before .before .before .before .before .before .before .before .before .before .before .before .before .before .pre .markable) (c .before .before .before .before .before .before .before .before .loop .marks) _ (c .before .before .before .before .before .before .before .before .loop .c) (c .before .before .before .before .before .before .before .before .loop .inv .0) (omega (arith, c .before .before .before .before .before .before .before .loop-test .taken, c .before .before .before .before .before .before .before .before .loop .inv .1)) (c .before .before .before .before .open-changed .ensures)) (c .next-odd2 .ensures), c .before .before .before .before .before .before .before .before .loop .inv .1, c .before .before .before .before .before .before .before .before .loop .inv .2)
-
-halve-requires : tie.Need-halve-requires Inv-loop μ-loop
-halve-requires c κs = search needs
-
-same-length : tie.Need-same-length Inv-loop μ-loop
-same-length c = search needs
 
 returns : tie.Need-returns Inv-loop μ-loop
 returns c = opening-done _ _ _ _ _ _ _ _ (c .before .before .before .before .before .before .before .before .before .before .before .before .pre) (c .before .before .before .before .before .loop .marks) _ (c .before .before .before .before .before .loop .c) (c .before .before .before .before .before .loop .inv .0) (omega (arith, c .before .before .before .before .loop-test .left, c .before .before .before .before .before .loop .inv .1)) (c .before .before .halve .ensures)
@@ -54,13 +39,13 @@ mark-open-spec =
     Inv-loop
     μ-loop
     counts-of-requires
-    next-odd-requires
+    (λ c κs. search needs)
     loop-holds
     open-changed-requires
     add-next-odd
-    next-odd-requires-2
-    loop-less
+    (λ c κs. search needs)
+    (λ c. search needs)
     loop-again
-    halve-requires
-    same-length
+    (λ c κs. search needs)
+    (λ c. search needs)
     returns)

@@ -9,9 +9,6 @@ differs-requires c κs = fields-fit _ _ _ _ _ (c .before .before .before .pre .7
 open-from-requires : tie.Need-open-from-requires
 open-from-requires c κs = (c .before .before .before .before .before .before .pre .0, c .before .before .before .before .before .before .pre .1, c .before .before .before .before .before .before .pre .2, c .before .before .before .before .before .before .pre .6, c .before .before .before .before .before .before .pre .7)
 
-same-length : tie.Need-same-length
-same-length c = search needs
-
 returns : tie.Need-returns
 returns c = opens-some _ _ _ _ _ _ (c .before .before .before .before .before .differs .ensures) _ (c .before .before .before .before .if1 .taken) (c .before .before .open-from .ensures)
 
@@ -20,4 +17,4 @@ returns-2 c = opens-none _ _ _ _ _ _ (c .before .differs .ensures) (c .if1 .left
 
 pub open-changed-spec : {M : Type 1} → statement M
 open-changed-spec =
-    tie.close (tie.spec differs-requires open-from-requires same-length returns returns-2)
+    tie.close (tie.spec differs-requires open-from-requires (λ c. search needs) returns returns-2)

@@ -4,14 +4,8 @@ use Rattle.names.proofs.Spelling.{Spellings}
 use Rattle.names.proofs.folded.Statement.{statement}
 use Rattle.names.proofs.folded.Tie as tie
 
-shared-slice-read-b : tie.Need-shared-slice-read-b
-shared-slice-read-b c = search needs
-
 cast-b : tie.Need-cast-b
 cast-b c = omega (arith, c .shared-slice-known .given (c .before .before .args .i))
-
-add-result : tie.Need-add-result
-add-result c = search needs
 
 returns : tie.Need-returns
 returns c = search Spellings
@@ -28,4 +22,4 @@ returns-4 c = search Spellings
 pub folded-spec : {M : Type 1} → statement M
 folded-spec =
     tie.close
-    (tie.spec shared-slice-read-b cast-b add-result returns returns-2 returns-3 returns-4)
+    (tie.spec (λ c. search needs) cast-b (λ c. search needs) returns returns-2 returns-3 returns-4)

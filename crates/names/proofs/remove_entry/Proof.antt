@@ -18,53 +18,20 @@ abbrev μ-loop : tie.MeasureT-loop
 μ-loop names₀ slot from many k₀ names k = many - k
 
 -- src/lib.rt:64:16
-mul-from : tie.Need-mul-from Inv-loop μ-loop
-mul-from c = search needs
-
 -- src/lib.rt:65:16
-sub-many : tie.Need-sub-many Inv-loop μ-loop
-sub-many c = search needs
-
 -- src/lib.rt:67:5
 loop-holds : tie.Need-loop-holds Inv-loop μ-loop
 loop-holds c = (paste-zero (c .args .names .now) (4 * c .args .slot) (drop (4 * c .args .slot + 4) (c .args .names .now)), omega arith, refl, refl, omega arith)
 
 -- src/lib.rt:68:33
-add-names : tie.Need-add-names Inv-loop μ-loop
-add-names c = search needs
-
 -- src/lib.rt:68:33
-add-names-2 : tie.Need-add-names-2 Inv-loop μ-loop
-add-names-2 c = search needs
-
 -- src/lib.rt:68:27
-mul-names : tie.Need-mul-names Inv-loop μ-loop
-mul-names c = search needs
-
 -- src/lib.rt:68:27
-slice-read-names : tie.Need-slice-read-names Inv-loop μ-loop
-slice-read-names c = search needs
-
 -- src/lib.rt:68:15
-add-names-3 : tie.Need-add-names-3 Inv-loop μ-loop
-add-names-3 c = search needs
-
 -- src/lib.rt:68:9
-mul-names-2 : tie.Need-mul-names-2 Inv-loop μ-loop
-mul-names-2 c = search needs
-
 -- src/lib.rt:68:9
-slice-write-names : tie.Need-slice-write-names Inv-loop μ-loop
-slice-write-names c = search needs
-
 -- src/lib.rt:69:9
-add-k : tie.Need-add-k Inv-loop μ-loop
-add-k c = search needs
-
 -- src/lib.rt:67:5
-loop-less : tie.Need-loop-less Inv-loop μ-loop
-loop-less c = search needs
-
 -- src/lib.rt:67:5
 loop-again : tie.Need-loop-again Inv-loop μ-loop
 loop-again c =
@@ -76,21 +43,9 @@ loop-again c =
     (e, omega arith, refl, refl, length-set (l .names) (from + l .k) _ ∙ l .inv .4)
 
 -- src/lib.rt:71:5
-slice-write-names-2 : tie.Need-slice-write-names-2 Inv-loop μ-loop
-slice-write-names-2 c = search needs
-
 -- src/lib.rt:72:5
-slice-write-names-3 : tie.Need-slice-write-names-3 Inv-loop μ-loop
-slice-write-names-3 c = search needs
-
 -- src/lib.rt:73:5
-slice-write-names-4 : tie.Need-slice-write-names-4 Inv-loop μ-loop
-slice-write-names-4 c = search needs
-
 -- src/lib.rt:74:5
-slice-write-names-5 : tie.Need-slice-write-names-5 Inv-loop μ-loop
-slice-write-names-5 c = search needs
-
 -- src/lib.rt:60:1
 same-length : tie.Need-same-length Inv-loop μ-loop
 same-length c = simp length-set (c .before .loop .inv .4 ∙ omega arith)
@@ -109,22 +64,22 @@ remove-entry-spec =
     (tie.spec
     Inv-loop
     μ-loop
-    mul-from
-    sub-many
+    (λ c. search needs)
+    (λ c. search needs)
     loop-holds
-    add-names
-    add-names-2
-    mul-names
-    slice-read-names
-    add-names-3
-    mul-names-2
-    slice-write-names
-    add-k
-    loop-less
+    (λ c. search needs)
+    (λ c. search needs)
+    (λ c. search needs)
+    (λ c. search needs)
+    (λ c. search needs)
+    (λ c. search needs)
+    (λ c. search needs)
+    (λ c. search needs)
+    (λ c. search needs)
     loop-again
-    slice-write-names-2
-    slice-write-names-3
-    slice-write-names-4
-    slice-write-names-5
+    (λ c. search needs)
+    (λ c. search needs)
+    (λ c. search needs)
+    (λ c. search needs)
     same-length
     returns)

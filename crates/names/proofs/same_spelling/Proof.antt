@@ -14,26 +14,8 @@ abbrev μ-loop : tie.MeasureT-loop
 loop-holds : tie.Need-loop-holds Inv-loop μ-loop
 loop-holds c = search (needs, Spellings)
 
-add-folded : tie.Need-add-folded Inv-loop μ-loop
-add-folded c = search needs
-
-folded-requires : tie.Need-folded-requires Inv-loop μ-loop
-folded-requires c κs = search needs
-
-add-folded-2 : tie.Need-add-folded-2 Inv-loop μ-loop
-add-folded-2 c = search needs
-
-folded-requires-2 : tie.Need-folded-requires-2 Inv-loop μ-loop
-folded-requires-2 c κs = search needs
-
 returns : tie.Need-returns Inv-loop μ-loop
 returns c = search Spellings
-
-add-k : tie.Need-add-k Inv-loop μ-loop
-add-k c = search needs
-
-loop-less : tie.Need-loop-less Inv-loop μ-loop
-loop-less c = search needs
 
 loop-again : tie.Need-loop-again Inv-loop μ-loop
 loop-again c = search (needs, Spellings)
@@ -48,12 +30,12 @@ same-spelling-spec =
     Inv-loop
     μ-loop
     loop-holds
-    add-folded
-    folded-requires
-    add-folded-2
-    folded-requires-2
+    (λ c. search needs)
+    (λ c κs. search needs)
+    (λ c. search needs)
+    (λ c κs. search needs)
     returns
-    add-k
-    loop-less
+    (λ c. search needs)
+    (λ c. search needs)
     loop-again
     returns-2)

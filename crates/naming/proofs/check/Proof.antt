@@ -47,9 +47,9 @@ use Rattle.grammar.specs.Checking.{check, words-after}
 use Rattle.names.specs.Names.{most-names}
 use Rattle.checker.specs.declared.checking.Reply.{Reply}
 use Rattle.cellang.specs.Left.{lent-rows-fit}
-use Rattle.cellang.specs.Promises.{ChecksRows}
+use Rattle.cellang.specs.Contracts.Promises.{ChecksRows}
 use Rattle.cellang.proofs.AnswerRow.{ReplyRow}
-use Rattle.naming.specs.Promises.{ChecksSource}
+use Rattle.naming.specs.Contracts.Promises.{ChecksSource}
 use Rattle.records.specs.declared.Name.{Name}
 use Rattle.records.proofs.NameRow.{Row, vals, tells, makes, ArrayTy, array-ok, array-mach, cell-row, row-room}
 use Rattle.naming.proofs.RanRow.{reply-ok}

@@ -44,7 +44,7 @@ use denote.Exit.{yes}
 use Rattle.records.specs.declared.Name.{Name}
 use Rattle.records.specs.Rows.{no-name, FindsField}
 use Rattle.records.proofs.NameRow.{Row, vals, tells, makes, typed-at, ArrayTy, array-ok, array-mach, cell-row, row-room}
-use Rattle.naming.specs.Promises.{NamesField}
+use Rattle.naming.specs.Contracts.Promises.{NamesField}
 use Rattle.cellang.proofs.find_field as g
 use Rattle.cellang.proofs.find_field.Symbol as g-def
 use Rattle.cellang.proofs.find_field.Symbol.{name as #g}

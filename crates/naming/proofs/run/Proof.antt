@@ -52,9 +52,9 @@ use Rattle.services.specs.Calls.{memory, lent, asked, read-lent, run-report}
 use Rattle.services.specs.RangesKept.{RangesKept}
 use Rattle.iteration.specs.declared.Report.{Report}
 use Rattle.iteration.specs.declared.Manner.{Manner}
-use Rattle.iteration.specs.Stepwise.{told}
-use Rattle.runner.specs.Sourcewise.{manner-of, RunLeaves}
-use Rattle.runner.specs.Property3.{AgreesFresh}
+use Rattle.iteration.specs.Contracts.Stepwise.{told}
+use Rattle.runner.specs.Contracts.Sourcewise.{manner-of, RunLeaves}
+use Rattle.runner.specs.Contracts.Agreement.{AgreesFresh}
 use Rattle.cellang.specs.Left.{row-names}
 use Rattle.cellang.proofs.MannerRow.{MannerRow, manner-val, manner-vals, manner-tells, manner-makes, manner-lawful}
 use Rattle.cellang.proofs.RunAnswerRow.{ReportRow}

@@ -7,15 +7,15 @@ use mathlib.Core.List.{List, [], _∷_, _++_}
 use lib.Dec.{ltb}
 use lib.ListN.{length}
 use borrow.Author.Tests.{ltb-true}
-use Rattle.value.specs.Laws.{and-both}
+use Rattle.value.proofs.Theorems.Laws.{and-both}
 use Rattle.token.specs.Kind.{kind}
 use Rattle.program.specs.Syntax.{Expr, Block, empty, assign, select, loop, exit, constant, Program}
 use Rattle.grammar.specs.Reader.{Input, State, ok, Reader, _>>=_, _>>_, _<<_, _▷_, return, Turn, again, done, repeat, turns, is-kind, is-name, token-of}
 use Rattle.grammar.specs.Expressions.{Cell, read-expression}
 use Rattle.grammar.specs.Statements.{Arm, choices, arm-end, arm-turn, read-if, read-forall, read-exit, read-assignment, Parts, put-after, statement-turn, read-block}
 use Rattle.grammar.specs.Source.{most-open, input-of, Accepted, accepted-as, parse}
-use Rattle.linking.specs.Steps.{Gives, bind, made, gave, choose, refused, repeated, Turned, given-as, at-token}
-use Rattle.linking.specs.Accepted.{Parsed, parsed}
+use Rattle.linking.proofs.Theorems.Steps.{Gives, bind, made, gave, choose, refused, repeated, Turned, given-as, at-token}
+use Rattle.linking.proofs.Theorems.Accepted.{Parsed, parsed}
 use Rattle.one_move.proofs.Theorems.Moving.{Enclosed}
 
 -- a statement keeps this of those after it

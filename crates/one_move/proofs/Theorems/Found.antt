@@ -13,7 +13,7 @@ use lib.IntN.{ℤ, pos}
 use borrow.Author.Tests.{eqb-true, eqb-false}
 use Rattle.value.specs.Choice.{if_then_else_}
 use Rattle.value.specs.Worked.{decode-of}
-use Rattle.value.specs.Laws.{never, and-both}
+use Rattle.value.proofs.Theorems.Laws.{never, and-both}
 use Rattle.token.specs.Kind.{kind, level-of}
 use Rattle.program.specs.Syntax.{Expr, number, field, binary, Target, to-field, Clause, Block, empty, assign, select, loop, exit, constant}
 use Rattle.semantics.specs.Stands.{Table, is-sign, is-unary, Decoded, parsed, nothing, and-then, decode-expression, decode-chain, decode-operand, decode-primary, ExprAt, target-in, first-clause, GuardAt, ClausesAt, ElseAt, ArmAt, begins, assigns, Stands}

@@ -11,7 +11,7 @@ use lib.IntN.{ℤ, pos}
 use borrow.Author.Tests.{ltb-true, ltb-false, le-ltb}
 use Rattle.value.specs.Choice.{if_then_else_}
 use Rattle.value.specs.Number.{eqZ}
-use Rattle.value.specs.Laws.{never, and-both, eqZ-true}
+use Rattle.value.proofs.Theorems.Laws.{never, and-both, eqZ-true}
 use Rattle.token.specs.Scanning.{scan}
 use Rattle.names.specs.declared.Entry.{Entry}
 use Rattle.names.specs.Names.{name-kind, is, entry-at}
@@ -20,7 +20,7 @@ use Rattle.grammar.specs.Reader.{Result, ok, fail, State, _>>=_, position}
 use Rattle.grammar.specs.Source.{Accepted, input-of, start-state, parse}
 use Rattle.grammar.specs.Checking.{Outcome, turned-away, refused, accepted, outcome-of, most-bytes, read-source}
 use Rattle.semantics.specs.Stands.{word-in, table-of, Stands}
-use Rattle.linking.specs.Accepted.{Parsed, parsed, holds}
+use Rattle.linking.proofs.Theorems.Accepted.{Parsed, parsed, holds}
 use Rattle.one_move.specs.Profile.{is-flag, flag-of, flag-in, moved-slot, flag-field, moves-once, read-head, position-in, statements-at, tokens-of, if-moves, profile-flag, Answer, rule-missed, missed, answer-of, one-move}
 use Rattle.one_move.proofs.Theorems.Moving.{OneMove, Moves}
 use Rattle.one_move.proofs.Theorems.Exits.{enclosed}

@@ -11,7 +11,7 @@ use lib.Seq.{getD-set-same}
 use lib.IntN.{ℤ, pos, _+ℤ_}
 use Rattle.value.specs.Choice.{if_then_else_}
 use Rattle.value.specs.Number.{eqZ}
-use Rattle.value.specs.Laws.{never, eqZ-true}
+use Rattle.value.proofs.Theorems.Laws.{never, eqZ-true}
 use Rattle.value.specs.Worked.{truth, span-of}
 use Rattle.automaton.specs.Step.{Outcome, state}
 use Rattle.token.specs.Kind.{kind}
@@ -19,7 +19,7 @@ use Rattle.program.specs.Syntax.{Range, range, no-range, Index, Expr, number, f
 use Rattle.semantics.specs.Operators.{Worth, worth, failed, placed, apply-binary, compare}
 use Rattle.semantics.specs.Evaluation.{Env, with-worth, entry, offsets, eval, Flow, on, leaving, faulted, Frame, frame, goes, when-on, onward, valued, in-field, store, branch, conditional, assign-first, turned, each, exec, outcome-of, evaluate}
 use Rattle.semantics.specs.Places.{own-place}
-use Rattle.semantics.specs.Kept.{exec-keeps}
+use Rattle.semantics.proofs.Theorems.Kept.{exec-keeps}
 
 -- ---- as a tree
 

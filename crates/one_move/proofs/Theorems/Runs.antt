@@ -11,20 +11,20 @@ use mathlib.Core.Option.{Option, none, some}
 use lib.ListN.{length, getD, length-set}
 use lib.Seq.{ext-getD}
 use lib.IntN.{ℤ, pos}
-use Rattle.value.specs.Laws.{never}
+use Rattle.value.proofs.Theorems.Laws.{never}
 use Rattle.automaton.specs.Listed.{list-of, length-list-of, getD-list-of, list-of-ext}
 use Rattle.automaton.specs.Step.{Outcome, state, fault, Fault, no-fault, fault-at, fault-of, state-or, first-fault, Automaton, Step, Run, one-more, grid-after, step-of, no-blocks, run-of}
-use Rattle.automaton.specs.Quiet.{first-fault-none, run-go, run-stop}
+use Rattle.automaton.proofs.Theorems.Quiet.{first-fault-none, run-go, run-stop}
 use Rattle.automaton.specs.Shape.{product, neighbour}
 use Rattle.automaton.specs.ShapeLaws.{Positive, neighbour-zeros}
 use Rattle.automaton.specs.Grid.{cell-of, grid-of, automaton}
-use Rattle.automaton.specs.GridLaws.{cell-of-grid-of, some-field}
+use Rattle.automaton.proofs.Theorems.GridLaws.{cell-of-grid-of, some-field}
 use Rattle.program.specs.Syntax.{Range, range, no-range, Program}
 use Rattle.semantics.specs.Evaluation.{entry, evaluate}
 use Rattle.semantics.specs.Places.{own-place}
 use Rattle.stepper.specs.Reach.{reach, running}
-use Rattle.semantics.specs.Kept.{evaluate-keeps}
-use Rattle.stepper.specs.Locality.{own-zeros}
+use Rattle.semantics.proofs.Theorems.Kept.{evaluate-keeps}
+use Rattle.stepper.proofs.Theorems.Locality.{own-zeros}
 use Rattle.one_move.proofs.Theorems.Moving.{OneMove, still, moved}
 
 cell-length : (fields : ℕ) (g : List ℤ) (c : ℕ) → length (cell-of fields g c) ≡ fields

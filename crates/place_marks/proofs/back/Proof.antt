@@ -9,29 +9,11 @@ use Rattle.place_marks.proofs.back.Tie as tie
 returns : tie.Need-returns
 returns c = back-none (c .before .args .word) (c .before .args .n) (c .if1 .taken)
 
-sub-result : tie.Need-sub-result
-sub-result c = search needs
-
-sub-result-2 : tie.Need-sub-result-2
-sub-result-2 c = search needs
-
-rem-result : tie.Need-rem-result
-rem-result c = search needs
-
 sub-result-3 : tie.Need-sub-result-3
 sub-result-3 c = omega (arith, mod-lt (c .before .before .args .word - 1) (c .before .before .pre))
 
 returns-2 : tie.Need-returns-2
 returns-2 c = back-ahead (c .before .before .args .word) (c .before .before .args .n) (c .before .if1 .left) (c .if2 .taken)
-
-sub-result-4 : tie.Need-sub-result-4
-sub-result-4 c = search needs
-
-add-result : tie.Need-add-result
-add-result c = search needs
-
-rem-result-2 : tie.Need-rem-result-2
-rem-result-2 c = search needs
 
 returns-3 : tie.Need-returns-3
 returns-3 c = back-behind (c .before .before .args .word) (c .before .before .args .n) (c .if2 .left) (omega arith)
@@ -41,12 +23,12 @@ back-spec =
     tie.close
     (tie.spec
     returns
-    sub-result
-    sub-result-2
-    rem-result
+    (λ c. search needs)
+    (λ c. search needs)
+    (λ c. search needs)
     sub-result-3
     returns-2
-    sub-result-4
-    add-result
-    rem-result-2
+    (λ c. search needs)
+    (λ c. search needs)
+    (λ c. search needs)
     returns-3)

@@ -2,7 +2,7 @@ use Prim.Native.Nat.{_-_, _≤_}
 use mathlib.Core.Path.{sym, _∙_}
 use lib.ListN.{length}
 use native.Mathlib.Omega.{arith}
-use Rattle.stepper.specs.Digits.{size-positive}
+use Rattle.stepper.proofs.Theorems.Digits.{size-positive}
 use Rattle.place_marks.proofs.BackLaws.{Setting, setting-start, setting-more, setting-done}
 use borrow.Author.Needs.{needs}
 use Rattle.place_marks.proofs.set_coordinates.Statement.{statement}
@@ -17,32 +17,11 @@ abbrev μ-loop : tie.MeasureT-loop
 loop-holds : tie.Need-loop-holds Inv-loop μ-loop
 loop-holds c = (omega arith, setting-start _ _ _ (c .before .before .pre .3))
 
-sub-k : tie.Need-sub-k Inv-loop μ-loop
-sub-k c = search needs
-
-mul-n : tie.Need-mul-n Inv-loop μ-loop
-mul-n c = search needs
-
-shared-slice-read-n : tie.Need-shared-slice-read-n Inv-loop μ-loop
-shared-slice-read-n c = search needs
-
 rem-wide : tie.Need-rem-wide Inv-loop μ-loop
 rem-wide c = size-positive (c .before .before .before .before .before .args .sizes .now) (c .before .before .before .before .before .pre .1) (c .before .before .loop .k - 1) (omega (arith, c .before .before .loop .inv .0, c .before .loop-test .taken))
 
-wide-requires : tie.Need-wide-requires Inv-loop μ-loop
-wide-requires c κs = search needs
-
-mul-at : tie.Need-mul-at Inv-loop μ-loop
-mul-at c = search needs
-
-slice-write-at : tie.Need-slice-write-at Inv-loop μ-loop
-slice-write-at c = search needs
-
 div-rest : tie.Need-div-rest Inv-loop μ-loop
 div-rest c = size-positive (c .before .before .before .before .before .before .args .sizes .now) (c .before .before .before .before .before .before .pre .1) (c .before .before .before .loop .k - 1) (omega (arith, c .before .before .before .loop .inv .0, c .before .before .loop-test .taken))
-
-loop-less : tie.Need-loop-less Inv-loop μ-loop
-loop-less c = search needs
 
 loop-again : tie.Need-loop-again Inv-loop μ-loop
 loop-again c = (omega (arith, c .before .before .before .loop .inv .0), setting-more _ _ (c .before .before .before .loop .at) (c .before .before .before .loop .rest) (c .before .before .before .loop .k) (c .before .before .before .loop .k - 1) (c .before .before .before .before .before .before .pre .1) (c .before .before .before .loop .inv .1) (omega (arith, c .before .before .loop-test .taken)) (omega (arith, c .before .before .before .loop .inv .0, c .before .before .before .before .before .before .pre .0, c .before .before .loop-test .taken)) (c .wide .ensures))
@@ -60,15 +39,15 @@ set-coordinates-spec =
     Inv-loop
     μ-loop
     loop-holds
-    sub-k
-    mul-n
-    shared-slice-read-n
+    (λ c. search needs)
+    (λ c. search needs)
+    (λ c. search needs)
     rem-wide
-    wide-requires
-    mul-at
-    slice-write-at
+    (λ c κs. search needs)
+    (λ c. search needs)
+    (λ c. search needs)
     div-rest
-    loop-less
+    (λ c. search needs)
     loop-again
     same-length
     returns)

@@ -2,7 +2,7 @@ use Prim.Native.Nat.{_-_}
 use mathlib.Core.Path.{_≡_, refl}
 use lib.ListN.{length}
 use native.Mathlib.Omega.{arith}
-use Rattle.stepper.specs.Digits.{size-positive}
+use Rattle.stepper.proofs.Theorems.Digits.{size-positive}
 use Rattle.place_marks.proofs.BackLaws.{Stepping, stepping-start, stepping-more, stepping-done}
 use borrow.Author.Needs.{needs}
 use Rattle.place_marks.proofs.set_step.Statement.{statement}
@@ -17,20 +17,8 @@ abbrev μ-loop : tie.MeasureT-loop
 loop-holds : tie.Need-loop-holds Inv-loop μ-loop
 loop-holds c = (refl, stepping-start _ _ _ _)
 
-mul-back : tie.Need-mul-back Inv-loop μ-loop
-mul-back c = search needs
-
-add-back : tie.Need-add-back Inv-loop μ-loop
-add-back c = search needs
-
-mul-back-2 : tie.Need-mul-back-2 Inv-loop μ-loop
-mul-back-2 c = search needs
-
 shared-slice-read-back : tie.Need-shared-slice-read-back Inv-loop μ-loop
 shared-slice-read-back c = omega (arith, c .before .before .loop .inv .0, c .before .before .before .before .before .before .pre .0, c .before .before .before .before .before .before .pre .2, c .before .before .before .before .before .before .pre .3, c .before .loop-test .taken)
-
-mul-back-3 : tie.Need-mul-back-3 Inv-loop μ-loop
-mul-back-3 c = search needs
 
 shared-slice-read-back-2 : tie.Need-shared-slice-read-back-2 Inv-loop μ-loop
 shared-slice-read-back-2 c = omega (arith, c .before .before .before .loop .inv .0, c .before .before .loop-test .taken)
@@ -38,23 +26,8 @@ shared-slice-read-back-2 c = omega (arith, c .before .before .before .loop .inv 
 back-requires : tie.Need-back-requires Inv-loop μ-loop
 back-requires c κs = size-positive (c .before .before .before .before .before .before .before .args .sizes .now) (c .before .before .before .before .before .before .before .pre .1) (c .before .before .before .loop .d) (omega (arith, c .before .before .before .loop .inv .0, c .before .before .loop-test .taken))
 
-mul-steps : tie.Need-mul-steps Inv-loop μ-loop
-mul-steps c = search needs
-
-add-steps : tie.Need-add-steps Inv-loop μ-loop
-add-steps c = search needs
-
-mul-steps-2 : tie.Need-mul-steps-2 Inv-loop μ-loop
-mul-steps-2 c = search needs
-
 slice-write-steps : tie.Need-slice-write-steps Inv-loop μ-loop
 slice-write-steps c = omega (arith, c .before .before .before .before .loop .inv .0, c .before .before .before .before .loop .inv .1 .len, c .before .before .before .before .before .before .before .before .pre .0, c .before .before .before .before .before .before .before .before .pre .3, c .before .before .before .before .before .before .before .before .pre .4, c .before .before .before .loop-test .taken)
-
-add-d : tie.Need-add-d Inv-loop μ-loop
-add-d c = search needs
-
-loop-less : tie.Need-loop-less Inv-loop μ-loop
-loop-less c = search needs
 
 loop-again : tie.Need-loop-again Inv-loop μ-loop
 loop-again c = (c .before .before .before .before .loop .inv .0, stepping-more _ _ _ _ (c .before .before .before .before .loop .steps) (c .before .before .before .before .loop .d) (c .before .before .before .before .loop .inv .1) (omega (arith, c .before .before .before .before .loop .inv .0, c .before .before .before .loop-test .taken)) (omega (arith, c .before .before .before .before .loop .inv .0, c .before .before .before .before .loop .inv .1 .len, c .before .before .before .before .before .before .before .before .pre .0, c .before .before .before .before .before .before .before .before .pre .3, c .before .before .before .before .before .before .before .before .pre .4, c .before .before .before .loop-test .taken)) (c .back .ensures))
@@ -72,19 +45,19 @@ set-step-spec =
     Inv-loop
     μ-loop
     loop-holds
-    mul-back
-    add-back
-    mul-back-2
+    (λ c. search needs)
+    (λ c. search needs)
+    (λ c. search needs)
     shared-slice-read-back
-    mul-back-3
+    (λ c. search needs)
     shared-slice-read-back-2
     back-requires
-    mul-steps
-    add-steps
-    mul-steps-2
+    (λ c. search needs)
+    (λ c. search needs)
+    (λ c. search needs)
     slice-write-steps
-    add-d
-    loop-less
+    (λ c. search needs)
+    (λ c. search needs)
     loop-again
     same-length
     returns)

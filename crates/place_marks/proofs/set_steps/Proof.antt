@@ -1,7 +1,7 @@
 use Prim.Native.Nat.{_-_, _≤_}
 use mathlib.Core.Path.{_≡_, subst, _∙_}
 use native.Mathlib.Omega.{arith}
-use Rattle.place_marks.specs.Placing.{Backs}
+use Rattle.place_marks.specs.Contracts.Placing.{Backs}
 use Rattle.place_marks.proofs.BackLaws.{backs-start, backs-more}
 use borrow.Author.Needs.{needs}
 use Rattle.place_marks.proofs.set_steps.Statement.{statement}
@@ -18,12 +18,6 @@ loop-holds c = (omega arith, backs-start _ _ (c .before .before .before .pre .0)
 
 set-step-requires : tie.Need-set-step-requires Inv-loop μ-loop
 set-step-requires c κs = (c .before .before .before .before .before .before .pre .0, c .before .before .before .before .before .before .pre .1, c .before .before .before .before .before .before .pre .2, omega (arith, c .before .before .before .before .before .before .pre .3, c .before .loop-test .taken), c .before .before .loop .inv .1 .len ∙ c .before .before .before .before .before .before .pre .4)
-
-add-k : tie.Need-add-k Inv-loop μ-loop
-add-k c = search needs
-
-loop-less : tie.Need-loop-less Inv-loop μ-loop
-loop-less c = search needs
 
 loop-again : tie.Need-loop-again Inv-loop μ-loop
 loop-again c = (omega (arith, c .before .before .before .before .loop-test .taken), backs-more _ _ (c .before .before .before .before .before .before .before .before .before .pre .0) _ (c .before .before .before .before .before .loop .steps) _ (c .before .before .before .before .before .loop .k) (c .before .before .before .before .before .loop .inv .1) (c .before .before .set-step .ensures))
@@ -42,8 +36,8 @@ set-steps-spec =
     μ-loop
     loop-holds
     set-step-requires
-    add-k
-    loop-less
+    (λ c. search needs)
+    (λ c. search needs)
     loop-again
     same-length
     returns)

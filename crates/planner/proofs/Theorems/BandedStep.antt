@@ -12,7 +12,7 @@ use Rattle.grammar.specs.Source.{Accepted}
 use Rattle.semantics.specs.Evaluation.{evaluate}
 use Rattle.stepper.specs.Admission.{Refusal}
 use Rattle.stepper.specs.Reach.{running}
-use Rattle.services.specs.AcceptedSources.{accepted-flagged}
+use Rattle.services.proofs.Theorems.AcceptedSources.{accepted-flagged}
 use Rattle.admission.proofs.RequestLaws.{positive}
 use Rattle.bands.specs.Edge.{edge}
 use Rattle.bands.specs.Plans.{bands-in}

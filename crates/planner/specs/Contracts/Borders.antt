@@ -8,7 +8,7 @@ use Rattle.automaton.specs.Shape.{Bound}
 use Rattle.program.specs.Syntax.{range}
 use Rattle.stepper.specs.declared.Reach.{Reach}
 use Rattle.stepper.specs.Reach.{widen, reach-from}
-use Rattle.stepper.specs.Fitting.{bounds-of, place-at, places-of}
+use Rattle.stepper.specs.Contracts.Fitting.{bounds-of, place-at, places-of}
 use Rattle.bands.specs.Edge.{bound, edge-of}
 use Rattle.planner.specs.declared.borders.Border.{Border}
 

@@ -12,9 +12,9 @@ use Rattle.grammar.specs.Checking.{accepted, read-source, words-after, names-af
 use Rattle.semantics.specs.Stands.{Holds}
 use Rattle.semantics.specs.Written.{relatives-in, written-in}
 use Rattle.stepper.specs.Admission.{refusal, all-between, good-sizes, too-far}
-use Rattle.stepper.specs.Locality.{Flagged}
-use Rattle.stepper.specs.Fitting.{Sized}
-use Rattle.admission.specs.Admitting.{Lists}
+use Rattle.stepper.proofs.Theorems.Locality.{Flagged}
+use Rattle.stepper.specs.Contracts.Fitting.{Sized}
+use Rattle.admission.specs.Contracts.Admitting.{Lists}
 use Rattle.bands.specs.Edge.{edge}
 use Rattle.bands.specs.OnSizes.{no-grid, on-grid, on-sizes}
 use Rattle.bands.specs.Plans.{rows}

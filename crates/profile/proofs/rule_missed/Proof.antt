@@ -4,14 +4,8 @@ use Rattle.profile.proofs.FlagLaws.{Misses}
 use Rattle.profile.proofs.rule_missed.Statement.{statement}
 use Rattle.profile.proofs.rule_missed.Tie as tie
 
-flag-field-requires : tie.Need-flag-field-requires
-flag-field-requires c κs = search needs
-
 returns : tie.Need-returns
 returns c = search Misses
-
-flag-of-requires : tie.Need-flag-of-requires
-flag-of-requires c κs = search needs
 
 returns-2 : tie.Need-returns-2
 returns-2 c = search Misses
@@ -20,4 +14,4 @@ returns-3 : tie.Need-returns-3
 returns-3 c = search Misses
 
 pub rule-missed-spec : {M : Type 1} → statement M
-rule-missed-spec = tie.close (tie.spec flag-field-requires returns flag-of-requires returns-2 returns-3)
+rule-missed-spec = tie.close (tie.spec (λ c κs. search needs) returns (λ c κs. search needs) returns-2 returns-3)

@@ -8,7 +8,7 @@ use Rattle.token.specs.Bytes.{as-bytes, same}
 use Rattle.names.specs.declared.Entry.{Entry}
 use Rattle.names.specs.declared.Found.{Found}
 use Rattle.names.specs.Names.{most-names, is-field, entry-at, letters}
-use Rattle.names.specs.Finding.{found-of, Below}
+use Rattle.names.specs.Contracts.Finding.{found-of, Below}
 use Rattle.semantics.specs.declared.Rule.{Rule}
 use Rattle.semantics.specs.Stands.{table-of, range-in, rule-table, ranges-in}
 use Rattle.one_move.specs.Profile.{moved-slot, is-flag, flag-in, flag-told}

@@ -3,15 +3,6 @@ use Rattle.program.proofs.Tokens.{Tokens}
 use Rattle.program.proofs.kind_at.Statement.{statement}
 use Rattle.program.proofs.kind_at.Tie as tie
 
-mul-result : tie.Need-mul-result
-mul-result c = search needs
-
-mul-result-2 : tie.Need-mul-result-2
-mul-result-2 c = search needs
-
-shared-slice-read-result : tie.Need-shared-slice-read-result
-shared-slice-read-result c = search needs
-
 returns : tie.Need-returns
 returns c = search Tokens
 
@@ -20,4 +11,4 @@ returns-2 c = search Tokens
 
 pub kind-at-spec : {M : Type 1} → statement M
 kind-at-spec =
-    tie.close (tie.spec mul-result mul-result-2 shared-slice-read-result returns returns-2)
+    tie.close (tie.spec (λ c. search needs) (λ c. search needs) (λ c. search needs) returns returns-2)

@@ -3,21 +3,6 @@ use borrow.Author.Needs.{needs}
 use Rattle.reader.proofs.declare.Statement.{statement}
 use Rattle.reader.proofs.declare.Tie as tie
 
-token-at-requires : tie.Need-token-at-requires
-token-at-requires c κs = search needs
-
-write-entry-requires : tie.Need-write-entry-requires
-write-entry-requires c κs = search needs
-
-add-r : tie.Need-add-r
-add-r c = search needs
-
-cast-r : tie.Need-cast-r
-cast-r c = search needs
-
-same-length : tie.Need-same-length
-same-length c = search needs
-
 returns : tie.Need-returns
 returns c =
     let token-at = c .before .before .before .before .token-at in
@@ -26,4 +11,4 @@ returns c =
 
 pub declare-spec : {M : Type 1} → statement M
 declare-spec =
-    tie.close (tie.spec token-at-requires write-entry-requires add-r cast-r same-length returns)
+    tie.close (tie.spec (λ c κs. search needs) (λ c κs. search needs) (λ c. search needs) (λ c. search needs) (λ c. search needs) returns)

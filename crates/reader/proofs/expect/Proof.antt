@@ -3,12 +3,6 @@ use Rattle.reader.proofs.Leaves.{expected, unexpected}
 use Rattle.reader.proofs.expect.Statement.{statement}
 use Rattle.reader.proofs.expect.Tie as tie
 
-token-at-requires : tie.Need-token-at-requires
-token-at-requires c κs = search needs
-
-moved-requires : tie.Need-moved-requires
-moved-requires c κs = search needs
-
 returns : tie.Need-returns
 returns c =
     let pre = c .before .before .before .before .before .pre in
@@ -16,9 +10,6 @@ returns c =
     let if1 = c .before .if1 in
     let moved = c .moved in
     expected _ _ (token-at .ensures) (if1 .taken) (pre .2) (moved .ensures)
-
-refuse-requires : tie.Need-refuse-requires
-refuse-requires c κs = search needs
 
 returns-2 : tie.Need-returns-2
 returns-2 c =
@@ -29,4 +20,4 @@ returns-2 c =
 
 pub expect-spec : {M : Type 1} → statement M
 expect-spec =
-    tie.close (tie.spec token-at-requires moved-requires returns refuse-requires returns-2)
+    tie.close (tie.spec (λ c κs. search needs) (λ c κs. search needs) returns (λ c κs. search needs) returns-2)

@@ -9,12 +9,6 @@ returns c = search Leaves
 returns-2 : tie.Need-returns-2
 returns-2 c = search Leaves
 
-rank-requires : tie.Need-rank-requires
-rank-requires c κs = search needs
-
-rank-requires-2 : tie.Need-rank-requires-2
-rank-requires-2 c κs = search needs
-
 returns-3 : tie.Need-returns-3
 returns-3 c = search Leaves
 
@@ -25,4 +19,4 @@ returns-5 : tie.Need-returns-5
 returns-5 c = search Leaves
 
 pub first-spec : {M : Type 1} → statement M
-first-spec = tie.close (tie.spec returns returns-2 rank-requires rank-requires-2 returns-3 returns-4 returns-5)
+first-spec = tie.close (tie.spec returns returns-2 (λ c κs. search needs) (λ c κs. search needs) returns-3 returns-4 returns-5)

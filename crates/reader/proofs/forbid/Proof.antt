@@ -3,12 +3,6 @@ use Rattle.reader.proofs.Leaves.{forbidden, allowed}
 use Rattle.reader.proofs.forbid.Statement.{statement}
 use Rattle.reader.proofs.forbid.Tie as tie
 
-token-at-requires : tie.Need-token-at-requires
-token-at-requires c κs = search needs
-
-refuse-requires : tie.Need-refuse-requires
-refuse-requires c κs = search needs
-
 returns : tie.Need-returns
 returns c =
     let token-at = c .before .before .before .token-at in
@@ -24,4 +18,4 @@ returns-2 c =
     allowed _ _ (token-at .ensures) (if1 .left) (pre .2)
 
 pub forbid-spec : {M : Type 1} → statement M
-forbid-spec = tie.close (tie.spec token-at-requires refuse-requires returns returns-2)
+forbid-spec = tie.close (tie.spec (λ c κs. search needs) (λ c κs. search needs) returns returns-2)

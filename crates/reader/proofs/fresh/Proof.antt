@@ -8,23 +8,8 @@ use Rattle.reader.proofs.Going.{nowhere, goes-on}
 use Rattle.reader.proofs.fresh.Statement.{statement}
 use Rattle.reader.proofs.fresh.Tie as tie
 
-token-at-requires : tie.Need-token-at-requires
-token-at-requires c κs = search needs
-
-is-name-requires : tie.Need-is-name-requires
-is-name-requires c κs = search needs
-
-find-name-requires : tie.Need-find-name-requires
-find-name-requires c κs = search needs
-
 enum-told : tie.Need-enum-told
 enum-told c = search needs
-
-enum-told-2 : tie.Need-enum-told-2
-enum-told-2 c = search needs
-
-refuse-requires : tie.Need-refuse-requires
-refuse-requires c κs = search needs
 
 returns : tie.Need-returns
 unfolding fresh
@@ -49,9 +34,6 @@ returns c =
           (refused _ y))))));
       onward = nowhere y;
     }
-
-moved-requires : tie.Need-moved-requires
-moved-requires c κs = search needs
 
 returns-2 : tie.Need-returns-2
 unfolding fresh
@@ -84,9 +66,6 @@ returns-2 c =
           (omega (arith, m .count, if4 .taken));
     }
 
-refuse-requires-2 : tie.Need-refuse-requires-2
-refuse-requires-2 c κs = search needs
-
 returns-3 : tie.Need-returns-3
 unfolding fresh
 returns-3 c =
@@ -113,9 +92,6 @@ returns-3 c =
       onward = nowhere y;
     }
 
-refuse-requires-3 : tie.Need-refuse-requires-3
-refuse-requires-3 c κs = search needs
-
 returns-4 : tie.Need-returns-4
 unfolding fresh
 returns-4 c =
@@ -138,9 +114,6 @@ returns-4 c =
       onward = nowhere y;
     }
 
-refuse-requires-4 : tie.Need-refuse-requires-4
-refuse-requires-4 c κs = search needs
-
 returns-5 : tie.Need-returns-5
 unfolding fresh
 returns-5 c =
@@ -159,9 +132,6 @@ returns-5 c =
           (refused _ y))));
       onward = nowhere y;
     }
-
-refuse-requires-5 : tie.Need-refuse-requires-5
-refuse-requires-5 c κs = search needs
 
 returns-6 : tie.Need-returns-6
 unfolding fresh
@@ -184,20 +154,20 @@ pub fresh-spec : {M : Type 1} → statement M
 fresh-spec =
     tie.close
     (tie.spec
-    token-at-requires
-    is-name-requires
-    find-name-requires
+    (λ c κs. search needs)
+    (λ c κs. search needs)
+    (λ c κs. search needs)
     enum-told
-    enum-told-2
-    refuse-requires
+    (λ c. search needs)
+    (λ c κs. search needs)
     returns
-    moved-requires
+    (λ c κs. search needs)
     returns-2
-    refuse-requires-2
+    (λ c κs. search needs)
     returns-3
-    refuse-requires-3
+    (λ c κs. search needs)
     returns-4
-    refuse-requires-4
+    (λ c κs. search needs)
     returns-5
-    refuse-requires-5
+    (λ c κs. search needs)
     returns-6)

@@ -3,12 +3,6 @@ use Rattle.reader.proofs.Leaves.{Leaves}
 use Rattle.reader.proofs.lower.Statement.{statement}
 use Rattle.reader.proofs.lower.Tie as tie
 
-rank-requires : tie.Need-rank-requires
-rank-requires c κs = search needs
-
-rank-requires-2 : tie.Need-rank-requires-2
-rank-requires-2 c κs = search needs
-
 returns : tie.Need-returns
 returns c = search Leaves
 
@@ -19,4 +13,4 @@ returns-3 : tie.Need-returns-3
 returns-3 c = search Leaves
 
 pub lower-spec : {M : Type 1} → statement M
-lower-spec = tie.close (tie.spec rank-requires rank-requires-2 returns returns-2 returns-3)
+lower-spec = tie.close (tie.spec (λ c κs. search needs) (λ c κs. search needs) returns returns-2 returns-3)

@@ -3,18 +3,12 @@ use Rattle.reader.proofs.Leaves.{opened, unopened}
 use Rattle.reader.proofs.opening.Statement.{statement}
 use Rattle.reader.proofs.opening.Tie as tie
 
-moved-requires : tie.Need-moved-requires
-moved-requires c κs = search needs
-
 returns : tie.Need-returns
 returns c =
     let pre = c .before .before .before .pre in
     let if1 = c .before .if1 in
     let moved = c .moved in
     opened (if1 .taken) (pre .2) (moved .ensures)
-
-refuse-requires : tie.Need-refuse-requires
-refuse-requires c κs = search needs
 
 returns-2 : tie.Need-returns-2
 returns-2 c =
@@ -23,4 +17,4 @@ returns-2 c =
     unopened (if1 .left) (refuse .ensures)
 
 pub opening-spec : {M : Type 1} → statement M
-opening-spec = tie.close (tie.spec moved-requires returns refuse-requires returns-2)
+opening-spec = tie.close (tie.spec (λ c κs. search needs) returns (λ c κs. search needs) returns-2)

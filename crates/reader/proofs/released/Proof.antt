@@ -3,14 +3,8 @@ use Rattle.reader.proofs.Leaves.{released-none}
 use Rattle.reader.proofs.released.Statement.{statement}
 use Rattle.reader.proofs.released.Tie as tie
 
-sub-t : tie.Need-sub-t
-sub-t c = search needs
-
-returns : tie.Need-returns
-returns c = search needs
-
 returns-2 : tie.Need-returns-2
 returns-2 c = search released-none
 
 pub released-spec : {M : Type 1} → statement M
-released-spec = tie.close (tie.spec sub-t returns returns-2)
+released-spec = tie.close (tie.spec (λ c. search needs) (λ c. search needs) returns-2)

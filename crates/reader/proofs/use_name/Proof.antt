@@ -3,18 +3,6 @@ use borrow.Author.Needs.{needs}
 use Rattle.reader.proofs.use_name.Statement.{statement}
 use Rattle.reader.proofs.use_name.Tie as tie
 
-put-word-requires : tie.Need-put-word-requires
-put-word-requires c κs = search needs
-
-put-word-requires-2 : tie.Need-put-word-requires-2
-put-word-requires-2 c κs = search needs
-
-moved-requires : tie.Need-moved-requires
-moved-requires c κs = search needs
-
-same-length : tie.Need-same-length
-same-length c = search needs
-
 returns : tie.Need-returns
 returns c =
     let put-word = c .before .before .before .before .before .before .before .put-word in
@@ -26,8 +14,8 @@ pub use-name-spec : {M : Type 1} → statement M
 use-name-spec =
     tie.close
     (tie.spec
-    put-word-requires
-    put-word-requires-2
-    moved-requires
-    same-length
+    (λ c κs. search needs)
+    (λ c κs. search needs)
+    (λ c κs. search needs)
+    (λ c. search needs)
     returns)

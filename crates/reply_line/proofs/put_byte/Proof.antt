@@ -3,19 +3,10 @@ use Rattle.reply_line.proofs.Lines.{wrote-byte}
 use Rattle.reply_line.proofs.put_byte.Statement.{statement}
 use Rattle.reply_line.proofs.put_byte.Tie as tie
 
-slice-write-line : tie.Need-slice-write-line
-slice-write-line c = search needs
-
-add-result : tie.Need-add-result
-add-result c = search needs
-
-same-length : tie.Need-same-length
-same-length c = search needs
-
 returns : tie.Need-returns
 returns c =
     let pre = c .pre in
     wrote-byte _ _ _ (pre)
 
 pub put-byte-spec : {M : Type 1} → statement M
-put-byte-spec = tie.close (tie.spec slice-write-line add-result same-length returns)
+put-byte-spec = tie.close (tie.spec (λ c. search needs) (λ c. search needs) (λ c. search needs) returns)

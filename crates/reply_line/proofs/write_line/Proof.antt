@@ -4,15 +4,6 @@ use borrow.Author.Needs.{needs}
 use Rattle.reply_line.proofs.write_line.Statement.{statement}
 use Rattle.reply_line.proofs.write_line.Tie as tie
 
-slice-aggregate-put-text : tie.Need-slice-aggregate-put-text
-slice-aggregate-put-text c = search needs
-
-put-text-requires : tie.Need-put-text-requires
-put-text-requires c κs = search needs
-
-same-length : tie.Need-same-length
-same-length c = search needs
-
 returns : tie.Need-returns
 returns c =
     let args = c .before .before .before .before .before .before .before .args in
@@ -20,17 +11,11 @@ returns c =
     let put-text = c .before .before .put-text in
     says-accepted (args .number) (args .place) (if1 .taken) (put-text .ensures)
 
-put-refused-requires : tie.Need-put-refused-requires
-put-refused-requires c κs = search needs
-
 put-byte-requires : tie.Need-put-byte-requires
 put-byte-requires c κs =
     let args = c .before .before .before .before .before .before .before .args in
     let put-refused = c .before .before .before .put-refused in
     omega (arith, refused-end (args .number) (args .place) (put-refused .ensures), put-refused .kept .0)
-
-same-length-2 : tie.Need-same-length-2
-same-length-2 c = search needs
 
 returns-2 : tie.Need-returns-2
 returns-2 c =
@@ -44,11 +29,11 @@ pub write-line-spec : {M : Type 1} → statement M
 write-line-spec =
     tie.close
     (tie.spec
-    slice-aggregate-put-text
-    put-text-requires
-    same-length
+    (λ c. search needs)
+    (λ c κs. search needs)
+    (λ c. search needs)
     returns
-    put-refused-requires
+    (λ c κs. search needs)
     put-byte-requires
-    same-length-2
+    (λ c. search needs)
     returns-2)

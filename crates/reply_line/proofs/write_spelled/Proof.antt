@@ -4,24 +4,12 @@ use borrow.Author.Needs.{needs}
 use Rattle.reply_line.proofs.write_spelled.Statement.{statement}
 use Rattle.reply_line.proofs.write_spelled.Tie as tie
 
-slice-aggregate-put-text : tie.Need-slice-aggregate-put-text
-slice-aggregate-put-text c = search needs
-
-put-text-requires : tie.Need-put-text-requires
-put-text-requires c κs = search needs
-
-same-length : tie.Need-same-length
-same-length c = search needs
-
 returns : tie.Need-returns
 returns c =
     let args = c .before .before .before .before .before .before .before .args in
     let if1 = c .before .before .before .before .before .if1 in
     let put-text = c .before .before .put-text in
     spells-accepted (args .number) (args .place) (args .stands) (args .start) (args .len) (if1 .taken) (put-text .ensures)
-
-put-refused-requires : tie.Need-put-refused-requires
-put-refused-requires c κs = search needs
 
 put-item-requires : tie.Need-put-item-requires
 put-item-requires c κs =
@@ -53,9 +41,6 @@ put-byte-requires c κs =
     let put-item3 = c .before .before .before .put-item3 in
     omega (arith, refused-end (args .number) (args .place) (put-refused .ensures), put-refused .kept .0, item-end (args .stands) (put-item .ensures), put-item .kept .0, item-end (args .start) (put-item2 .ensures), put-item2 .kept .0, item-end (args .len) (put-item3 .ensures), put-item3 .kept .0)
 
-same-length-2 : tie.Need-same-length-2
-same-length-2 c = search needs
-
 returns-2 : tie.Need-returns-2
 returns-2 c =
     let args = c .before .before .before .before .before .before .before .before .before .before .before .before .before .before .before .before .before .before .before .before .before .before .args in
@@ -71,14 +56,14 @@ pub write-spelled-spec : {M : Type 1} → statement M
 write-spelled-spec =
     tie.close
     (tie.spec
-    slice-aggregate-put-text
-    put-text-requires
-    same-length
+    (λ c. search needs)
+    (λ c κs. search needs)
+    (λ c. search needs)
     returns
-    put-refused-requires
+    (λ c κs. search needs)
     put-item-requires
     put-item-requires-2
     put-item-requires-3
     put-byte-requires
-    same-length-2
+    (λ c. search needs)
     returns-2)

@@ -10,7 +10,7 @@ use borrow.Author.Tests.{lt-ltb, le-leb}
 use Rattle.automaton.specs.Listed.{length-list-of}
 use Rattle.automaton.specs.Shape.{product}
 use Rattle.automaton.specs.Rows.{has-zero, counts-by, row-counts, in-rows, first-row, cells-in-rows, first-row-with}
-use Rattle.automaton.specs.RowLaws.{in-rows-is, first-row-is}
+use Rattle.automaton.proofs.Theorems.RowLaws.{in-rows-is, first-row-is}
 use Rattle.row_counts.specs.RowQueries.{row-reply, one-a-row, rows-within, rows-asked, row-found, row-asked}
 use Rattle.row_counts.proofs.QueryLaws.{rows-answered, row-answered}
 

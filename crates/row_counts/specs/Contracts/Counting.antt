@@ -11,7 +11,7 @@ use Rattle.automaton.specs.Shape.{product}
 use Rattle.automaton.specs.ShapeLaws.{Positive}
 use Rattle.automaton.specs.Grid.{cell-of}
 use Rattle.automaton.specs.Rows.{row-counts}
-use Rattle.automaton.specs.RowLaws.{bit}
+use Rattle.automaton.proofs.Theorems.RowLaws.{bit}
 
 -- how many cells a row has
 abbrev pub row-size : List ℕ → ℕ

@@ -9,9 +9,9 @@ use lib.ListN.{length}
 use lib.Dec.{eqb, leb}
 use lib.IntN.{ℤ, pos, natAbs}
 use borrow.Author.Tests.{eqb-true}
-use Rattle.value.specs.Laws.{and-both}
+use Rattle.value.proofs.Theorems.Laws.{and-both}
 use Rattle.automaton.specs.Step.{state, Fault, no-fault, fault-at, Automaton, Blocks, Run, step-of, run-of}
-use Rattle.automaton.specs.Quiet.{run-go, run-stop}
+use Rattle.automaton.proofs.Theorems.Quiet.{run-go, run-stop}
 use Rattle.automaton.specs.Grid.{automaton}
 use Rattle.automaton.specs.Shape.{product}
 use Rattle.automaton.specs.ShapeLaws.{Positive}
@@ -21,7 +21,7 @@ use Rattle.grammar.specs.Checking.{accepted, read-source}
 use Rattle.stepper.specs.Reach.{running}
 use Rattle.stepper.specs.Admission.{all-between, good-sizes, admission}
 use Rattle.stepper.specs.Report.{Manner, full, quiet, pausing, resuming, Report, ended, count-of}
-use Rattle.stepper.specs.Ranges.{admitted-dims, admitted-in-range}
+use Rattle.stepper.proofs.Theorems.Ranges.{admitted-dims, admitted-in-range}
 use Rattle.one_move.proofs.Theorems.InProfile.{InProfile}
 use Rattle.one_move.proofs.Theorems.Moving.{OneMove}
 use Rattle.one_move.proofs.Theorems.Runs as runs
@@ -30,12 +30,12 @@ use Rattle.lists.specs.ListChecking.{limits-of}
 use Rattle.lists.specs.Text.{lines}
 use Rattle.lists.specs.Lines.{said}
 use Rattle.lists.specs.Setting.{set-lines, set-block}
-use Rattle.lists.specs.RoundTrip.{sizes-told, admission-told}
+use Rattle.lists.proofs.Theorems.RoundTrip.{sizes-told, admission-told}
 use Rattle.lists.proofs.Theorems.Flags.{list-keeps, admitted-flags}
 use Rattle.services.specs.Running.{Asked, admitted, blocks, report-of, run}
-use Rattle.services.specs.RunningLaws.{request-admitted, list-passes, run-admitted}
+use Rattle.services.proofs.Theorems.RunningLaws.{request-admitted, list-passes, run-admitted}
 use Rattle.services.specs.Services.{run-read, run-source, run-begins}
-use Rattle.runner.specs.Property3.{Agree}
+use Rattle.runner.specs.Contracts.Agreement.{Agree}
 use Rattle.joining.specs.Joins.{GoesOn, all-at-once, all-together, last-marks, Chain}
 use Rattle.joining.proofs.Theorems.Joining.{chain-joins, link-agrees}
 use Rattle.settling.specs.Settles.{first-steps, next-step, next-of, fields-of, flag-at, Fresh, MovesOnce, Settled, Settles}

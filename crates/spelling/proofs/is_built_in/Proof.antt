@@ -20,20 +20,8 @@ returns c = another-length (c .before .args .list .now) (c .if1 .taken)
 loop-holds : tie.Need-loop-holds Inv-loop μ-loop
 loop-holds c = (begin (c .before .args .list .now), c .if1 .left, refl, omega arith)
 
-shared-slice-read-if2 : tie.Need-shared-slice-read-if2 Inv-loop μ-loop
-shared-slice-read-if2 c = search needs
-
-array-read-if2 : tie.Need-array-read-if2 Inv-loop μ-loop
-array-read-if2 c = search needs
-
 returns-2 : tie.Need-returns-2 Inv-loop μ-loop
 returns-2 c = let l = c .before .before .before .loop in another (c .before .before .before .before .before .args .list .now) (l .inv .1) (l .i) (l .inv .0) (omega arith) (c .if2 .taken)
-
-add-i : tie.Need-add-i Inv-loop μ-loop
-add-i c = search needs
-
-loop-less : tie.Need-loop-less Inv-loop μ-loop
-loop-less c = search needs
 
 loop-again : tie.Need-loop-again Inv-loop μ-loop
 loop-again c = let l = c .before .before .before .loop in (onward (c .before .before .before .before .before .args .list .now) (l .inv .1) (l .i) (l .inv .0) (omega arith) (c .if2 .left), l .inv .1, refl, omega arith)
@@ -44,4 +32,4 @@ returns-3 c = let l = c .before .loop in whole (c .before .before .before .args 
 pub is-built-in-spec : {M : Type 1} → statement M
 is-built-in-spec =
     tie.close
-    (tie.spec Inv-loop μ-loop returns loop-holds shared-slice-read-if2 array-read-if2 returns-2 add-i loop-less loop-again returns-3)
+    (tie.spec Inv-loop μ-loop returns loop-holds (λ c. search needs) (λ c. search needs) returns-2 (λ c. search needs) (λ c. search needs) loop-again returns-3)

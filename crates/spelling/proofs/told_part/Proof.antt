@@ -4,9 +4,6 @@ use Rattle.spelling.proofs.Parting.{told-none, told-listed, told-source
 use Rattle.spelling.proofs.told_part.Statement.{statement}
 use Rattle.spelling.proofs.told_part.Tie as tie
 
-part-at-requires : tie.Need-part-at-requires
-part-at-requires c κs = search needs
-
 returns : tie.Need-returns
 returns c = told-none _ _ _ (c .before .part-at .ensures) (c .if1 .taken)
 
@@ -31,4 +28,4 @@ returns-3 c = told-source _ _ _ (c .before .before .part-at .ensures) (c .before
 pub told-part-spec : {M : Type 1} → statement M
 told-part-spec =
     tie.close
-    (tie.spec part-at-requires returns cast-t8 cast-t9 returns-2 cast-t10 cast-t11 returns-3)
+    (tie.spec (λ c κs. search needs) returns cast-t8 cast-t9 returns-2 cast-t10 cast-t11 returns-3)

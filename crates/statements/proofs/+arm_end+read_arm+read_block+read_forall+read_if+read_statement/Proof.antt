@@ -9,12 +9,12 @@ use Rattle.program.specs.Syntax.{constant}
 use Rattle.grammar.specs.Reader.{done, repeat, turns}
 use Rattle.grammar.specs.Expressions.{read-expression}
 use Rattle.grammar.specs.Statements.{choices, arm-end, arm-turn, statement-turn, read-block}
-use Rattle.expressions.specs.Promises.{cell-of}
-use Rattle.reader.specs.Reading.{anything}
+use Rattle.expressions.specs.Contracts.Promises.{cell-of}
+use Rattle.reader.specs.Contracts.Reading.{anything}
 use Rattle.reader.proofs.Steps.{on, off, made, told-as, went-on, so, other, both-hold, first-not, second-not, token, here, returned, carried, advanced, put-in}
 use Rattle.reader.proofs.Turns.{Turning, turn-first, turn-again, turn-done, turn-refused}
 use Rattle.reader.proofs.Going.{nowhere, went, goes-on, further}
-use Rattle.statements.specs.Promises.{once, ends, whatever, zero-in, parts-of}
+use Rattle.statements.specs.Contracts.Promises.{once, ends, whatever, zero-in, parts-of}
 use Rattle.statements.proofs.Single.{expression}
 use Rattle.statements.proofs.Turned.{went-again, went-done}
 use Rattle.statements.proofs.Lists.{one-more, assigned-in, declared-in, block-first, if-open, if-shut, arm-inside}

@@ -1,6 +1,6 @@
 use Rattle.reader.proofs.Steps.{on, off, so, other, token, refused, carried}
 use Rattle.reader.proofs.Going.{nowhere, went, goes-on, further}
-use Rattle.statements.specs.Promises.{ends}
+use Rattle.statements.specs.Contracts.Promises.{ends}
 use native.Mathlib.Omega.{arith}
 use mathlib.Core.Path.{_∙_}
 use borrow.Author.Tests.{eq-eqb, ne-eqb}
@@ -8,15 +8,6 @@ use borrow.Author.Needs.{needs}
 use Rattle.grammar.specs.Statements.{clause-end}
 use Rattle.statements.proofs.clause_end.Statement.{statement}
 use Rattle.statements.proofs.clause_end.Tie as tie
-
-token-at-requires : tie.Need-token-at-requires
-token-at-requires c κs = search needs
-
-when-clause-requires : tie.Need-when-clause-requires
-when-clause-requires c κs = search needs
-
-same-length : tie.Need-same-length
-same-length c = search needs
 
 returns : tie.Need-returns
 unfolding clause-end
@@ -29,12 +20,6 @@ returns c =
       onward = further (when-clause .ensures .onward) (omega arith) (omega arith);
     }
 
-refuse-requires : tie.Need-refuse-requires
-refuse-requires c κs = search needs
-
-same-length-2 : tie.Need-same-length-2
-same-length-2 c = search needs
-
 returns-2 : tie.Need-returns-2
 unfolding clause-end
 returns-2 c =
@@ -44,12 +29,6 @@ returns-2 c =
     let refuse = c .refuse in
     let y = refuse .ensures in
     record { gives = λ b h. token _ (token-at .ensures) (other _ _ (ne-eqb _ _ (if1 .left)) (so _ _ (eq-eqb _ _ (if2 .taken)) (refused _ y))); onward = nowhere y }
-
-carrying-requires : tie.Need-carrying-requires
-carrying-requires c κs = search needs
-
-same-length-3 : tie.Need-same-length-3
-same-length-3 c = search needs
 
 returns-3 : tie.Need-returns-3
 unfolding clause-end
@@ -67,17 +46,8 @@ returns-3 c =
       onward = goes-on (omega (arith, k .at)) (omega (arith, k .at, p .here)) (omega (arith, k .count));
     }
 
-expect-requires : tie.Need-expect-requires
-expect-requires c κs = search needs
-
-enum-known-r : tie.Need-enum-known-r
-enum-known-r c = search needs
-
 enum-told : tie.Need-enum-told
 enum-told c = search needs
-
-same-length-4 : tie.Need-same-length-4
-same-length-4 c = search needs
 
 returns-4 : tie.Need-returns-4
 unfolding clause-end
@@ -92,12 +62,6 @@ returns-4 c =
       gives = λ b h. token _ (token-at .ensures) (other _ _ (ne-eqb _ _ (if1 .left)) (other _ _ (ne-eqb _ _ (if2 .left)) (other _ _ (h ∙ if3 .left) (off _ (expect .ensures .gives _ _) (enum-told .given .1)))));
       onward = nowhere (enum-told .given .1);
     }
-
-carrying-requires-2 : tie.Need-carrying-requires-2
-carrying-requires-2 c κs = search needs
-
-same-length-5 : tie.Need-same-length-5
-same-length-5 c = search needs
 
 returns-5 : tie.Need-returns-5
 unfolding clause-end
@@ -120,21 +84,21 @@ pub clause-end-spec : {M : Type 1} → statement M
 clause-end-spec =
     tie.close
     (tie.spec
-    token-at-requires
-    when-clause-requires
-    same-length
+    (λ c κs. search needs)
+    (λ c κs. search needs)
+    (λ c. search needs)
     returns
-    refuse-requires
-    same-length-2
+    (λ c κs. search needs)
+    (λ c. search needs)
     returns-2
-    carrying-requires
-    same-length-3
+    (λ c κs. search needs)
+    (λ c. search needs)
     returns-3
-    expect-requires
-    enum-known-r
+    (λ c κs. search needs)
+    (λ c. search needs)
     enum-told
-    same-length-4
+    (λ c. search needs)
     returns-4
-    carrying-requires-2
-    same-length-5
+    (λ c κs. search needs)
+    (λ c. search needs)
     returns-5)

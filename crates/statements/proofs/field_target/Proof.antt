@@ -7,12 +7,6 @@ use Rattle.grammar.specs.Statements.{field-target}
 use Rattle.statements.proofs.field_target.Statement.{statement}
 use Rattle.statements.proofs.field_target.Tie as tie
 
-moved-requires : tie.Need-moved-requires
-moved-requires c κs = search needs
-
-named-target-requires : tie.Need-named-target-requires
-named-target-requires c κs = search needs
-
 returns : tie.Need-returns
 unfolding field-target
 returns c =
@@ -24,12 +18,6 @@ returns c =
       gives = so _ _ (if1 .taken) (on _ (advanced m) refl (λ _ _. named-target .ensures .gives));
       onward = further (named-target .ensures .onward) (omega (arith, m .at)) (omega (arith, m .count));
     }
-
-forbid-requires : tie.Need-forbid-requires
-forbid-requires c κs = search needs
-
-enum-known-r : tie.Need-enum-known-r
-enum-known-r c = search needs
 
 enum-told : tie.Need-enum-told
 enum-told c = search needs
@@ -43,9 +31,6 @@ returns-2 c =
     let enum-told = c .enum-told in
     let m = moved .ensures in
     record { gives = other _ _ (if1 .left) (off _ (on _ (advanced m) refl (λ _ _. forbid .ensures .gives _ _)) (enum-told .given .1)); onward = nowhere (enum-told .given .1) }
-
-carrying-requires : tie.Need-carrying-requires
-carrying-requires c κs = search needs
 
 returns-3 : tie.Need-returns-3
 unfolding field-target
@@ -67,12 +52,12 @@ pub field-target-spec : {M : Type 1} → statement M
 field-target-spec =
     tie.close
     (tie.spec
-    moved-requires
-    named-target-requires
+    (λ c κs. search needs)
+    (λ c κs. search needs)
     returns
-    forbid-requires
-    enum-known-r
+    (λ c κs. search needs)
+    (λ c. search needs)
     enum-told
     returns-2
-    carrying-requires
+    (λ c κs. search needs)
     returns-3)

@@ -1,23 +1,14 @@
 use Rattle.reader.proofs.Steps.{on, off, here, returned, put-in, released}
 use Rattle.reader.proofs.Going.{nowhere, went, goes-on}
-use Rattle.statements.specs.Promises.{loop-end}
+use Rattle.statements.specs.Contracts.Promises.{loop-end}
 use native.Mathlib.Omega.{arith}
 use mathlib.Core.Path.{refl}
 use borrow.Author.Needs.{needs}
 use Rattle.statements.proofs.loop_end.Statement.{statement}
 use Rattle.statements.proofs.loop_end.Tie as tie
 
-expect-requires : tie.Need-expect-requires
-expect-requires c κs = search needs
-
-enum-known-r : tie.Need-enum-known-r
-enum-known-r c = search needs
-
 enum-told : tie.Need-enum-told
 enum-told c = search needs
-
-same-length : tie.Need-same-length
-same-length c = search needs
 
 returns : tie.Need-returns
 unfolding loop-end
@@ -26,30 +17,12 @@ returns c =
     let enum-told = c .enum-told in
     λ source. record { gives = λ _ _. off _ (expect .ensures .gives _ _) (enum-told .given .1); onward = nowhere (enum-told .given .1) }
 
-remove-entry-requires : tie.Need-remove-entry-requires
-remove-entry-requires c κs = search needs
-
-put-word-requires : tie.Need-put-word-requires
-put-word-requires c κs = search needs
-
 cast-put-word : tie.Need-cast-put-word
 cast-put-word c =
     let pre = c .before .before .before .before .before .before .before .before .before .before .before .before .before .before .before .before .before .pre in
     let expect = c .before .before .before .before .before .before .before .before .before .before .before .before .before .expect in
     let r = c .before .before .before .before .before .before .before .before .before .before .before .r in
     let w = went (expect .ensures .onward) (r .given .1) in omega (arith, w .within, pre .0 .tokens)
-
-put-word-requires-2 : tie.Need-put-word-requires-2
-put-word-requires-2 c κs = search needs
-
-released-requires : tie.Need-released-requires
-released-requires c κs = search needs
-
-same-length-2 : tie.Need-same-length-2
-same-length-2 c = search needs
-
-same-length-3 : tie.Need-same-length-3
-same-length-3 c = search needs
 
 returns-2 : tie.Need-returns-2
 unfolding loop-end
@@ -76,16 +49,16 @@ pub loop-end-spec : {M : Type 1} → statement M
 loop-end-spec =
     tie.close
     (tie.spec
-    expect-requires
-    enum-known-r
+    (λ c κs. search needs)
+    (λ c. search needs)
     enum-told
-    same-length
+    (λ c. search needs)
     returns
-    remove-entry-requires
-    put-word-requires
+    (λ c κs. search needs)
+    (λ c κs. search needs)
     cast-put-word
-    put-word-requires-2
-    released-requires
-    same-length-2
-    same-length-3
+    (λ c κs. search needs)
+    (λ c κs. search needs)
+    (λ c. search needs)
+    (λ c. search needs)
     returns-2)

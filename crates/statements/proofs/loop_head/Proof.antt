@@ -1,26 +1,14 @@
 use Rattle.reader.proofs.Steps.{on, on-told, off, returned, declared}
 use Rattle.reader.proofs.Going.{nowhere, went, goes-on, still}
-use Rattle.statements.specs.Promises.{loop-head}
+use Rattle.statements.specs.Contracts.Promises.{loop-head}
 use native.Mathlib.Omega.{arith}
 use mathlib.Core.Path.{refl, _∙_}
 use borrow.Author.Needs.{needs}
 use Rattle.statements.proofs.loop_head.Statement.{statement}
 use Rattle.statements.proofs.loop_head.Tie as tie
 
-fresh-requires : tie.Need-fresh-requires
-fresh-requires c κs = search needs
-
-enum-known-r : tie.Need-enum-known-r
-enum-known-r c = search needs
-
 enum-told : tie.Need-enum-told
 enum-told c = search needs
-
-same-length : tie.Need-same-length
-same-length c = search needs
-
-same-length-2 : tie.Need-same-length-2
-same-length-2 c = search needs
 
 returns : tie.Need-returns
 unfolding loop-head
@@ -41,18 +29,6 @@ loop-range-requires c κs =
     let fresh = c .before .before .before .before .before .before .fresh in
     let r = c .before .before .before .before .r in
     still (pre .0) refl refl (went (fresh .ensures .onward) (r .given .1)) (omega arith)
-
-enum-known-q : tie.Need-enum-known-q
-enum-known-q c = search needs
-
-enum-told-2 : tie.Need-enum-told-2
-enum-told-2 c = search needs
-
-same-length-3 : tie.Need-same-length-3
-same-length-3 c = search needs
-
-same-length-4 : tie.Need-same-length-4
-same-length-4 c = search needs
 
 returns-2 : tie.Need-returns-2
 unfolding loop-head
@@ -75,12 +51,6 @@ declare-requires c κs =
     let w = went (loop-range .ensures .onward) (q .given .1) in
     (z .tokens, loop-range .kept .1 .1 .0 ∙ z .table, omega (arith, v .few, w .few), z .list)
 
-same-length-5 : tie.Need-same-length-5
-same-length-5 c = search needs
-
-same-length-6 : tie.Need-same-length-6
-same-length-6 c = search needs
-
 returns-3 : tie.Need-returns-3
 unfolding loop-head
 returns-3 c =
@@ -101,20 +71,20 @@ pub loop-head-spec : {M : Type 1} → statement M
 loop-head-spec =
     tie.close
     (tie.spec
-    fresh-requires
-    enum-known-r
+    (λ c κs. search needs)
+    (λ c. search needs)
     enum-told
-    same-length
-    same-length-2
+    (λ c. search needs)
+    (λ c. search needs)
     returns
     sub-i
     loop-range-requires
-    enum-known-q
-    enum-told-2
-    same-length-3
-    same-length-4
+    (λ c. search needs)
+    (λ c. search needs)
+    (λ c. search needs)
+    (λ c. search needs)
     returns-2
     declare-requires
-    same-length-5
-    same-length-6
+    (λ c. search needs)
+    (λ c. search needs)
     returns-3)

@@ -1,7 +1,7 @@
-use Rattle.value.specs.Laws.{encode-decode}
+use Rattle.value.proofs.Theorems.Laws.{encode-decode}
 use Rattle.reader.proofs.Steps.{on, on-told, off, returned}
 use Rattle.reader.proofs.Going.{nowhere, went, goes-on, still}
-use Rattle.statements.specs.Promises.{loop-range}
+use Rattle.statements.specs.Contracts.Promises.{loop-range}
 use native.Mathlib.Omega.{arith}
 use mathlib.Core.Path.{refl, _∙_}
 use borrow.Author.Needs.{needs}
@@ -9,17 +9,8 @@ use Rattle.statements.proofs.Single.{put-as}
 use Rattle.statements.proofs.loop_range.Statement.{statement}
 use Rattle.statements.proofs.loop_range.Tie as tie
 
-expect-requires : tie.Need-expect-requires
-expect-requires c κs = search needs
-
-enum-known-r : tie.Need-enum-known-r
-enum-known-r c = search needs
-
 enum-told : tie.Need-enum-told
 enum-told c = search needs
-
-same-length : tie.Need-same-length
-same-length c = search needs
 
 returns : tie.Need-returns
 unfolding loop-range
@@ -35,15 +26,6 @@ read-range-requires c κs =
     let r = c .before .before .r in
     still pre refl refl (went (expect .ensures .onward) (r .given .1)) (pre .few)
 
-enum-known-q : tie.Need-enum-known-q
-enum-known-q c = search needs
-
-enum-told-2 : tie.Need-enum-told-2
-enum-told-2 c = search needs
-
-same-length-2 : tie.Need-same-length-2
-same-length-2 c = search needs
-
 returns-2 : tie.Need-returns-2
 unfolding loop-range
 returns-2 c =
@@ -53,18 +35,12 @@ returns-2 c =
     let enum-told2 = c .enum-told2 in
     record { gives = on _ (expect .ensures .gives _ _) (r .given .1) (λ _ _. off _ (read-range .ensures .gives) (enum-told2 .given .1)); onward = nowhere (enum-told2 .given .1) }
 
-put-word-requires : tie.Need-put-word-requires
-put-word-requires c κs = search needs
-
 put-word-requires-2 : tie.Need-put-word-requires-2
 put-word-requires-2 c κs =
     let pre = c .before .before .before .before .before .before .before .before .before .before .before .before .before .before .before .before .before .before .before .before .pre in
     let read-range = c .before .before .before .before .before .before .before .before .before .before .read-range in
     let put-word = c .before .before .before .put-word in
     (omega arith, put-word .kept .0 ∙ read-range .kept .1 .1 .0 ∙ pre .table)
-
-same-length-3 : tie.Need-same-length-3
-same-length-3 c = search needs
 
 returns-3 : tie.Need-returns-3
 unfolding loop-range
@@ -87,17 +63,17 @@ pub loop-range-spec : {M : Type 1} → statement M
 loop-range-spec =
     tie.close
     (tie.spec
-    expect-requires
-    enum-known-r
+    (λ c κs. search needs)
+    (λ c. search needs)
     enum-told
-    same-length
+    (λ c. search needs)
     returns
     read-range-requires
-    enum-known-q
-    enum-told-2
-    same-length-2
+    (λ c. search needs)
+    (λ c. search needs)
+    (λ c. search needs)
     returns-2
-    put-word-requires
+    (λ c κs. search needs)
     put-word-requires-2
-    same-length-3
+    (λ c. search needs)
     returns-3)

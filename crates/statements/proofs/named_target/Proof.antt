@@ -10,12 +10,6 @@ use Rattle.statements.proofs.Single.{slot-told}
 use Rattle.statements.proofs.named_target.Statement.{statement}
 use Rattle.statements.proofs.named_target.Tie as tie
 
-dot-field-requires : tie.Need-dot-field-requires
-dot-field-requires c κs = search needs
-
-enum-known-r : tie.Need-enum-known-r
-enum-known-r c = search needs
-
 enum-told : tie.Need-enum-told
 enum-told c = search needs
 
@@ -25,9 +19,6 @@ returns c =
     let dot-field = c .before .before .dot-field in
     let enum-told = c .enum-told in
     record { gives = off _ (dot-field .ensures .gives) (enum-told .given .1); onward = nowhere (enum-told .given .1) }
-
-cast-entry-in : tie.Need-cast-entry-in
-cast-entry-in c = search needs
 
 entry-in-requires : tie.Need-entry-in-requires
 entry-in-requires c κs =
@@ -45,9 +36,6 @@ sub-refuse c =
     let r = c .before .before .before .before .before .before .r in
     let w = went (dot-field .ensures .onward) (r .given .1) in omega arith
 
-refuse-requires : tie.Need-refuse-requires
-refuse-requires c κs = search needs
-
 returns-2 : tie.Need-returns-2
 unfolding named-target
 returns-2 c =
@@ -61,9 +49,6 @@ returns-2 c =
       gives = on-told _ (slot-told (dot-field .ensures .gives)) (r .given .1) (named _ _ (entry-in .ensures) (so _ _ (eq-eqb _ _ (if1 .taken)) (refused-last _ y)));
       onward = nowhere y;
     }
-
-carrying-requires : tie.Need-carrying-requires
-carrying-requires c κs = search needs
 
 returns-3 : tie.Need-returns-3
 unfolding named-target
@@ -84,14 +69,14 @@ pub named-target-spec : {M : Type 1} → statement M
 named-target-spec =
     tie.close
     (tie.spec
-    dot-field-requires
-    enum-known-r
+    (λ c κs. search needs)
+    (λ c. search needs)
     enum-told
     returns
-    cast-entry-in
+    (λ c. search needs)
     entry-in-requires
     sub-refuse
-    refuse-requires
+    (λ c κs. search needs)
     returns-2
-    carrying-requires
+    (λ c κs. search needs)
     returns-3)

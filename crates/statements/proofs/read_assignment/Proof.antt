@@ -8,20 +8,8 @@ use Rattle.statements.proofs.Single.{put-as}
 use Rattle.statements.proofs.read_assignment.Statement.{statement}
 use Rattle.statements.proofs.read_assignment.Tie as tie
 
-read-target-requires : tie.Need-read-target-requires
-read-target-requires c κs = search needs
-
-enum-known-r : tie.Need-enum-known-r
-enum-known-r c = search needs
-
 enum-told : tie.Need-enum-told
 enum-told c = search needs
-
-same-length : tie.Need-same-length
-same-length c = search needs
-
-same-length-2 : tie.Need-same-length-2
-same-length-2 c = search needs
 
 returns : tie.Need-returns
 unfolding read-assignment
@@ -36,18 +24,6 @@ forbid-requires c κs =
     let read-target = c .before .before .before .before .before .before .read-target in
     let r = c .before .before .r in
     let p = pre .0 in let w = went (read-target .ensures .onward) (r .given .1) in (p .tokens, p .table, w .within)
-
-enum-known-q : tie.Need-enum-known-q
-enum-known-q c = search needs
-
-enum-told-2 : tie.Need-enum-told-2
-enum-told-2 c = search needs
-
-same-length-3 : tie.Need-same-length-3
-same-length-3 c = search needs
-
-same-length-4 : tie.Need-same-length-4
-same-length-4 c = search needs
 
 returns-2 : tie.Need-returns-2
 unfolding read-assignment
@@ -72,18 +48,6 @@ read-clauses-requires c κs =
     let v = went (read-target .ensures .onward) (r .given .1) in
     let w = went (forbid .ensures .onward) (q .given .1) in
     record { tokens = p .tokens; table = p .table; list = read-target .kept .1 .0 ∙ p .list; here = w .within; few = omega (arith, v .few, w .few) }
-
-enum-known-p : tie.Need-enum-known-p
-enum-known-p c = search needs
-
-enum-told-3 : tie.Need-enum-told-3
-enum-told-3 c = search needs
-
-same-length-5 : tie.Need-same-length-5
-same-length-5 c = search needs
-
-same-length-6 : tie.Need-same-length-6
-same-length-6 c = search needs
 
 returns-3 : tie.Need-returns-3
 unfolding read-assignment
@@ -124,9 +88,6 @@ same-length-7 c =
     let read-target = c .before .before .before .before .before .before .before .before .before .before .before .before .before .before .before .before .before .before .before .before .before .before .before .before .before .before .before .read-target in
     read-target .kept .1 .0
 
-same-length-8 : tie.Need-same-length-8
-same-length-8 c = search needs
-
 returns-4 : tie.Need-returns-4
 unfolding read-assignment
 returns-4 c =
@@ -150,27 +111,27 @@ pub read-assignment-spec : {M : Type 1} → statement M
 read-assignment-spec =
     tie.close
     (tie.spec
-    read-target-requires
-    enum-known-r
+    (λ c κs. search needs)
+    (λ c. search needs)
     enum-told
-    same-length
-    same-length-2
+    (λ c. search needs)
+    (λ c. search needs)
     returns
     forbid-requires
-    enum-known-q
-    enum-told-2
-    same-length-3
-    same-length-4
+    (λ c. search needs)
+    (λ c. search needs)
+    (λ c. search needs)
+    (λ c. search needs)
     returns-2
     read-clauses-requires
-    enum-known-p
-    enum-told-3
-    same-length-5
-    same-length-6
+    (λ c. search needs)
+    (λ c. search needs)
+    (λ c. search needs)
+    (λ c. search needs)
     returns-3
     put-word-requires
     cast-put-word
     put-word-requires-2
     same-length-7
-    same-length-8
+    (λ c. search needs)
     returns-4)

@@ -9,17 +9,8 @@ use Rattle.statements.proofs.Single.{expression}
 use Rattle.statements.proofs.read_clause.Statement.{statement}
 use Rattle.statements.proofs.read_clause.Tie as tie
 
-expect-requires : tie.Need-expect-requires
-expect-requires c κs = search needs
-
-enum-known-r : tie.Need-enum-known-r
-enum-known-r c = search needs
-
 enum-told : tie.Need-enum-told
 enum-told c = search needs
-
-same-length : tie.Need-same-length
-same-length c = search needs
 
 returns : tie.Need-returns
 unfolding clause-turn
@@ -34,15 +25,6 @@ read-expression-requires c κs =
     let expect = c .before .before .before .before .expect in
     let r = c .before .before .r in
     (still pre refl refl (went (expect .ensures .onward) (r .given .1)) (pre .few), omega arith)
-
-enum-known-q : tie.Need-enum-known-q
-enum-known-q c = search needs
-
-enum-told-2 : tie.Need-enum-told-2
-enum-told-2 c = search needs
-
-same-length-2 : tie.Need-same-length-2
-same-length-2 c = search needs
 
 returns-2 : tie.Need-returns-2
 unfolding clause-turn
@@ -67,15 +49,6 @@ clause-end-requires c κs =
     let v = went (expect .ensures .onward) (r .given .1) in
     let w = went (read-expression .ensures .onward) (q .given .1) in
     still p refl (read-expression .kept .1 .1 .0) w (omega (arith, v .few, p .few))
-
-enum-known-p : tie.Need-enum-known-p
-enum-known-p c = search needs
-
-enum-told-3 : tie.Need-enum-told-3
-enum-told-3 c = search needs
-
-same-length-3 : tie.Need-same-length-3
-same-length-3 c = search needs
 
 returns-3 : tie.Need-returns-3
 unfolding clause-turn
@@ -105,9 +78,6 @@ put-word-requires c κs =
     let clause-end = c .before .before .before .before .before .before .before .clause-end in
     (omega arith, clause-end .kept .1 .1 .0 ∙ read-expression .kept .1 .1 .0 ∙ pre .table)
 
-same-length-4 : tie.Need-same-length-4
-same-length-4 c = search needs
-
 returns-4 : tie.Need-returns-4
 unfolding clause-turn
 returns-4 c =
@@ -130,22 +100,22 @@ pub read-clause-spec : {M : Type 1} → statement M
 read-clause-spec =
     tie.close
     (tie.spec
-    expect-requires
-    enum-known-r
+    (λ c κs. search needs)
+    (λ c. search needs)
     enum-told
-    same-length
+    (λ c. search needs)
     returns
     read-expression-requires
-    enum-known-q
-    enum-told-2
-    same-length-2
+    (λ c. search needs)
+    (λ c. search needs)
+    (λ c. search needs)
     returns-2
     clause-end-requires
-    enum-known-p
-    enum-told-3
-    same-length-3
+    (λ c. search needs)
+    (λ c. search needs)
+    (λ c. search needs)
     returns-3
     cast-put-word
     put-word-requires
-    same-length-4
+    (λ c. search needs)
     returns-4)

@@ -1,10 +1,10 @@
 use Rattle.grammar.specs.Reader.{repeat, turns}
 use Rattle.grammar.specs.Expressions.{read-expression}
-use Rattle.expressions.specs.Promises.{cell-of}
+use Rattle.expressions.specs.Contracts.Promises.{cell-of}
 use Rattle.reader.proofs.Steps.{told-as}
 use Rattle.reader.proofs.Turns.{Turning, turn-first, turn-again, turn-done, turn-refused}
 use Rattle.reader.proofs.Going.{nowhere, went, goes-on}
-use Rattle.statements.specs.Promises.{is-first}
+use Rattle.statements.specs.Contracts.Promises.{is-first}
 use Prim.Native.Nat.{_≤_, _-_}
 use native.Mathlib.Omega.{arith}
 use lib.ListN.{length}
@@ -32,9 +32,6 @@ read-clause-requires c κs =
     let pre = c .before .before .before .before .before .pre in
     let loop = c .before .loop in
     let p = pre in let v = loop .inv in record { tokens = p .tokens; table = v .1 ∙ p .table; list = p .list; here = v .3; few = omega (arith, v .4, p .few) }
-
-enum-known-r : tie.Need-enum-known-r Inv-loop μ-loop
-enum-known-r c = search needs
 
 enum-told : tie.Need-enum-told Inv-loop μ-loop
 enum-told c = search needs
@@ -101,7 +98,7 @@ read-clauses-spec =
     μ-loop
     loop-holds
     read-clause-requires
-    enum-known-r
+    (λ c. search needs)
     enum-told
     same-length
     returns

@@ -6,12 +6,6 @@ use Rattle.statements.proofs.Single.{carried-on}
 use Rattle.statements.proofs.read_end.Statement.{statement}
 use Rattle.statements.proofs.read_end.Tie as tie
 
-expect-requires : tie.Need-expect-requires
-expect-requires c κs = search needs
-
-enum-known-r : tie.Need-enum-known-r
-enum-known-r c = search needs
-
 enum-told : tie.Need-enum-told
 enum-told c = search needs
 
@@ -20,9 +14,6 @@ returns c =
     let expect = c .before .before .expect in
     let enum-told = c .enum-told in
     record { gives = λ _ _. no-further (expect .ensures .gives _ _) (enum-told .given .1); onward = nowhere (enum-told .given .1) }
-
-carrying-requires : tie.Need-carrying-requires
-carrying-requires c κs = search needs
 
 returns-2 : tie.Need-returns-2
 returns-2 c =
@@ -38,4 +29,4 @@ returns-2 c =
 
 pub read-end-spec : {M : Type 1} → statement M
 read-end-spec =
-    tie.close (tie.spec expect-requires enum-known-r enum-told returns carrying-requires returns-2)
+    tie.close (tie.spec (λ c κs. search needs) (λ c. search needs) enum-told returns (λ c κs. search needs) returns-2)

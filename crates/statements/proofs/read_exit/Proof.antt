@@ -5,21 +5,6 @@ use Rattle.grammar.specs.Statements.{read-exit}
 use Rattle.statements.proofs.read_exit.Statement.{statement}
 use Rattle.statements.proofs.read_exit.Tie as tie
 
-add-put-word : tie.Need-add-put-word
-add-put-word c = search needs
-
-cast-put-word : tie.Need-cast-put-word
-cast-put-word c = search needs
-
-put-word-requires : tie.Need-put-word-requires
-put-word-requires c κs = search needs
-
-moved-requires : tie.Need-moved-requires
-moved-requires c κs = search needs
-
-same-length : tie.Need-same-length
-same-length c = search needs
-
 returns : tie.Need-returns
 unfolding read-exit
 returns c =
@@ -31,4 +16,4 @@ returns c =
 pub read-exit-spec : {M : Type 1} → statement M
 read-exit-spec =
     tie.close
-    (tie.spec add-put-word cast-put-word put-word-requires moved-requires same-length returns)
+    (tie.spec (λ c. search needs) (λ c. search needs) (λ c κs. search needs) (λ c κs. search needs) (λ c. search needs) returns)

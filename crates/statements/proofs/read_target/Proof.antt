@@ -1,5 +1,5 @@
 use Rattle.program.specs.Syntax.{to-field, to-variable}
-use Rattle.reader.specs.Reading.{word}
+use Rattle.reader.specs.Contracts.Reading.{word}
 use Rattle.reader.proofs.Steps.{on, on-told, off, made, so, other, token, refused, carried}
 use Rattle.reader.proofs.Going.{nowhere, went, goes-on, further}
 use native.Mathlib.Omega.{arith}
@@ -10,12 +10,6 @@ use Rattle.grammar.specs.Statements.{read-target}
 use Rattle.statements.proofs.read_target.Statement.{statement}
 use Rattle.statements.proofs.read_target.Tie as tie
 
-token-at-requires : tie.Need-token-at-requires
-token-at-requires c κs = search needs
-
-refuse-requires : tie.Need-refuse-requires
-refuse-requires c κs = search needs
-
 returns : tie.Need-returns
 unfolding read-target
 returns c =
@@ -23,12 +17,6 @@ returns c =
     let if1 = c .before .if1 in
     let refuse = c .refuse in
     let y = refuse .ensures in record { gives = token _ (token-at .ensures) (so _ _ (eq-eqb _ _ (if1 .taken)) (refused _ y)); onward = nowhere y }
-
-field-target-requires : tie.Need-field-target-requires
-field-target-requires c κs = search needs
-
-same-length : tie.Need-same-length
-same-length c = search needs
 
 returns-2 : tie.Need-returns-2
 unfolding read-target
@@ -43,17 +31,8 @@ returns-2 c =
       onward = further (field-target .ensures .onward) (omega arith) (pre .0 .few);
     }
 
-variable-target-requires : tie.Need-variable-target-requires
-variable-target-requires c κs = search needs
-
-enum-known-r : tie.Need-enum-known-r
-enum-known-r c = search needs
-
 enum-told : tie.Need-enum-told
 enum-told c = search needs
-
-same-length-2 : tie.Need-same-length-2
-same-length-2 c = search needs
 
 returns-3 : tie.Need-returns-3
 unfolding read-target
@@ -75,15 +54,6 @@ forbid-requires c κs =
     let r = c .before .r in
     let p = pre .0 in let w = went (variable-target .ensures .onward) (r .given .1) in (p .tokens, p .table, w .within)
 
-enum-known-q : tie.Need-enum-known-q
-enum-known-q c = search needs
-
-enum-told-2 : tie.Need-enum-told-2
-enum-told-2 c = search needs
-
-same-length-3 : tie.Need-same-length-3
-same-length-3 c = search needs
-
 returns-4 : tie.Need-returns-4
 unfolding read-target
 returns-4 c =
@@ -98,12 +68,6 @@ returns-4 c =
       gives = token _ (token-at .ensures) (other _ _ (ne-eqb _ _ (if1 .left)) (other _ _ (ne-eqb _ _ (if2 .left)) (off {R = word} _ (on-told _ (variable-target .ensures .gives) (r .given .1) (off _ (forbid .ensures .gives _ _) (enum-told2 .given .1))) (enum-told2 .given .1))));
       onward = nowhere (enum-told2 .given .1);
     }
-
-carrying-requires : tie.Need-carrying-requires
-carrying-requires c κs = search needs
-
-same-length-4 : tie.Need-same-length-4
-same-length-4 c = search needs
 
 returns-5 : tie.Need-returns-5
 unfolding read-target
@@ -128,22 +92,22 @@ pub read-target-spec : {M : Type 1} → statement M
 read-target-spec =
     tie.close
     (tie.spec
-    token-at-requires
-    refuse-requires
+    (λ c κs. search needs)
+    (λ c κs. search needs)
     returns
-    field-target-requires
-    same-length
+    (λ c κs. search needs)
+    (λ c. search needs)
     returns-2
-    variable-target-requires
-    enum-known-r
+    (λ c κs. search needs)
+    (λ c. search needs)
     enum-told
-    same-length-2
+    (λ c. search needs)
     returns-3
     forbid-requires
-    enum-known-q
-    enum-told-2
-    same-length-3
+    (λ c. search needs)
+    (λ c. search needs)
+    (λ c. search needs)
     returns-4
-    carrying-requires
-    same-length-4
+    (λ c κs. search needs)
+    (λ c. search needs)
     returns-5)

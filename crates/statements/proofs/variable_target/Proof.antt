@@ -8,26 +8,8 @@ use Rattle.grammar.specs.Statements.{old-variable, new-variable}
 use Rattle.statements.proofs.variable_target.Statement.{statement}
 use Rattle.statements.proofs.variable_target.Tie as tie
 
-find-name-requires : tie.Need-find-name-requires
-find-name-requires c κs = search needs
-
-enum-known-f : tie.Need-enum-known-f
-enum-known-f c = search needs
-
 enum-told : tie.Need-enum-told
 enum-told c = search needs
-
-fresh-requires : tie.Need-fresh-requires
-fresh-requires c κs = search needs
-
-enum-known-r : tie.Need-enum-known-r
-enum-known-r c = search needs
-
-enum-told-2 : tie.Need-enum-told-2
-enum-told-2 c = search needs
-
-same-length : tie.Need-same-length
-same-length c = search needs
 
 returns : tie.Need-returns
 unfolding new-variable
@@ -58,12 +40,6 @@ declare-requires c κs =
     let r = c .before .before .before .before .before .r in
     let p = pre .0 in let w = went (fresh .ensures .onward) (r .given .1) in (p .tokens, p .table, omega arith, p .list)
 
-carrying-requires : tie.Need-carrying-requires
-carrying-requires c κs = search needs
-
-same-length-2 : tie.Need-same-length-2
-same-length-2 c = search needs
-
 returns-2 : tie.Need-returns-2
 unfolding new-variable
 returns-2 c =
@@ -92,15 +68,6 @@ entry-in-requires c κs =
     let f = c .before .before .f in
     let p = pre .0 in let b = below-slot (find-name .ensures .below) (f .given .1) in (omega (arith, b, p .few), p .list)
 
-moved-requires : tie.Need-moved-requires
-moved-requires c κs = search needs
-
-carrying-requires-2 : tie.Need-carrying-requires-2
-carrying-requires-2 c κs = search needs
-
-same-length-3 : tie.Need-same-length-3
-same-length-3 c = search needs
-
 returns-3 : tie.Need-returns-3
 unfolding old-variable
 returns-3 c =
@@ -119,12 +86,6 @@ returns-3 c =
       onward = goes-on (omega (arith, k .at, m .at)) (omega (arith, k .at, m .at, p .1)) (omega (arith, k .count, m .count, p .0 .few));
     }
 
-refuse-requires : tie.Need-refuse-requires
-refuse-requires c κs = search needs
-
-same-length-4 : tie.Need-same-length-4
-same-length-4 c = search needs
-
 returns-4 : tie.Need-returns-4
 unfolding old-variable
 returns-4 c =
@@ -140,25 +101,25 @@ pub variable-target-spec : {M : Type 1} → statement M
 variable-target-spec =
     tie.close
     (tie.spec
-    find-name-requires
-    enum-known-f
+    (λ c κs. search needs)
+    (λ c. search needs)
     enum-told
-    fresh-requires
-    enum-known-r
-    enum-told-2
-    same-length
+    (λ c κs. search needs)
+    (λ c. search needs)
+    (λ c. search needs)
+    (λ c. search needs)
     returns
     count-variables-requires
     sub-declare
     declare-requires
-    carrying-requires
-    same-length-2
+    (λ c κs. search needs)
+    (λ c. search needs)
     returns-2
     entry-in-requires
-    moved-requires
-    carrying-requires-2
-    same-length-3
+    (λ c κs. search needs)
+    (λ c κs. search needs)
+    (λ c. search needs)
     returns-3
-    refuse-requires
-    same-length-4
+    (λ c κs. search needs)
+    (λ c. search needs)
     returns-4)

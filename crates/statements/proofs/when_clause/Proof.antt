@@ -1,6 +1,6 @@
 use Rattle.reader.proofs.Steps.{on, off, token, here, carried, advanced, put-in}
 use Rattle.reader.proofs.Going.{nowhere, went, goes-on}
-use Rattle.statements.specs.Promises.{once, ends}
+use Rattle.statements.specs.Contracts.Promises.{once, ends}
 use native.Mathlib.Omega.{arith}
 use mathlib.Core.Path.{refl, _∙_}
 use borrow.Author.Tests.{eq-eqb, ne-eqb}
@@ -10,20 +10,8 @@ use Rattle.statements.proofs.Single.{expression, first-of-two, second-o
 use Rattle.statements.proofs.when_clause.Statement.{statement}
 use Rattle.statements.proofs.when_clause.Tie as tie
 
-moved-requires : tie.Need-moved-requires
-moved-requires c κs = search needs
-
-read-expression-requires : tie.Need-read-expression-requires
-read-expression-requires c κs = search needs
-
-enum-known-r : tie.Need-enum-known-r
-enum-known-r c = search needs
-
 enum-told : tie.Need-enum-told
 enum-told c = search needs
-
-same-length : tie.Need-same-length
-same-length c = search needs
 
 returns : tie.Need-returns
 unfolding when-clause
@@ -36,24 +24,12 @@ returns c =
       onward = nowhere (enum-told .given .1);
     }
 
-cast-put-word : tie.Need-cast-put-word
-cast-put-word c = search needs
-
-put-word-requires : tie.Need-put-word-requires
-put-word-requires c κs = search needs
-
 token-at-requires : tie.Need-token-at-requires
 token-at-requires c κs =
     let pre = c .before .before .before .before .before .before .before .before .before .before .before .before .before .before .before .before .before .pre in
     let read-expression = c .before .before .before .before .before .before .before .before .before .before .before .read-expression in
     let put-word = c .before .before .before .put-word in
     (pre .0 .tokens, put-word .kept .0 ∙ read-expression .kept .1 .1 .0 ∙ pre .0 .table)
-
-carrying-requires : tie.Need-carrying-requires
-carrying-requires c κs = search needs
-
-same-length-2 : tie.Need-same-length-2
-same-length-2 c = search needs
 
 returns-2 : tie.Need-returns-2
 unfolding when-clause
@@ -72,12 +48,6 @@ returns-2 c =
       gives = λ b _. on _ (advanced m) refl (λ _ _. here _ (on _ (expression (read-expression .ensures) .gives) (r .given .1) (λ c _. on _ (put-in _ _ _ (put-word .ensures)) refl (λ _ _. token _ (token-at .ensures) (first-of-two _ _ (eq-eqb _ _ (if1 .taken)) (carried _ k (once (k .word, not-first (b .got) _))))))));
       onward = goes-on (omega (arith, w .past, k .at, m .at)) (omega (arith, w .within, k .at)) (omega (arith, w .few, k .count, m .count));
     }
-
-carrying-requires-2 : tie.Need-carrying-requires-2
-carrying-requires-2 c κs = search needs
-
-same-length-3 : tie.Need-same-length-3
-same-length-3 c = search needs
 
 returns-3 : tie.Need-returns-3
 unfolding when-clause
@@ -101,18 +71,18 @@ pub when-clause-spec : {M : Type 1} → statement M
 when-clause-spec =
     tie.close
     (tie.spec
-    moved-requires
-    read-expression-requires
-    enum-known-r
+    (λ c κs. search needs)
+    (λ c κs. search needs)
+    (λ c. search needs)
     enum-told
-    same-length
+    (λ c. search needs)
     returns
-    cast-put-word
-    put-word-requires
+    (λ c. search needs)
+    (λ c κs. search needs)
     token-at-requires
-    carrying-requires
-    same-length-2
+    (λ c κs. search needs)
+    (λ c. search needs)
     returns-2
-    carrying-requires-2
-    same-length-3
+    (λ c κs. search needs)
+    (λ c. search needs)
     returns-3)

@@ -12,8 +12,8 @@ use Rattle.semantics.specs.Evaluation.{offsets}
 use Rattle.semantics.specs.Places.{own-place}
 use Rattle.stepper.specs.declared.Bounds.{Bounds}
 use Rattle.stepper.specs.Reach.{own-only}
-use Rattle.stepper.specs.Covering.{offsets-length}
-use Rattle.stepper.specs.Fitting.{bound-at, bounds-of, place-at}
+use Rattle.stepper.proofs.Theorems.Covering.{offsets-length}
+use Rattle.stepper.specs.Contracts.Fitting.{bound-at, bounds-of, place-at}
 use Rattle.stepper.proofs.own_only.Statement.{statement}
 use Rattle.stepper.proofs.own_only.Tie as tie
 

@@ -5,13 +5,7 @@ use Rattle.admission.proofs.admitting.admit.Statement.{statement}
 use Rattle.admission.proofs.admitting.admit.Tie as tie
 
 -- src/admitting.rt:52:9
-refused-request-requires : tie.Need-refused-request-requires
-refused-request-requires c κs = search needs
-
 -- src/admitting.rt:54:9
-turned-away-requires : tie.Need-turned-away-requires
-turned-away-requires c κs = search needs
-
 -- src/admitting.rt:54:9
 returns : tie.Need-returns
 returns c = asked-refused _ (read-times (c .before .before .before .before .before .fits .start) (c .before .before .before .before .before .fits .steps) (c .before .before .refused-request .ensures)) (c .before .if1 .taken) (c .turned-away .ensures)
@@ -21,9 +15,6 @@ survey-requires : tie.Need-survey-requires
 survey-requires c κs = (c .before .before .before .before .pre .0, c .before .refused-request .ensures .shaped (c .if1 .left) .dims)
 
 -- src/admitting.rt:58:9
-turned-away-requires-2 : tie.Need-turned-away-requires-2
-turned-away-requires-2 c κs = search needs
-
 -- src/admitting.rt:58:9
 returns-2 : tie.Need-returns-2
 returns-2 c =
@@ -56,11 +47,11 @@ pub admit-spec : {M : Type 1} → statement M
 admit-spec =
     tie.close
     (tie.spec
-    refused-request-requires
-    turned-away-requires
+    (λ c κs. search needs)
+    (λ c κs. search needs)
     returns
     survey-requires
-    turned-away-requires-2
+    (λ c κs. search needs)
     returns-2
     out-of-field-requires
     returns-3)

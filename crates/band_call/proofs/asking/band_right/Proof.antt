@@ -12,21 +12,9 @@ returns c = reversed (c .before .args .rows) (bound (c .before .args .before) (c
 returns-2 : tie.Need-returns-2
 returns-2 c = past-end (c .before .before .args .rows) (bound (c .before .before .args .before) (c .before .before .args .behind)) (c .before .before .args .held) (band (c .before .before .args .first) (c .before .before .args .last)) (c .before .if1 .left) (c .if2 .taken)
 
-add-own : tie.Need-add-own
-add-own c = search needs
-
-sub-own : tie.Need-sub-own
-sub-own c = search needs
-
-add-result : tie.Need-add-result
-add-result c = search needs
-
-add-result-2 : tie.Need-add-result-2
-add-result-2 c = search needs
-
 returns-3 : tie.Need-returns-3
 returns-3 c = by-held (c .before .before .args .rows) (bound (c .before .before .args .before) (c .before .before .args .behind)) (c .before .before .args .held) (band (c .before .before .args .first) (c .before .before .args .last)) (c .before .if1 .left) (c .if2 .left) (omega arith)
 
 pub band-right-spec : {M : Type 1} → statement M
 band-right-spec =
-    tie.close (tie.spec returns returns-2 add-own sub-own add-result add-result-2 returns-3)
+    tie.close (tie.spec returns returns-2 (λ c. search needs) (λ c. search needs) (λ c. search needs) (λ c. search needs) returns-3)

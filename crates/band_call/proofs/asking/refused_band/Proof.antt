@@ -9,9 +9,6 @@ use borrow.Author.Needs.{needs}
 use Rattle.band_call.proofs.asking.refused_band.Statement.{statement}
 use Rattle.band_call.proofs.asking.refused_band.Tie as tie
 
-band-right-requires : tie.Need-band-right-requires
-band-right-requires c κs = search needs
-
 returns : tie.Need-returns
 returns c = refuses-60 _ _ _ _ _ _ _ _ _ (c .before .band-right .ensures) (c .if1 .taken)
 
@@ -20,9 +17,6 @@ rooms-right-requires c κs = (c .before .before .pre .0, c .before .before .pre 
 
 returns-2 : tie.Need-returns-2
 returns-2 c = refuses-21 _ _ _ _ _ _ _ _ _ (c .before .before .before .band-right .ensures) (c .before .before .if1 .left) (c .before .rooms-right .ensures) (c .if2 .taken)
-
-good-times-requires : tie.Need-good-times-requires
-good-times-requires c κs = search needs
 
 returns-3 : tie.Need-returns-3
 returns-3 c = refuses-22 _ _ _ _ _ _ _ _ _ (c .before .before .before .before .before .band-right .ensures) (c .before .before .before .before .if1 .left) (c .before .before .before .rooms-right .ensures) (c .before .before .if2 .left) (c .before .good-times .ensures ∙ ap (λ (t : ℤ). good-times t (pos 1)) (toZ-ofZ (c .before .before .before .before .before .before .fits .time))) (c .if3 .taken)
@@ -34,10 +28,10 @@ pub refused-band-spec : {M : Type 1} → statement M
 refused-band-spec =
     tie.close
     (tie.spec
-    band-right-requires
+    (λ c κs. search needs)
     returns
     rooms-right-requires
     returns-2
-    good-times-requires
+    (λ c κs. search needs)
     returns-3
     returns-4)

@@ -7,18 +7,6 @@ use borrow.Author.Needs.{needs}
 use Rattle.band_call.proofs.asking.rooms_right.Statement.{statement}
 use Rattle.band_call.proofs.asking.rooms_right.Tie as tie
 
-add-own : tie.Need-add-own
-add-own c = search needs
-
-sub-own : tie.Need-sub-own
-sub-own c = search needs
-
-add-with : tie.Need-add-with
-add-with c = search needs
-
-add-with-2 : tie.Need-add-with-2
-add-with-2 c = search needs
-
 mul-if1 : tie.Need-mul-if1
 mul-if1 c = let a = small-product (c .args .before + (c .args .last + 1 - c .args .first) + c .args .behind) (c .args .row) (c .args .fields) (omega arith) (c .pre .0) (c .pre .1) in search needs
 
@@ -41,10 +29,10 @@ pub rooms-right-spec : {M : Type 1} → statement M
 rooms-right-spec =
     tie.close
     (tie.spec
-    add-own
-    sub-own
-    add-with
-    add-with-2
+    (λ c. search needs)
+    (λ c. search needs)
+    (λ c. search needs)
+    (λ c. search needs)
     mul-if1
     mul-if1-2
     returns

@@ -4,12 +4,6 @@ use borrow.Author.Needs.{needs}
 use Rattle.band_call.proofs.asking.row_cells.Statement.{statement}
 use Rattle.band_call.proofs.asking.row_cells.Tie as tie
 
-cells-requires : tie.Need-cells-requires
-cells-requires c κs = search needs
-
-shared-slice-read-result : tie.Need-shared-slice-read-result
-shared-slice-read-result c = search needs
-
 cast-result : tie.Need-cast-result
 cast-result c = omega (arith, cells-small (c .before .before .before .pre) (c .before .cells .ensures), c .before .before .shared-slice-known .given 0)
 
@@ -21,4 +15,4 @@ returns c = divided (c .before .before .before .pre) (c .before .cells .ensures)
 
 pub row-cells-spec : {M : Type 1} → statement M
 row-cells-spec =
-    tie.close (tie.spec cells-requires shared-slice-read-result cast-result div-result returns)
+    tie.close (tie.spec (λ c κs. search needs) (λ c. search needs) cast-result div-result returns)

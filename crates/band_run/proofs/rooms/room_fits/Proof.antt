@@ -7,20 +7,11 @@ use Rattle.band_run.proofs.rooms.room_fits.Tie as tie
 returns : tie.Need-returns
 returns c = no-sizes _ _ _ _ (c .if1 .taken)
 
-shared-slice-read-rows : tie.Need-shared-slice-read-rows
-shared-slice-read-rows c = search needs
-
 cast-rows : tie.Need-cast-rows
 cast-rows c = omega (arith, c .shared-slice-known2 .given 0)
 
 returns-2 : tie.Need-returns-2
 returns-2 c = no-grid _ _ _ _ (c .if2 .taken)
-
-div-rows-fit : tie.Need-div-rows-fit
-div-rows-fit c = search needs
-
-rows-fit-requires : tie.Need-rows-fit-requires
-rows-fit-requires c κs = search needs
 
 returns-3 : tie.Need-returns-3
 returns-3 c = fits-rows _ _ _ _ (c .rows-fit .ensures)
@@ -30,9 +21,9 @@ room-fits-spec =
     tie.close
     (tie.spec
     returns
-    shared-slice-read-rows
+    (λ c. search needs)
     cast-rows
     returns-2
-    div-rows-fit
-    rows-fit-requires
+    (λ c. search needs)
+    (λ c κs. search needs)
     returns-3)

@@ -5,9 +5,6 @@ use borrow.Author.Needs.{needs}
 use Rattle.band_run.proofs.rooms.tried_length.Statement.{statement}
 use Rattle.band_run.proofs.rooms.tried_length.Tie as tie
 
-room-fits-requires : tie.Need-room-fits-requires
-room-fits-requires c κs = search needs
-
 returns : tie.Need-returns
 returns c = tried-right (c .before .room-fits .ensures) (c .if1 .taken)
 
@@ -18,4 +15,4 @@ returns-3 : tie.Need-returns-3
 returns-3 c = tried-wrong (c .before .before .room-fits .ensures) (c .before .if1 .left) (λ e. c .if2 .left (sym e))
 
 pub tried-length-spec : {M : Type 1} → statement M
-tried-length-spec = tie.close (tie.spec room-fits-requires returns returns-2 returns-3)
+tried-length-spec = tie.close (tie.spec (λ c κs. search needs) returns returns-2 returns-3)

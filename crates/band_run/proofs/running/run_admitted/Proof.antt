@@ -9,20 +9,8 @@ use borrow.Author.Needs.{needs}
 use Rattle.band_run.proofs.running.run_admitted.Statement.{statement}
 use Rattle.band_run.proofs.running.run_admitted.Tie as tie
 
-row-cells-requires : tie.Need-row-cells-requires
-row-cells-requires c κs = search needs
-
-shared-slice-read-used-rows : tie.Need-shared-slice-read-used-rows
-shared-slice-read-used-rows c = search needs
-
 used-rows-requires : tie.Need-used-rows-requires
 used-rows-requires c κs = few-rows (c .before .before .before .before .before .before .before .before .pre .0) (c .before .before .before .before .before .before .before .before .pre .2)
-
-room-shape-requires : tie.Need-room-shape-requires
-room-shape-requires c κs = search needs
-
-cast-used : tie.Need-cast-used
-cast-used c = search needs
 
 mul-used : tie.Need-mul-used
 mul-used c =
@@ -30,17 +18,11 @@ mul-used c =
     let s = rows .before .before .before .before .before .before .before .before .before in
     omega (arith, used-cells (s .pre .0) (s .pre .2) (rows .used-rows .ensures) (rows .before .before .row-cells .ensures))
 
-cast-used-2 : tie.Need-cast-used-2
-cast-used-2 c = search needs
-
 mul-used-2 : tie.Need-mul-used-2
 mul-used-2 c =
     let rows = c .before .before in
     let s = rows .before .before .before .before .before .before .before .before .before in
     omega (arith, used-entries (s .pre .0) (s .pre .2) (rows .used-rows .ensures) (rows .before .before .row-cells .ensures))
-
-array-share-prefix-shape : tie.Need-array-share-prefix-shape
-array-share-prefix-shape c = search needs
 
 slice-aggregate-run-by : tie.Need-slice-aggregate-run-by
 slice-aggregate-run-by c =
@@ -66,24 +48,6 @@ run-by-requires c κs =
     let s = rows .before .before .before .before .before .before .before .before .before in
     (s .pre .0, s .pre .1, making (s .pre .0) (s .pre .2) (rows .used-rows .ensures) (rows .before .before .row-cells .ensures) (c .before .before .before .before .before .before .before .room-shape .ensures) (length-take-le _ _ (used-fits (s .pre .0) (s .pre .2) (rows .used-rows .ensures) (rows .before .before .row-cells .ensures))))
 
-clear-numbers-requires : tie.Need-clear-numbers-requires
-clear-numbers-requires c κs = search needs
-
-same-length : tie.Need-same-length
-same-length c = search needs
-
-same-length-2 : tie.Need-same-length-2
-same-length-2 c = search needs
-
-same-length-3 : tie.Need-same-length-3
-same-length-3 c = search needs
-
-same-length-4 : tie.Need-same-length-4
-same-length-4 c = search needs
-
-same-length-5 : tie.Need-same-length-5
-same-length-5 c = search needs
-
 returns : tie.Need-returns
 returns c =
     let ran = c .before .before .before .before .before .before .before .before .before .before in
@@ -102,23 +66,23 @@ pub run-admitted-spec : {M : Type 1} → statement M
 run-admitted-spec =
     tie.close
     (tie.spec
-    row-cells-requires
-    shared-slice-read-used-rows
+    (λ c κs. search needs)
+    (λ c. search needs)
     used-rows-requires
-    room-shape-requires
-    cast-used
+    (λ c κs. search needs)
+    (λ c. search needs)
     mul-used
-    cast-used-2
+    (λ c. search needs)
     mul-used-2
-    array-share-prefix-shape
+    (λ c. search needs)
     slice-aggregate-run-by
     slice-relend-prefix-run-by
     slice-aggregate-run-by-2
     run-by-requires
-    clear-numbers-requires
-    same-length
-    same-length-2
-    same-length-3
-    same-length-4
-    same-length-5
+    (λ c κs. search needs)
+    (λ c. search needs)
+    (λ c. search needs)
+    (λ c. search needs)
+    (λ c. search needs)
+    (λ c. search needs)
     returns)

@@ -11,29 +11,11 @@ use borrow.Author.Needs.{needs}
 use Rattle.band_run.proofs.running.run_planned.Statement.{statement}
 use Rattle.band_run.proofs.running.run_planned.Tie as tie
 
-tried-length-requires : tie.Need-tried-length-requires
-tried-length-requires c κs = search needs
-
-open-run-requires : tie.Need-open-run-requires
-open-run-requires c κs = search needs
-
-same-length : tie.Need-same-length
-same-length c = search needs
-
-same-length-2 : tie.Need-same-length-2
-same-length-2 c = search needs
-
-same-length-3 : tie.Need-same-length-3
-same-length-3 c = search needs
-
 returns : tie.Need-returns
 returns c =
     let o = c .before .before .before .before .before .before in
     let s = o .before .before .before .before .before .before .before .before .before .before .before .before .before in
     record { each = λ list e. let l = banded-lent (lent _ list _ (memory _ _ _ (s .args .scratch .now) (s .args .marks .now) (s .args .counts .now)) (s .args .values .now) _ _ (s .args .counted) (s .args .field)) (s .args .held) (s .args .plan .now) (s .args .room .now) in read-times (s .fits .start) (s .fits .steps) (closed-run l e (o .before .before .before .before .tried-length .ensures) (o .open-run .ensures) (c .if1 .taken)) }
-
-border-rows-requires : tie.Need-border-rows-requires
-border-rows-requires c κs = search needs
 
 shared-slice-read-plan-accepted : tie.Need-shared-slice-read-plan-accepted
 shared-slice-read-plan-accepted c =
@@ -42,18 +24,6 @@ shared-slice-read-plan-accepted c =
     let s = o .before .before .before .before .before .before .before .before .before .before .before .before .before in
     let l = banded-lent (lent _ built-in-names _ (memory _ _ _ (s .args .scratch .now) (s .args .marks .now) (s .args .counts .now)) (s .args .values .now) _ _ (s .args .counted) (s .args .field)) (s .args .held) (s .args .plan .now) (s .args .room .now) in
     some-sizes l the-list (o .before .before .before .before .tried-length .ensures) (o .open-run .ensures) (t .if1 .left)
-
-plan-accepted-requires : tie.Need-plan-accepted-requires
-plan-accepted-requires c κs = search needs
-
-same-length-4 : tie.Need-same-length-4
-same-length-4 c = search needs
-
-same-length-5 : tie.Need-same-length-5
-same-length-5 c = search needs
-
-same-length-6 : tie.Need-same-length-6
-same-length-6 c = search needs
 
 returns-2 : tie.Need-returns-2
 returns-2 c =
@@ -89,32 +59,11 @@ run-admitted-requires c κs =
     let ready = run-ready (l .run) the-list (opened-full l the-list (o .before .before .before .before .tried-length .ensures) (o .open-run .ensures) (t .if1 .left)) Full (t .if1 .left) in
     (ready .0, ready .1, under-plan l the-list (o .before .before .before .before .tried-length .ensures) (o .open-run .ensures) (t .if1 .left) (u .before .before .before .border-rows .ensures) (u .before .plan-accepted .ensures) (u .if2 .left))
 
-clear-numbers-requires : tie.Need-clear-numbers-requires
-clear-numbers-requires c κs = search needs
-
-clear-marks-requires : tie.Need-clear-marks-requires
-clear-marks-requires c κs = search needs
-
 same-length-7 : tie.Need-same-length-7
 same-length-7 c = search (c .before .before .before .before .before .before .before .before .before .before .before .before .before .before .before .before .before .before .before .before .before .before .before .before .before .before .before .before .before .before .before .before .before .open-run .kept, needs)
 
 same-length-8 : tie.Need-same-length-8
 same-length-8 c = search (c .before .before .before .before .before .before .before .before .before .before .before .before .before .before .before .before .before .before .before .before .before .before .before .before .before .before .before .before .before .before .before .before .before .open-run .kept, needs)
-
-same-length-9 : tie.Need-same-length-9
-same-length-9 c = search needs
-
-same-length-10 : tie.Need-same-length-10
-same-length-10 c = search needs
-
-same-length-11 : tie.Need-same-length-11
-same-length-11 c = search needs
-
-same-length-12 : tie.Need-same-length-12
-same-length-12 c = search needs
-
-same-length-13 : tie.Need-same-length-13
-same-length-13 c = search needs
 
 returns-3 : tie.Need-returns-3
 returns-3 c =
@@ -137,29 +86,29 @@ pub run-planned-spec : {M : Type 1} → statement M
 run-planned-spec =
     tie.close
     (tie.spec
-    tried-length-requires
-    open-run-requires
-    same-length
-    same-length-2
-    same-length-3
+    (λ c κs. search needs)
+    (λ c κs. search needs)
+    (λ c. search needs)
+    (λ c. search needs)
+    (λ c. search needs)
     returns
-    border-rows-requires
+    (λ c κs. search needs)
     shared-slice-read-plan-accepted
-    plan-accepted-requires
-    same-length-4
-    same-length-5
-    same-length-6
+    (λ c κs. search needs)
+    (λ c. search needs)
+    (λ c. search needs)
+    (λ c. search needs)
     returns-2
     cast-run-admitted
     cast-run-admitted-2
     run-admitted-requires
-    clear-numbers-requires
-    clear-marks-requires
+    (λ c κs. search needs)
+    (λ c κs. search needs)
     same-length-7
     same-length-8
-    same-length-9
-    same-length-10
-    same-length-11
-    same-length-12
-    same-length-13
+    (λ c. search needs)
+    (λ c. search needs)
+    (λ c. search needs)
+    (λ c. search needs)
+    (λ c. search needs)
     returns-3)

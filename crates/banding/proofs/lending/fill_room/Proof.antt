@@ -46,9 +46,6 @@ copy-row-requires c κs = record { source = row-inside (c .before .before .befor
 next-row-requires : tie.Need-next-row-requires Inv-loop μ-loop
 next-row-requires c κs = from-inside (c .before .before .before .before .loop .inv .0) (omega (arith, c .before .before .before .before .before .before .before .pre .a-row))
 
-add-k : tie.Need-add-k Inv-loop μ-loop
-add-k c = search needs
-
 loop-less : tie.Need-loop-less Inv-loop μ-loop
 loop-less c = omega arith
 
@@ -78,7 +75,7 @@ fill-room-spec =
     mul-copy-row-2
     copy-row-requires
     next-row-requires
-    add-k
+    (λ c. search needs)
     loop-less
     loop-again
     same-length

@@ -6,9 +6,6 @@ use borrow.Author.Needs.{needs}
 use Rattle.banding.proofs.lending.next_row.Statement.{statement}
 use Rattle.banding.proofs.lending.next_row.Tie as tie
 
-add-next : tie.Need-add-next
-add-next c = search needs
-
 returns : tie.Need-returns
 returns c = sym (ap (λ (x : ℕ). x % c .before .args .rows) (omega arith) ∙ mod-self (c .before .args .rows))
 
@@ -16,4 +13,4 @@ returns-2 : tie.Need-returns-2
 returns-2 c = sym (mod-eq-of-lt (omega arith))
 
 pub next-row-spec : {M : Type 1} → statement M
-next-row-spec = tie.close (tie.spec add-next returns returns-2)
+next-row-spec = tie.close (tie.spec (λ c. search needs) returns returns-2)

@@ -6,17 +6,8 @@ use Rattle.banding.proofs.lending.room_shape.Tie as tie
 returns : tie.Need-returns
 returns c = shape-one (c .before .args .sizes .now) (c .before .args .rows) (c .if1 .taken)
 
-shared-slice-read-t6 : tie.Need-shared-slice-read-t6
-shared-slice-read-t6 c = search needs
-
 returns-2 : tie.Need-returns-2
 returns-2 c = shape-two (c .before .before .before .args .sizes .now) (c .before .before .before .args .rows) (c .before .if2 .taken)
-
-shared-slice-read-t8 : tie.Need-shared-slice-read-t8
-shared-slice-read-t8 c = search needs
-
-shared-slice-read-t10 : tie.Need-shared-slice-read-t10
-shared-slice-read-t10 c = search needs
 
 returns-3 : tie.Need-returns-3
 returns-3 c = shape-three (c .before .before .before .before .args .sizes .now) (c .before .before .before .before .args .rows) (c .before .before .before .before .pre .0) (c .before .before .before .before .pre .1) (c .before .before .before .if1 .left) (c .before .before .if2 .left)
@@ -26,8 +17,8 @@ room-shape-spec =
     tie.close
     (tie.spec
     returns
-    shared-slice-read-t6
+    (λ c. search needs)
     returns-2
-    shared-slice-read-t8
-    shared-slice-read-t10
+    (λ c. search needs)
+    (λ c. search needs)
     returns-3)

@@ -7,9 +7,6 @@ use borrow.Author.Needs.{needs}
 use Rattle.banding.proofs.steps.evaluate_band.Statement.{statement}
 use Rattle.banding.proofs.steps.evaluate_band.Tie as tie
 
-cast-fields : tie.Need-cast-fields
-cast-fields c = search needs
-
 add-own : tie.Need-add-own
 add-own c = omega (arith, row-small (c .before .before .before .before .pre .0) {k = c .before .before .before .before .args .last} (omega (arith, c .before .before .before .before .pre .1 .inside)))
 
@@ -43,23 +40,11 @@ add-end c = let a = part-inside (c .before .before .before .before .before .befo
 mul-step-rows : tie.Need-mul-step-rows
 mul-step-rows c = let a = part-inside (c .before .before .before .before .before .before .before .before .pre .0) (c .before .before .before .before .before .before .before .before .pre .1) {own = c .before .before .before .before .before .before .before .before .args .last + 1 - c .before .before .before .before .before .before .before .before .args .first} (omega arith) in search needs
 
-sub-step-rows : tie.Need-sub-step-rows
-sub-step-rows c = search needs
-
-part-step-rows-start : tie.Need-part-step-rows-start
-part-step-rows-start c = search needs
-
 part-step-rows-end : tie.Need-part-step-rows-end
 part-step-rows-end c = part-inside (c .before .before .before .before .before .before .before .before .pre .0) (c .before .before .before .before .before .before .before .before .pre .1) {own = c .before .before .before .before .before .before .before .before .args .last + 1 - c .before .before .before .before .before .before .before .before .args .first} (omega arith)
 
 step-rows-requires : tie.Need-step-rows-requires
 step-rows-requires c κs = asks-rows (c .before .before .before .before .before .before .before .before .before .pre .0) (c .before .before .before .before .before .before .before .before .before .pre .1) (omega arith) (search needs) (sym (part-length _ _ _ (part-inside (c .before .before .before .before .before .before .before .before .before .pre .0) (c .before .before .before .before .before .before .before .before .before .pre .1) {own = c .before .before .before .before .before .before .before .before .before .args .last + 1 - c .before .before .before .before .before .before .before .before .before .args .first} (omega arith))))
-
-same-length : tie.Need-same-length
-same-length c = search needs
-
-same-length-2 : tie.Need-same-length-2
-same-length-2 c = search needs
 
 returns : tie.Need-returns
 returns c = band-evaluated (c .before .before .before .before .before .before .before .before .before .before .before .pre .0) (c .before .before .before .before .before .before .before .before .before .before .before .pre .1) (omega arith) (c .before .before .before .before .before .before .before .before .before .before .before .args .grid .now) (c .before .before .before .before .before .before .before .before .before .before .before .args .room .now) refl (c .before .before .before .before .before .fill-room .ensures) (c .before .step-rows .ensures) (search needs) (part-whole _ _)
@@ -68,7 +53,7 @@ pub evaluate-band-spec : {M : Type 1} → statement M
 evaluate-band-spec =
     tie.close
     (tie.spec
-    cast-fields
+    (λ c. search needs)
     add-own
     sub-own
     add-lent
@@ -80,10 +65,10 @@ evaluate-band-spec =
     mul-end-2
     add-end
     mul-step-rows
-    sub-step-rows
-    part-step-rows-start
+    (λ c. search needs)
+    (λ c. search needs)
     part-step-rows-end
     step-rows-requires
-    same-length
-    same-length-2
+    (λ c. search needs)
+    (λ c. search needs)
     returns)

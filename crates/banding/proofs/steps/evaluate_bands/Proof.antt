@@ -21,20 +21,8 @@ abbrev μ-loop : tie.MeasureT-loop
 loop-holds : tie.Need-loop-holds Inv-loop μ-loop
 loop-holds c = under-start _ _ _ (c .before .before .before .before .pre .0) (c .before .before .before .before .pre .1) _
 
-mul-first : tie.Need-mul-first Inv-loop μ-loop
-mul-first c = search needs
-
-shared-slice-read-first : tie.Need-shared-slice-read-first Inv-loop μ-loop
-shared-slice-read-first c = search needs
-
 cast-first : tie.Need-cast-first Inv-loop μ-loop
 cast-first c = omega (arith, c .shared-slice-known5 .given (c .before .before .loop .k))
-
-add-last : tie.Need-add-last Inv-loop μ-loop
-add-last c = search needs
-
-mul-last : tie.Need-mul-last Inv-loop μ-loop
-mul-last c = search needs
 
 shared-slice-read-last : tie.Need-shared-slice-read-last Inv-loop μ-loop
 shared-slice-read-last c = omega (arith, under-next _ _ _ (c .before .before .before .before .before .before .before .before .pre .0) (c .before .before .before .before .before .before .before .before .pre .1) (c .before .before .before .loop .inv) (c .before .before .loop-test .taken) .more)
@@ -45,12 +33,6 @@ cast-last c = omega (arith, c .shared-slice-known6 .given (c .before .before .be
 evaluate-band-requires : tie.Need-evaluate-band-requires Inv-loop μ-loop
 evaluate-band-requires c κs = (under-grounds _ _ _ (c .before .before .before .before .before .before .before .before .before .before .pre .0) (c .before .before .before .before .before .before .before .before .before .before .pre .1) (c .before .before .before .before .before .loop .inv) (c .before .before .before .before .loop-test .taken), under-fits _ _ _ (c .before .before .before .before .before .before .before .before .before .before .pre .0) (c .before .before .before .before .before .before .before .before .before .before .pre .1) (c .before .before .before .before .before .loop .inv) (c .before .before .before .before .loop-test .taken) (add-one _))
 
-enum-known-band : tie.Need-enum-known-band Inv-loop μ-loop
-enum-known-band c = search needs
-
-enum-known-band-2 : tie.Need-enum-known-band-2 Inv-loop μ-loop
-enum-known-band-2 c = search needs
-
 mul-t35 : tie.Need-mul-t35 Inv-loop μ-loop
 mul-t35 c = let a = under-cell _ _ _ (c .before .before .before .before .before .before .before .before .before .before .before .before .before .before .before .before .pre .0) (c .before .before .before .before .before .before .before .before .before .before .before .before .before .before .before .before .pre .1) (c .before .before .before .before .before .before .before .before .before .before .before .loop .inv) (c .before .before .before .before .before .before .before .before .before .before .loop-test .taken) (add-one _) (c .before .before .before .before .before .evaluate-band .ensures) (c .before .band2 .given .1) in search needs
 
@@ -59,12 +41,6 @@ cast-t36 c = let a = under-cell _ _ _ (c .before .before .before .before .before
 
 add-t37 : tie.Need-add-t37 Inv-loop μ-loop
 add-t37 c = let a = under-cell _ _ _ (c .before .before .before .before .before .before .before .before .before .before .before .before .before .before .before .before .pre .0) (c .before .before .before .before .before .before .before .before .before .before .before .before .before .before .before .before .pre .1) (c .before .before .before .before .before .before .before .before .before .before .before .loop .inv) (c .before .before .before .before .before .before .before .before .before .before .loop-test .taken) (add-one _) (c .before .before .before .before .before .evaluate-band .ensures) (c .before .band2 .given .1) in search needs
-
-same-length : tie.Need-same-length Inv-loop μ-loop
-same-length c = search needs
-
-same-length-2 : tie.Need-same-length-2 Inv-loop μ-loop
-same-length-2 c = search needs
 
 returns : tie.Need-returns Inv-loop μ-loop
 returns c = under-stop _ _ _ (c .before .before .before .before .before .before .before .before .before .before .before .before .before .before .before .before .pre .0) (c .before .before .before .before .before .before .before .before .before .before .before .before .before .before .before .before .pre .1) (c .before .before .before .before .before .before .before .before .before .before .before .loop .inv) (c .before .before .before .before .before .before .before .before .before .before .loop-test .taken) (add-one _) (c .before .before .before .before .before .evaluate-band .ensures) (c .before .band2 .given .1) refl
@@ -94,21 +70,21 @@ evaluate-bands-spec =
     Inv-loop
     μ-loop
     loop-holds
-    mul-first
-    shared-slice-read-first
+    (λ c. search needs)
+    (λ c. search needs)
     cast-first
-    add-last
-    mul-last
+    (λ c. search needs)
+    (λ c. search needs)
     shared-slice-read-last
     cast-last
     evaluate-band-requires
-    enum-known-band
-    enum-known-band-2
+    (λ c. search needs)
+    (λ c. search needs)
     mul-t35
     cast-t36
     add-t37
-    same-length
-    same-length-2
+    (λ c. search needs)
+    (λ c. search needs)
     returns
     add-k
     loop-less

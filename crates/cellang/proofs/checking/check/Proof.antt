@@ -41,7 +41,7 @@ use denote.Exit.{yes}
 use Rattle.records.specs.declared.Name.{Name}
 use Rattle.cellang.specs.declared.checking.Answer.{Answer}
 use Rattle.cellang.specs.Left.{lent-rows-fit}
-use Rattle.cellang.specs.Promises.{ChecksOver, ChecksRows}
+use Rattle.cellang.specs.Contracts.Promises.{ChecksOver, ChecksRows}
 use Rattle.cellang.proofs.checking.Answer.Laws as O′
 use Rattle.records.proofs.NameRow.{Row, vals, makes}
 use Rattle.cellang.proofs.AnswerRow.{OutRow, ReplyRow, reply-mach, out-tells, rows-is, count-fits, reply-is, reply-makes, out-typed, reply-typed}

@@ -41,7 +41,7 @@ use denote.Exit.{yes}
 use Rattle.records.specs.declared.Name.{Name}
 use Rattle.cellang.specs.declared.profiling.ProfileAnswer.{ProfileAnswer}
 use Rattle.cellang.specs.Left.{lent-rows-fit}
-use Rattle.cellang.specs.Promises.{ProfilesOver, ProfilesRows}
+use Rattle.cellang.specs.Contracts.Promises.{ProfilesOver, ProfilesRows}
 use Rattle.cellang.proofs.profiling.ProfileAnswer.Laws as O′
 use Rattle.records.proofs.NameRow.{Row, vals, makes}
 use Rattle.cellang.proofs.ProfileAnswerRow.{OutRow, ProfileRow, profile-mach, out-tells, rows-is, count-fits, profile-is, profile-makes, out-typed, profile-typed}

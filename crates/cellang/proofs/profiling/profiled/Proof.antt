@@ -5,29 +5,8 @@ use Rattle.cellang.proofs.StoreLaws.{no-row-profile, row-profile}
 use Rattle.cellang.proofs.profiling.profiled.Statement.{statement}
 use Rattle.cellang.proofs.profiling.profiled.Tie as tie
 
-row-fits-requires : tie.Need-row-fits-requires
-row-fits-requires c κs = search needs
-
-rows-of-requires : tie.Need-rows-of-requires
-rows-of-requires c κs = search needs
-
 returns : tie.Need-returns
 returns c = no-row-profile (c .before .before .before .before .before .before .before .args .list .now) _ _ _ _ (ap not (sym (c .before .before .before .row-fits .ensures)) ∙ c .before .before .if1 .taken)
-
-stored-requires : tie.Need-stored-requires
-stored-requires c κs = search needs
-
-slice-aggregate-check-one-move : tie.Need-slice-aggregate-check-one-move
-slice-aggregate-check-one-move c = search needs
-
-check-one-move-requires : tie.Need-check-one-move-requires
-check-one-move-requires c κs = search needs
-
-rows-of-requires-2 : tie.Need-rows-of-requires-2
-rows-of-requires-2 c κs = search needs
-
-same-length : tie.Need-same-length
-same-length c = search needs
 
 returns-2 : tie.Need-returns-2
 returns-2 c =
@@ -39,12 +18,12 @@ pub profiled-spec : {M : Type 1} → statement M
 profiled-spec =
     tie.close
     (tie.spec
-    row-fits-requires
-    rows-of-requires
+    (λ c κs. search needs)
+    (λ c κs. search needs)
     returns
-    stored-requires
-    slice-aggregate-check-one-move
-    check-one-move-requires
-    rows-of-requires-2
-    same-length
+    (λ c κs. search needs)
+    (λ c. search needs)
+    (λ c κs. search needs)
+    (λ c κs. search needs)
+    (λ c. search needs)
     returns-2)

@@ -45,14 +45,14 @@ use Rattle.stepper.specs.Report.{full}
 use Rattle.services.specs.Calls.{memory, lent, asked, read-lent, run-report}
 use Rattle.services.specs.RangesKept.{RangesKept}
 use Rattle.iteration.specs.declared.Manner.{Manner}
-use Rattle.iteration.specs.Stepwise.{told}
-use Rattle.runner.specs.Sourcewise.{manner-of, RunLeaves}
-use Rattle.runner.specs.Property3.{AgreesFresh}
+use Rattle.iteration.specs.Contracts.Stepwise.{told}
+use Rattle.runner.specs.Contracts.Sourcewise.{manner-of, RunLeaves}
+use Rattle.runner.specs.Contracts.Agreement.{AgreesFresh}
 use Rattle.runner.proofs.RunLaws.{run-agrees, run-ranges}
 use Rattle.records.specs.declared.Name.{Name}
 use Rattle.cellang.specs.declared.running.RunAnswer.{RunAnswer}
 use Rattle.cellang.specs.Left.{row-names}
-use Rattle.cellang.specs.Promises.{RunsOver}
+use Rattle.cellang.specs.Contracts.Promises.{RunsOver}
 use Rattle.cellang.proofs.running.RunAnswer.Laws as O′
 use Rattle.records.proofs.NameRow.{Row, vals, makes}
 use Rattle.cellang.proofs.MannerRow.{MannerRow, manner-val, manner-vals, manner-tells, manner-makes, manner-lawful}

@@ -45,7 +45,7 @@ use Rattle.list_writer.specs.Contracts.Writing.{WriterLeaves}
 use Rattle.records.specs.declared.Name.{Name}
 use Rattle.cellang.specs.declared.writing.WriteAnswer.{WriteAnswer}
 use Rattle.cellang.specs.Left.{row-names}
-use Rattle.cellang.specs.Promises.{WritesOver}
+use Rattle.cellang.specs.Contracts.Promises.{WritesOver}
 use Rattle.cellang.proofs.writing.WriteAnswer.Laws as O′
 use Rattle.records.proofs.NameRow.{Row, vals, makes}
 use Rattle.cellang.proofs.WriteAnswerRow.{OutRow, WrittenRow, written-mach, out-tells, rows-is, count-fits, written-is, written-makes, out-typed, written-typed}

@@ -3,23 +3,11 @@ use Rattle.checker.proofs.Checks.{unlisted, listed}
 use Rattle.checker.proofs.checking.check.Statement.{statement}
 use Rattle.checker.proofs.checking.check.Tie as tie
 
-is-built-in-requires : tie.Need-is-built-in-requires
-is-built-in-requires c κs = search needs
-
 returns : tie.Need-returns
 returns c = unlisted (c .before .before .before .before .before .before .args .list .now) (c .before .is-built-in .ensures) (c .if1 .taken)
-
-load-requires : tie.Need-load-requires
-load-requires c κs = search needs
-
-same-length : tie.Need-same-length
-same-length c = search needs
-
-same-length-2 : tie.Need-same-length-2
-same-length-2 c = search needs
 
 returns-2 : tie.Need-returns-2
 returns-2 c = listed (c .before .before .before .before .before .before .before .before .before .before .before .before .before .args .list .now) (c .before .before .before .before .before .before .before .before .is-built-in .ensures) (c .before .before .before .before .before .before .before .if1 .left) (c .before .before .before .before .load .ensures .0)
 
 pub check-spec : {M : Type 1} → statement M
-check-spec = tie.close (tie.spec is-built-in-requires returns load-requires same-length same-length-2 returns-2)
+check-spec = tie.close (tie.spec (λ c κs. search needs) returns (λ c κs. search needs) (λ c. search needs) (λ c. search needs) returns-2)

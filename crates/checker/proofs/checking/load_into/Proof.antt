@@ -8,18 +8,6 @@ use borrow.Author.Needs.{needs}
 use Rattle.checker.proofs.checking.load_into.Statement.{statement}
 use Rattle.checker.proofs.checking.load_into.Tie as tie
 
-scan-source-requires : tie.Need-scan-source-requires
-scan-source-requires c κs = search needs
-
-clear-requires : tie.Need-clear-requires
-clear-requires c κs = search needs
-
-read-program-requires : tie.Need-read-program-requires
-read-program-requires c κs = search needs
-
-enum-known-r : tie.Need-enum-known-r
-enum-known-r c = search needs
-
 settle-values-requires : tie.Need-settle-values-requires
 settle-values-requires c κs =
     let pre = c .before .before .before .before .before .before .before .before .before .before .before .before .before .before .before .before .before .before .before .before .before .before .before .pre in
@@ -43,26 +31,11 @@ has-kind-requires c κs =
     let read-program = c .before .before .before .before .before .before .before .before .before .before .before .before .before .before .read-program in
     (scan-source .ensures .few, read-program .kept .1 .1 .0 ∙ scan-source .kept .1 .0 ∙ pre .0)
 
-enum-known-r-2 : tie.Need-enum-known-r-2
-enum-known-r-2 c = search needs
-
-clear-requires-2 : tie.Need-clear-requires-2
-clear-requires-2 c κs = search needs
-
-clear-requires-3 : tie.Need-clear-requires-3
-clear-requires-3 c κs = search needs
-
-unloaded-requires : tie.Need-unloaded-requires
-unloaded-requires c κs = search needs
-
 same-length : tie.Need-same-length
 same-length c =
     let scan-source = c .before .before .before .before .before .before .before .before .before .before .before .before .before .before .before .before .before .before .before .before .before .before .before .before .scan-source in
     let read-program = c .before .before .before .before .before .before .before .before .before .before .before .before .before .before .before .read-program in
     read-program .kept .1 .1 .0 ∙ scan-source .kept .1 .0
-
-same-length-2 : tie.Need-same-length-2
-same-length-2 c = search needs
 
 returns : tie.Need-returns
 returns c =
@@ -83,9 +56,6 @@ same-length-3 c =
     let clear2 = c .before .before .before .before .before .before .before .clear2 in
     clear2 .kept .0 ∙ read-program .kept .1 .1 .0 ∙ scan-source .kept .1 .0
 
-same-length-4 : tie.Need-same-length-4
-same-length-4 c = search needs
-
 returns-2 : tie.Need-returns-2
 returns-2 c =
     let pre = c .before .before .before .before .before .before .before .before .before .before .before .before .before .before .before .before .before .before .before .before .before .before .before .before .before .before .before .before .before .before .pre in
@@ -103,20 +73,20 @@ pub load-into-spec : {M : Type 1} → statement M
 load-into-spec =
     tie.close
     (tie.spec
-    scan-source-requires
-    clear-requires
-    read-program-requires
-    enum-known-r
+    (λ c κs. search needs)
+    (λ c κs. search needs)
+    (λ c κs. search needs)
+    (λ c. search needs)
     settle-values-requires
     cast-t26
     has-kind-requires
-    enum-known-r-2
-    clear-requires-2
-    clear-requires-3
-    unloaded-requires
+    (λ c. search needs)
+    (λ c κs. search needs)
+    (λ c κs. search needs)
+    (λ c κs. search needs)
     same-length
-    same-length-2
+    (λ c. search needs)
     returns
     same-length-3
-    same-length-4
+    (λ c. search needs)
     returns-2)

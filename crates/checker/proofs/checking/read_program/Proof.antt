@@ -14,20 +14,8 @@ read-constants-requires c κs =
     let pre = c .before .before .before .before .before .pre in
     record { tokens = pre .0; table = pre .1; list = pre .2; here = omega arith; few = omega arith }
 
-enum-known-a : tie.Need-enum-known-a
-enum-known-a c = search needs
-
 enum-told : tie.Need-enum-told
 enum-told c = search needs
-
-no-program-requires : tie.Need-no-program-requires
-no-program-requires c κs = search needs
-
-same-length : tie.Need-same-length
-same-length c = search needs
-
-same-length-2 : tie.Need-same-length-2
-same-length-2 c = search needs
 
 returns : tie.Need-returns
 unfolding read-program
@@ -45,21 +33,6 @@ read-cell-requires c κs =
     let a = c .before .before .before .a in
     let u = went (read-constants .ensures .onward) (a .given .1) in
     record { tokens = pre .0; table = read-constants .kept .1 .1 .0 ∙ pre .1; list = read-constants .kept .1 .0 ∙ pre .2; here = u .within; few = u .few }
-
-enum-known-r : tie.Need-enum-known-r
-enum-known-r c = search needs
-
-enum-told-2 : tie.Need-enum-told-2
-enum-told-2 c = search needs
-
-no-program-requires-2 : tie.Need-no-program-requires-2
-no-program-requires-2 c κs = search needs
-
-same-length-3 : tie.Need-same-length-3
-same-length-3 c = search needs
-
-same-length-4 : tie.Need-same-length-4
-same-length-4 c = search needs
 
 returns-2 : tie.Need-returns-2
 unfolding read-program
@@ -80,15 +53,6 @@ read-block-requires c κs =
     let r = c .before .before .before .r in
     let u = went (read-cell .ensures .onward) (r .given .1) in
     (record { tokens = pre .0; table = read-cell .kept .1 .1 .0 ∙ read-constants .kept .1 .1 .0 ∙ pre .1; list = read-cell .kept .1 .0 ∙ read-constants .kept .1 .0 ∙ pre .2; here = u .within; few = u .few }, omega arith)
-
-enum-known-e : tie.Need-enum-known-e
-enum-known-e c = search needs
-
-enum-told-3 : tie.Need-enum-told-3
-enum-told-3 c = search needs
-
-no-program-requires-3 : tie.Need-no-program-requires-3
-no-program-requires-3 c κs = search needs
 
 same-length-5 : tie.Need-same-length-5
 same-length-5 c =
@@ -168,23 +132,23 @@ read-program-spec =
     tie.close
     (tie.spec
     read-constants-requires
-    enum-known-a
+    (λ c. search needs)
     enum-told
-    no-program-requires
-    same-length
-    same-length-2
+    (λ c κs. search needs)
+    (λ c. search needs)
+    (λ c. search needs)
     returns
     read-cell-requires
-    enum-known-r
-    enum-told-2
-    no-program-requires-2
-    same-length-3
-    same-length-4
+    (λ c. search needs)
+    (λ c. search needs)
+    (λ c κs. search needs)
+    (λ c. search needs)
+    (λ c. search needs)
     returns-2
     read-block-requires
-    enum-known-e
-    enum-told-3
-    no-program-requires-3
+    (λ c. search needs)
+    (λ c. search needs)
+    (λ c κs. search needs)
     same-length-5
     same-length-6
     returns-3

@@ -9,49 +9,19 @@ Inv-loop source place k₀ k = Unit {0}
 abbrev μ-loop : tie.MeasureT-loop
 μ-loop source place k₀ k = 60 - k
 
-loop-holds : tie.Need-loop-holds Inv-loop μ-loop
-loop-holds c = search needs
-
-add-wrapping-sub-usize : tie.Need-add-wrapping-sub-usize Inv-loop μ-loop
-add-wrapping-sub-usize c = search needs
-
-wrapping-sub-usize-requires : tie.Need-wrapping-sub-usize-requires Inv-loop μ-loop
-wrapping-sub-usize-requires c κs = search needs
-
-byte-at-requires : tie.Need-byte-at-requires Inv-loop μ-loop
-byte-at-requires c κs = search needs
-
-breaks-requires : tie.Need-breaks-requires Inv-loop μ-loop
-breaks-requires c κs = search needs
-
-returns : tie.Need-returns Inv-loop μ-loop
-returns c = search needs
-
-add-k : tie.Need-add-k Inv-loop μ-loop
-add-k c = search needs
-
-loop-less : tie.Need-loop-less Inv-loop μ-loop
-loop-less c = search needs
-
-loop-again : tie.Need-loop-again Inv-loop μ-loop
-loop-again c = search needs
-
-returns-2 : tie.Need-returns-2 Inv-loop μ-loop
-returns-2 c = search needs
-
 pub bytes-before-spec : {M : Type 1} → statement M
 bytes-before-spec =
     tie.close
     (tie.spec
     Inv-loop
     μ-loop
-    loop-holds
-    add-wrapping-sub-usize
-    wrapping-sub-usize-requires
-    byte-at-requires
-    breaks-requires
-    returns
-    add-k
-    loop-less
-    loop-again
-    returns-2)
+    (λ c. search needs)
+    (λ c. search needs)
+    (λ c κs. search needs)
+    (λ c κs. search needs)
+    (λ c κs. search needs)
+    (λ c. search needs)
+    (λ c. search needs)
+    (λ c. search needs)
+    (λ c. search needs)
+    (λ c. search needs))

@@ -3,7 +3,7 @@ use native.Mathlib.Omega.{arith}
 use mathlib.Core.Path.{subst, _∙_}
 use borrow.Author.Needs.{needs}
 use lib.ListN.{take}
-use Rattle.operands.specs.Working.{site-table, env-of, EvalsExpression}
+use Rattle.operands.specs.Contracts.Working.{site-table, env-of, EvalsExpression}
 use Rattle.operands.proofs.TableLaws.{token}
 use Rattle.operands.proofs.OperatorLaws.{level-some, from-within}
 use Rattle.token.proofs.Levels.{level-few}

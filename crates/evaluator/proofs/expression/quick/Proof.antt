@@ -4,7 +4,7 @@ use native.Mathlib.Omega.{arith}
 use borrow.Author.Needs.{needs}
 use lib.ListN.{take}
 use Rattle.token.specs.Kind.{level-of}
-use Rattle.operands.specs.Working.{site-table, env-of}
+use Rattle.operands.specs.Contracts.Working.{site-table, env-of}
 use Rattle.operands.proofs.NotedLaws.{leaf-within, level-at, operator-at, operator-within}
 use Rattle.evaluator.proofs.ExpressionLaws.{Underway, begun, quick-none, quick-tighter, quick-fault, quick-end, quick-again, quick-within}
 use Rattle.evaluator.proofs.expression.quick.Statement.{statement}
@@ -23,12 +23,6 @@ loop-holds c = begun _ _ _ _ _ _ _ (c .before .before .before .pre .2)
 
 short-operand-requires : tie.Need-short-operand-requires Inv-loop μ-loop
 short-operand-requires c κs = ((c .before .before .before .before .pre .0), (c .loop .inv .within))
-
-enum-known-part : tie.Need-enum-known-part Inv-loop μ-loop
-enum-known-part c = search needs
-
-enum-told : tie.Need-enum-told Inv-loop μ-loop
-enum-told c = search needs
 
 returns : tie.Need-returns Inv-loop μ-loop
 returns c =
@@ -55,12 +49,6 @@ joined-requires : tie.Need-joined-requires Inv-loop μ-loop
 joined-requires c κs =
     let pre = c .before .before .before .before .before .before .before .before .before .before .pre in
     (pre .0 .table, pre .0 .tokens)
-
-enum-known-done : tie.Need-enum-known-done Inv-loop μ-loop
-enum-known-done c = search needs
-
-enum-told-2 : tie.Need-enum-told-2 Inv-loop μ-loop
-enum-told-2 c = search needs
 
 returns-3 : tie.Need-returns-3 Inv-loop μ-loop
 returns-3 c =
@@ -146,4 +134,4 @@ loop-again c =
     (operator-within (pre .0) _ within leaf-word-ensures some)
 
 pub quick-spec : {M : Type 1} → statement M
-quick-spec = tie.close (tie.spec Inv-loop μ-loop loop-holds short-operand-requires enum-known-part enum-told returns leaf-word-requires returns-2 joined-requires enum-known-done enum-told-2 returns-3 returns-4 leaf-word-requires-2 add-here loop-less loop-again)
+quick-spec = tie.close (tie.spec Inv-loop μ-loop loop-holds short-operand-requires (λ c. search needs) (λ c. search needs) returns leaf-word-requires returns-2 joined-requires (λ c. search needs) (λ c. search needs) returns-3 returns-4 leaf-word-requires-2 add-here loop-less loop-again)

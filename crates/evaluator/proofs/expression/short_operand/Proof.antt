@@ -3,15 +3,6 @@ use Rattle.operands.proofs.NotedLaws.{leaf-noted}
 use Rattle.evaluator.proofs.expression.short_operand.Statement.{statement}
 use Rattle.evaluator.proofs.expression.short_operand.Tie as tie
 
-noted-requires : tie.Need-noted-requires
-noted-requires c κs = search needs
-
-enum-known-short : tie.Need-enum-known-short
-enum-known-short c = search needs
-
-enum-told : tie.Need-enum-told
-enum-told c = search needs
-
 leaf-requires : tie.Need-leaf-requires
 leaf-requires c κs = (c .before .before .before .before .before .before .pre)
 
@@ -22,4 +13,4 @@ returns-2 : tie.Need-returns-2
 returns-2 c = leaf-noted _ _ _ _ _ _ (c .before .before .before .noted .ensures) (c .before .short .given .1)
 
 pub short-operand-spec : {M : Type 1} → statement M
-short-operand-spec = tie.close (tie.spec noted-requires enum-known-short enum-told leaf-requires returns returns-2)
+short-operand-spec = tie.close (tie.spec (λ c κs. search needs) (λ c. search needs) (λ c. search needs) leaf-requires returns returns-2)

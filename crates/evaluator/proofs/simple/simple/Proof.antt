@@ -5,9 +5,6 @@ use Rattle.evaluator.proofs.SimpleLaws.{first-simple, one-operand, betw
 use Rattle.evaluator.proofs.simple.simple.Statement.{statement}
 use Rattle.evaluator.proofs.simple.simple.Tie as tie
 
-leaf-word-requires : tie.Need-leaf-word-requires
-leaf-word-requires c κs = search needs
-
 returns : tie.Need-returns
 returns c = simple-left _ _ _ _ _ _
 
@@ -19,12 +16,6 @@ simple-value-requires c κs =
     let pre = c .before .before .before .before .before .before .pre in
     let s = first-simple (pre .0) (pre .1) (c .before .before .leaf-word .ensures) (c .before .if1 .left) (c .if2 .left) in
     (pre .0, pre .1, s .0, s .1)
-
-leaf-word-requires-2 : tie.Need-leaf-word-requires-2
-leaf-word-requires-2 c κs = search needs
-
-cast-next : tie.Need-cast-next
-cast-next c = search needs
 
 returns-3 : tie.Need-returns-3
 returns-3 c =
@@ -60,9 +51,6 @@ leaf-word-requires-3 c κs =
       omega arith,
     )
 
-cast-past : tie.Need-cast-past
-cast-past c = search needs
-
 leaf-word-requires-4 : tie.Need-leaf-word-requires-4
 leaf-word-requires-4 c κs =
     let pre = c .before .before .before .before .before .before .before .before .before .before .before .pre in
@@ -73,9 +61,6 @@ leaf-word-requires-4 c κs =
           (arith, between (pre .0) (pre .1) leaf-word-ensures if1-left if2-left (c .before .before .before .leaf-word2 .ensures) (c .before .before .if3 .left), pre .0 .tokens),
       omega arith,
     )
-
-compare-requires : tie.Need-compare-requires
-compare-requires c κs = search needs
 
 returns-4 : tie.Need-returns-4
 returns-4 c =
@@ -90,4 +75,4 @@ returns-4 c =
     (c .compare .ensures)
 
 pub simple-spec : {M : Type 1} → statement M
-simple-spec = tie.close (tie.spec leaf-word-requires returns returns-2 simple-value-requires leaf-word-requires-2 cast-next returns-3 add-here simple-value-requires-2 leaf-word-requires-3 cast-past leaf-word-requires-4 compare-requires returns-4)
+simple-spec = tie.close (tie.spec (λ c κs. search needs) returns returns-2 simple-value-requires (λ c κs. search needs) (λ c. search needs) returns-3 add-here simple-value-requires-2 leaf-word-requires-3 (λ c. search needs) leaf-word-requires-4 (λ c κs. search needs) returns-4)

@@ -3,27 +3,6 @@ use borrow.Author.Needs.{needs}
 use Rattle.executor.proofs.assignment.assign_one.Statement.{statement}
 use Rattle.executor.proofs.assignment.assign_one.Tie as tie
 
-add-from : tie.Need-add-from
-add-from c = search needs
-
-simple-requires : tie.Need-simple-requires
-simple-requires c κs = search needs
-
-settled-requires : tie.Need-settled-requires
-settled-requires c κs = search needs
-
-enum-known-told : tie.Need-enum-known-told
-enum-known-told c = search needs
-
-put-requires : tie.Need-put-requires
-put-requires c κs = search needs
-
-enum-known-told-2 : tie.Need-enum-known-told-2
-enum-known-told-2 c = search needs
-
-same-length : tie.Need-same-length
-same-length c = search needs
-
 returns : tie.Need-returns
 returns c =
     let settled-ensures = c .before .before .before .before .before .before .before .settled .ensures in
@@ -37,12 +16,12 @@ pub assign-one-spec : {M : Type 1} → statement M
 assign-one-spec =
     tie.close
     (tie.spec
-    add-from
-    simple-requires
-    settled-requires
-    enum-known-told
-    put-requires
-    enum-known-told-2
-    same-length
+    (λ c. search needs)
+    (λ c κs. search needs)
+    (λ c κs. search needs)
+    (λ c. search needs)
+    (λ c κs. search needs)
+    (λ c. search needs)
+    (λ c. search needs)
     returns
     returns-2)

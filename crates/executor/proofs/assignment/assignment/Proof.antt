@@ -4,7 +4,7 @@ use native.Mathlib.Omega.{arith}
 use Rattle.operands.proofs.TableLaws.{token, link-bounds}
 use lib.ListN.{take, length}
 use borrow.Author.Needs.{needs}
-use Rattle.operands.specs.Working.{site-table, env-of}
+use Rattle.operands.specs.Contracts.Working.{site-table, env-of}
 use Rattle.executor.proofs.AssignmentLaws.{Tried, tried-start, assigns-none, assigns-chosen, assigns-fault, tried-more, assigns-from}
 use Rattle.executor.proofs.assignment.assignment.Statement.{statement}
 use Rattle.executor.proofs.assignment.assignment.Tie as tie
@@ -15,31 +15,19 @@ Inv-loop leaves words sizes place grid vars₀ index next₀ site depth at n her
 abbrev μ-loop : tie.MeasureT-loop
 μ-loop leaves words sizes place grid vars₀ index next₀ site depth at n here₀ vars next here = site .tokens - here
 
-clause-of-requires : tie.Need-clause-of-requires Inv-loop μ-loop
-clause-of-requires c κs = search needs
-
 loop-holds : tie.Need-loop-holds Inv-loop μ-loop
 loop-holds c = (tried-start _ _ _ _ _ _ (c .clause-of .ensures), refl, refl, refl)
-
-word-at-requires : tie.Need-word-at-requires Inv-loop μ-loop
-word-at-requires c κs = search needs
 
 guard-requires : tie.Need-guard-requires Inv-loop μ-loop
 guard-requires c κs =
     let pre = c .before .before .before .before .before .before .before .before .pre in
     (pre .0, token _ _ _ (c .before .before .word-at .ensures) (omega arith))
 
-enum-told : tie.Need-enum-told Inv-loop μ-loop
-enum-told c = search needs
-
 assign-one-requires : tie.Need-assign-one-requires Inv-loop μ-loop
 assign-one-requires c κs =
     let pre = c .before .before .before .before .before .before .before .before .before .before .before .before .before .pre in
     let word-at-ensures = c .before .before .before .before .before .before .before .word-at .ensures in
     (pre .0, token _ _ _ word-at-ensures (omega arith))
-
-same-length : tie.Need-same-length Inv-loop μ-loop
-same-length c = search needs
 
 returns : tie.Need-returns Inv-loop μ-loop
 returns c =
@@ -50,12 +38,6 @@ returns c =
     let guard-ensures = c .before .before .before .before .before .before .guard .ensures in
     assigns-from (ap (take (args .site .slots)) (inv .1)) (inv .2)
     (assigns-chosen _ _ _ _ _ _ (inv .0) word-at-ensures if1-taken guard-ensures (c .before .before .before .before .enum-told .given .1) (c .before .assign-one .ensures))
-
-enum-told-2 : tie.Need-enum-told-2 Inv-loop μ-loop
-enum-told-2 c = search needs
-
-link-at-requires : tie.Need-link-at-requires Inv-loop μ-loop
-link-at-requires c κs = search needs
 
 loop-less : tie.Need-loop-less Inv-loop μ-loop
 loop-less c =
@@ -74,12 +56,6 @@ loop-again c =
       inv .3,
     )
 
-enum-known-chosen : tie.Need-enum-known-chosen Inv-loop μ-loop
-enum-known-chosen c = search needs
-
-same-length-2 : tie.Need-same-length-2 Inv-loop μ-loop
-same-length-2 c = search needs
-
 returns-2 : tie.Need-returns-2 Inv-loop μ-loop
 returns-2 c =
     let args = c .before .before .before .before .before .before .before .before .before .before .before .before .args in
@@ -88,9 +64,6 @@ returns-2 c =
     let if1-taken = c .before .before .before .before .before .if1 .taken in
     assigns-from (ap (take (args .site .slots)) (inv .1)) (inv .2)
     (assigns-fault _ _ _ _ _ _ (inv .0) word-at-ensures if1-taken (c .before .before .before .guard .ensures) (c .before .chosen .given .1))
-
-same-length-3 : tie.Need-same-length-3 Inv-loop μ-loop
-same-length-3 c = search needs
 
 returns-3 : tie.Need-returns-3 Inv-loop μ-loop
 returns-3 c =
@@ -104,20 +77,20 @@ assignment-spec =
     (tie.spec
     Inv-loop
     μ-loop
-    clause-of-requires
+    (λ c κs. search needs)
     loop-holds
-    word-at-requires
+    (λ c κs. search needs)
     guard-requires
-    enum-told
+    (λ c. search needs)
     assign-one-requires
-    same-length
+    (λ c. search needs)
     returns
-    enum-told-2
-    link-at-requires
+    (λ c. search needs)
+    (λ c κs. search needs)
     loop-less
     loop-again
-    enum-known-chosen
-    same-length-2
+    (λ c. search needs)
+    (λ c. search needs)
     returns-2
-    same-length-3
+    (λ c. search needs)
     returns-3)

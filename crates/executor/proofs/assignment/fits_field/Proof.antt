@@ -1,26 +1,8 @@
 use Rattle.executor.proofs.AssignmentLaws.{fits-known, fits-none}
-use Rattle.operands.specs.Working.{site-table}
+use Rattle.operands.specs.Contracts.Working.{site-table}
 use borrow.Author.Needs.{needs}
 use Rattle.executor.proofs.assignment.fits_field.Statement.{statement}
 use Rattle.executor.proofs.assignment.fits_field.Tie as tie
-
-add-at : tie.Need-add-at
-add-at c = search needs
-
-word-at-requires : tie.Need-word-at-requires
-word-at-requires c κs = search needs
-
-decode-requires : tie.Need-decode-requires
-decode-requires c κs = search needs
-
-word-at-requires-2 : tie.Need-word-at-requires-2
-word-at-requires-2 c κs = search needs
-
-decode-requires-2 : tie.Need-decode-requires-2
-decode-requires-2 c κs = search needs
-
-within-requires : tie.Need-within-requires
-within-requires c κs = search needs
 
 returns : tie.Need-returns
 returns c =
@@ -29,9 +11,6 @@ returns c =
     fits-known (site-table (args .words .now) (args .sizes .now) (args .site)) (args .site .base) (args .site .fields) (args .which) (args .v .n)
     if1-taken (c .before .before .before .before .word-at .ensures) (c .before .before .before .decode .ensures)
     (c .before .before .word-at2 .ensures) (c .before .decode2 .ensures) (c .within .ensures)
-
-within-requires-2 : tie.Need-within-requires-2
-within-requires-2 c κs = search needs
 
 returns-2 : tie.Need-returns-2
 returns-2 c =
@@ -43,12 +22,12 @@ pub fits-field-spec : {M : Type 1} → statement M
 fits-field-spec =
     tie.close
     (tie.spec
-    add-at
-    word-at-requires
-    decode-requires
-    word-at-requires-2
-    decode-requires-2
-    within-requires
+    (λ c. search needs)
+    (λ c κs. search needs)
+    (λ c κs. search needs)
+    (λ c κs. search needs)
+    (λ c κs. search needs)
+    (λ c κs. search needs)
     returns
-    within-requires-2
+    (λ c κs. search needs)
     returns-2)

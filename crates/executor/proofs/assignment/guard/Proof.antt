@@ -4,14 +4,8 @@ use borrow.Author.Needs.{needs}
 use Rattle.executor.proofs.assignment.guard.Statement.{statement}
 use Rattle.executor.proofs.assignment.guard.Tie as tie
 
-word-at-requires : tie.Need-word-at-requires
-word-at-requires c κs = search needs
-
 returns : tie.Need-returns
 returns c = guard-none _ _ _ _ _ (c .before .word-at .ensures) (c .if1 .taken)
-
-link-at-requires : tie.Need-link-at-requires
-link-at-requires c κs = search needs
 
 simple-requires : tie.Need-simple-requires
 simple-requires c κs =
@@ -23,12 +17,6 @@ settled-requires c κs =
     let pre = c .before .before .before .before .before .before .before .pre in
     (pre .0, link-bounds _ _ _ (c .before .link-at .ensures) (pre .1) .1, c .simple .ensures)
 
-enum-known-told : tie.Need-enum-known-told
-enum-known-told c = search needs
-
-is-true-requires : tie.Need-is-true-requires
-is-true-requires c κs = search needs
-
 returns-2 : tie.Need-returns-2
 returns-2 c =
     let word-at-ensures = c .before .before .before .before .before .before .before .before .before .word-at .ensures in
@@ -37,9 +25,6 @@ returns-2 c =
     let settled-ensures = c .before .before .before .before .before .settled .ensures in
     guard-holds _ _ _ _ _ word-at-ensures if1-left link-at-ensures settled-ensures (c .before .before .before .told .given .1)
     (c .before .is-true .ensures) (c .if2 .taken)
-
-enum-known-told-2 : tie.Need-enum-known-told-2
-enum-known-told-2 c = search needs
 
 returns-3 : tie.Need-returns-3
 returns-3 c =
@@ -61,14 +46,14 @@ pub guard-spec : {M : Type 1} → statement M
 guard-spec =
     tie.close
     (tie.spec
-    word-at-requires
+    (λ c κs. search needs)
     returns
-    link-at-requires
+    (λ c κs. search needs)
     simple-requires
     settled-requires
-    enum-known-told
-    is-true-requires
+    (λ c. search needs)
+    (λ c κs. search needs)
     returns-2
-    enum-known-told-2
+    (λ c. search needs)
     returns-3
     returns-4)

@@ -6,12 +6,6 @@ use borrow.Author.Needs.{needs}
 use Rattle.executor.proofs.assignment.put_variable.Statement.{statement}
 use Rattle.executor.proofs.assignment.put_variable.Tie as tie
 
-mul-n : tie.Need-mul-n
-mul-n c = search needs
-
-element-set-from-n : tie.Need-element-set-from-n
-element-set-from-n c = search needs
-
 returns : tie.Need-returns
 returns c =
     let args = c .before .before .args in
@@ -22,4 +16,4 @@ returns-2 : tie.Need-returns-2
 returns-2 c = front-same (c .before .args .slots) (c .before .args .vars .now) _ _ (c .if1 .left)
 
 pub put-variable-spec : {M : Type 1} → statement M
-put-variable-spec = tie.close (tie.spec mul-n element-set-from-n returns returns-2)
+put-variable-spec = tie.close (tie.spec (λ c. search needs) (λ c. search needs) returns returns-2)

@@ -4,7 +4,7 @@ use mathlib.Core.Path.{_≡_, refl, _∙_}
 use borrow.Author.Needs.{needs}
 use lib.ListN.{length, take}
 use Rattle.value.specs.Worked.{span-of}
-use Rattle.operands.specs.Working.{site-table, env-of}
+use Rattle.operands.specs.Contracts.Working.{site-table, env-of}
 use Rattle.operands.proofs.TableLaws.{token, link-bounds}
 use Rattle.executor.proofs.PendingLaws.{Stack, stack-start, stack-pops, stack-top, stack-room, stack-enters, weight, weight-enters, weight-goes, weight-pops}
 use Rattle.executor.proofs.StatementLaws.{begins-some, begins-at, begins-if, chosen-onward, if-fault, if-nothing, if-list, statement-forall, faulted-stops, other-stops, statement-exit, statement-constant, statement-assign, Progress, progress-start, block-ends, block-more, block-stops, block-pops, block-enters, known, loop-many, loop-deep, Turns, turns-start, turns-more, loop-leaves, loop-faults, loop-done, deeper}

@@ -3,7 +3,7 @@ use native.Mathlib.Omega.{arith}
 use mathlib.Core.Path.{sym}
 use lib.ListN.{take}
 use borrow.Author.Needs.{needs}
-use Rattle.operands.specs.Working.{site-table, env-of}
+use Rattle.operands.specs.Contracts.Working.{site-table, env-of}
 use Rattle.operands.proofs.TableLaws.{token, link-bounds}
 use Rattle.executor.proofs.StatementLaws.{Arms, arms-start, choice-fault, choice-then, choice-wrong, choice-else, choice-end, arms-more}
 use Rattle.executor.proofs.blocks.choose.Statement.{statement}
@@ -27,12 +27,6 @@ simple-requires c κs = ((c .before .before .before .before .pre .0), omega (ari
 
 settled-requires : tie.Need-settled-requires Inv-loop μ-loop
 settled-requires c κs = ((c .before .before .before .before .before .pre .0), omega (arith, (c .before .loop .inv .within)), (c .simple .ensures))
-
-enum-known-told : tie.Need-enum-known-told Inv-loop μ-loop
-enum-known-told c = search needs
-
-is-true-requires : tie.Need-is-true-requires Inv-loop μ-loop
-is-true-requires c κs = search needs
 
 add-t24 : tie.Need-add-t24 Inv-loop μ-loop
 add-t24 c =
@@ -104,9 +98,6 @@ loop-again c =
     arms-more _ _ _ _ _ _ _ inv settled-ensures (told-given .1) is-true-ensures (c .before .before .before .before .if1 .left) link-at-ensures
     word-at-ensures (c .if4 .left) (link-bounds _ _ _ link-at-ensures (inv .within) .0) (token _ _ _ word-at-ensures (omega arith))
 
-enum-known-told-2 : tie.Need-enum-known-told-2 Inv-loop μ-loop
-enum-known-told-2 c = search needs
-
 returns-5 : tie.Need-returns-5 Inv-loop μ-loop
 returns-5 c =
     let inv = c .before .before .before .before .before .loop .inv in
@@ -122,8 +113,8 @@ choose-spec =
     add-from
     simple-requires
     settled-requires
-    enum-known-told
-    is-true-requires
+    (λ c. search needs)
+    (λ c κs. search needs)
     add-t24
     returns
     returns-2
@@ -134,5 +125,5 @@ choose-spec =
     returns-4
     loop-less
     loop-again
-    enum-known-told-2
+    (λ c. search needs)
     returns-5)

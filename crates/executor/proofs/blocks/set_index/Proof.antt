@@ -5,28 +5,16 @@ use Rattle.value.specs.declared.Value.{Value}
 use Prim.Native.Nat.{_<_}
 use mathlib.Core.Path.{_≡_, ap}
 use lib.Signed.{mag}
-use Rattle.value.specs.Laws.{offset-in-range}
+use Rattle.value.proofs.Theorems.Laws.{offset-in-range}
 use borrow.Author.Needs.{needs}
 use Rattle.executor.proofs.blocks.set_index.Statement.{statement}
 use Rattle.executor.proofs.blocks.set_index.Tie as tie
-
-cast-offset : tie.Need-cast-offset
-cast-offset c = search needs
 
 offset-requires : tie.Need-offset-requires
 offset-requires c κs =
     let h : mag (c .args .low .n) < 2147483648 = search needs in
     let l : mag (c .args .high .n) < 2147483648 = search needs in
     offset-in-range (c .args .low .n) (c .args .high .n) (c .args .k) h l (c .pre .1)
-
-mul-n : tie.Need-mul-n
-mul-n c = search needs
-
-slice-set-from-n : tie.Need-slice-set-from-n
-slice-set-from-n c = search needs
-
-same-length : tie.Need-same-length
-same-length c = search needs
 
 returns : tie.Need-returns
 returns c =
@@ -37,4 +25,4 @@ returns c =
 
 pub set-index-spec : {M : Type 1} → statement M
 set-index-spec =
-    tie.close (tie.spec cast-offset offset-requires mul-n slice-set-from-n same-length returns)
+    tie.close (tie.spec (λ c. search needs) offset-requires (λ c. search needs) (λ c. search needs) (λ c. search needs) returns)

@@ -17,26 +17,11 @@ abbrev μ-loop : tie.MeasureT-loop
 loop-holds : tie.Need-loop-holds Inv-loop μ-loop
 loop-holds c = (omega arith, refl, refl)
 
-mul-vars : tie.Need-mul-vars Inv-loop μ-loop
-mul-vars c = search needs
-
-slice-set-of-vars : tie.Need-slice-set-of-vars Inv-loop μ-loop
-slice-set-of-vars c = search needs
-
-add-k : tie.Need-add-k Inv-loop μ-loop
-add-k c = search needs
-
-loop-less : tie.Need-loop-less Inv-loop μ-loop
-loop-less c = search needs
-
 loop-again : tie.Need-loop-again Inv-loop μ-loop
 loop-again c =
     let turn = c .before .loop in
     let inv = c .before .loop .inv in
     (omega arith, cleared (turn .vars) (turn .k) (inv .1) (omega arith) refl, length-set (turn .vars) _ _ ∙ (inv .2))
-
-same-length : tie.Need-same-length Inv-loop μ-loop
-same-length c = search needs
 
 returns : tie.Need-returns Inv-loop μ-loop
 returns c = let e : (c .before .before .args .slots) ≡ (c .before .loop .k) = omega arith in rw e (c .before .loop .inv .1)
@@ -48,10 +33,10 @@ clear-spec =
     Inv-loop
     μ-loop
     loop-holds
-    mul-vars
-    slice-set-of-vars
-    add-k
-    loop-less
+    (λ c. search needs)
+    (λ c. search needs)
+    (λ c. search needs)
+    (λ c. search needs)
     loop-again
-    same-length
+    (λ c. search needs)
     returns)

@@ -7,14 +7,8 @@ use Rattle.indices.proofs.counting.below.Tie as tie
 returns : tie.Need-returns
 returns c = below-small _ (c .if1 .taken)
 
-sub-result : tie.Need-sub-result
-sub-result c = search needs
-
-add-result : tie.Need-add-result
-add-result c = search needs
-
 returns-2 : tie.Need-returns-2
 returns-2 c = below-large _ (c .if1 .left) (omega arith)
 
 pub below-spec : {M : Type 1} → statement M
-below-spec = tie.close (tie.spec returns sub-result add-result returns-2)
+below-spec = tie.close (tie.spec returns (λ c. search needs) (λ c. search needs) returns-2)

@@ -4,17 +4,11 @@ use borrow.Author.Needs.{needs}
 use Rattle.indices.proofs.counting.exceeds.Statement.{statement}
 use Rattle.indices.proofs.counting.exceeds.Tie as tie
 
-below-requires : tie.Need-below-requires
-below-requires c κs = search needs
-
 returns : tie.Need-returns
 returns c = exceeds-below _ (decode-of (c .before .before .args .word)) (c .before .below .ensures) (c .if1 .taken)
-
-above-requires : tie.Need-above-requires
-above-requires c κs = search needs
 
 returns-2 : tie.Need-returns-2
 returns-2 c = exceeds-above _ (decode-of (c .before .before .before .args .word)) (c .before .before .below .ensures) (c .before .if1 .left) (c .above .ensures)
 
 pub exceeds-spec : {M : Type 1} → statement M
-exceeds-spec = tie.close (tie.spec below-requires returns above-requires returns-2)
+exceeds-spec = tie.close (tie.spec (λ c κs. search needs) returns (λ c κs. search needs) returns-2)

@@ -3,16 +3,10 @@ use borrow.Author.Needs.{needs}
 use Rattle.indices.proofs.counting.goes_past.Statement.{statement}
 use Rattle.indices.proofs.counting.goes_past.Tie as tie
 
-exceeds-requires : tie.Need-exceeds-requires
-exceeds-requires c κs = search needs
-
 returns : tie.Need-returns
 returns c =
     let args = c .before .before .args in
     past-low (args .low) (args .high) (args .size) (c .before .exceeds .ensures) (c .if1 .taken)
-
-exceeds-requires-2 : tie.Need-exceeds-requires-2
-exceeds-requires-2 c κs = search needs
 
 returns-2 : tie.Need-returns-2
 returns-2 c =
@@ -20,4 +14,4 @@ returns-2 c =
     past-high (a .low) (a .high) (a .size) (c .before .before .exceeds .ensures) (c .before .if1 .left) (c .exceeds2 .ensures)
 
 pub goes-past-spec : {M : Type 1} → statement M
-goes-past-spec = tie.close (tie.spec exceeds-requires returns exceeds-requires-2 returns-2)
+goes-past-spec = tie.close (tie.spec (λ c κs. search needs) returns (λ c κs. search needs) returns-2)

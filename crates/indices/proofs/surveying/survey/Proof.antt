@@ -4,14 +4,8 @@ use borrow.Author.Needs.{needs}
 use Rattle.indices.proofs.surveying.survey.Statement.{statement}
 use Rattle.indices.proofs.surveying.survey.Tie as tie
 
-own-only-requires : tie.Need-own-only-requires
-own-only-requires c κs = search needs
-
-part-requires : tie.Need-part-requires
-part-requires c κs = search needs
-
 returns : tie.Need-returns
 returns c = let a = c .before .before .before .before .before .before .args in survey-done (a .words .now) (a .rule) (a .sizes .now) (replicate 16 0) (replicate 16 0) (c .before .before .before .own-only .ensures) (c .part .ensures)
 
 pub survey-spec : {M : Type 1} → statement M
-survey-spec = tie.close (tie.spec own-only-requires part-requires returns)
+survey-spec = tie.close (tie.spec (λ c κs. search needs) (λ c κs. search needs) returns)

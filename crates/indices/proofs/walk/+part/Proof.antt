@@ -4,7 +4,7 @@ use Rattle.semantics.specs.Stands.{word-in}
 use Prim.Native.Nat.{_-_, ℕ, _<_}
 use native.Mathlib.Omega.{arith}
 use borrow.Author.Needs.{needs}
-use Rattle.places.specs.Vectors.{loops-of}
+use Rattle.places.specs.Contracts.Vectors.{loops-of}
 use Rattle.indices.proofs.WalkLaws.{counts-none, less-left, opens-deep, loops-length, loops-opened, Going, going-start, going-plain, going-loop, going-done}
 use Rattle.operands.proofs.TableLaws.{link-bounds}
 use borrow.Fn.Kinds.{In}

@@ -1,7 +1,7 @@
 use Prim.Native.Nat.{_-_}
 use native.Mathlib.Omega.{arith}
 use Rattle.semantics.specs.Stands.{table-of, index-in}
-use Rattle.places.specs.Vectors.{loops-of}
+use Rattle.places.specs.Contracts.Vectors.{loops-of}
 use Rattle.indices.proofs.ElementLaws.{element-ends, Steps, steps-start, steps-more, steps-done}
 use borrow.Author.Needs.{needs}
 use Rattle.indices.proofs.walk.elements.Statement.{statement}
@@ -13,9 +13,6 @@ Inv-loop words sizes lows highs depth at n dims now₀ here₀ k₀ now here k =
 abbrev μ-loop : tie.MeasureT-loop
 μ-loop words sizes lows highs depth at n dims now₀ here₀ k₀ now here k = dims - k
 
-cast-dims : tie.Need-cast-dims Inv-loop μ-loop
-cast-dims c = search needs
-
 loop-holds : tie.Need-loop-holds Inv-loop μ-loop
 loop-holds c = steps-start _ _ _ _ _ _
 
@@ -24,9 +21,6 @@ element-word-requires c κs = (c .before .before .before .before .before .pre .0
 
 element-word-requires-2 : tie.Need-element-word-requires-2 Inv-loop μ-loop
 element-word-requires-2 c κs = (c .before .before .before .before .before .before .pre .0 .sized .table, c .before .before .before .before .before .before .pre .0 .sized .tokens, c .before .before .before .before .before .before .pre .0 .deep)
-
-mul-counted : tie.Need-mul-counted Inv-loop μ-loop
-mul-counted c = search needs
 
 shared-slice-read-counted : tie.Need-shared-slice-read-counted Inv-loop μ-loop
 shared-slice-read-counted c = omega (arith, c .before .before .before .before .before .before .before .before .pre .0 .dims)
@@ -58,11 +52,11 @@ elements-spec =
     (tie.spec
     Inv-loop
     μ-loop
-    cast-dims
+    (λ c. search needs)
     loop-holds
     element-word-requires
     element-word-requires-2
-    mul-counted
+    (λ c. search needs)
     shared-slice-read-counted
     place-at-requires
     counted-requires

@@ -1,20 +1,8 @@
-use Rattle.places.specs.Vectors.{loops-of}
+use Rattle.places.specs.Contracts.Vectors.{loops-of}
 use Rattle.indices.proofs.WalkLaws.{counts-index, counts-flat, counts-none}
 use borrow.Author.Needs.{needs}
 use Rattle.indices.proofs.walk.index_at.Statement.{statement}
 use Rattle.indices.proofs.walk.index_at.Tie as tie
-
-cast-is-index : tie.Need-cast-is-index
-cast-is-index c = search needs
-
-is-index-requires : tie.Need-is-index-requires
-is-index-requires c κs = search needs
-
-add-with-index : tie.Need-add-with-index
-add-with-index c = search needs
-
-with-index-requires : tie.Need-with-index-requires
-with-index-requires c κs = search needs
 
 returns : tie.Need-returns
 returns c = let a = c .before .before .before .before .before .before .before .before .args in counts-index (a .words .now) (a .rule) (a .sizes .now) (loops-of (a .lows .now) (a .highs .now) (a .depth)) (a .at) (c .before .before .before .before .is-index .ensures) (c .before .before .before .if1 .taken) (c .before .if2 .taken) (c .with-index .ensures)
@@ -29,10 +17,10 @@ pub index-at-spec : {M : Type 1} → statement M
 index-at-spec =
     tie.close
     (tie.spec
-    cast-is-index
-    is-index-requires
-    add-with-index
-    with-index-requires
+    (λ c. search needs)
+    (λ c κs. search needs)
+    (λ c. search needs)
+    (λ c κs. search needs)
     returns
     returns-2
     returns-3)

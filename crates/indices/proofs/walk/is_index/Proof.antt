@@ -4,12 +4,6 @@ use borrow.Author.Needs.{needs}
 use Rattle.indices.proofs.walk.is_index.Statement.{statement}
 use Rattle.indices.proofs.walk.is_index.Tie as tie
 
-word-at-requires : tie.Need-word-at-requires
-word-at-requires c κs = search needs
-
-word-at-requires-2 : tie.Need-word-at-requires-2
-word-at-requires-2 c κs = search needs
-
 returns : tie.Need-returns
 returns c =
     let a = c .before .before .before .before .args in
@@ -19,4 +13,4 @@ returns-2 : tie.Need-returns-2
 returns-2 c = let a = c .before .before .before .args in index-not (table-of (a .words .now) (a .n) (a .dims)) (a .at) (c .before .word-at .ensures) (c .if1 .left)
 
 pub is-index-spec : {M : Type 1} → statement M
-is-index-spec = tie.close (tie.spec word-at-requires word-at-requires-2 returns returns-2)
+is-index-spec = tie.close (tie.spec (λ c κs. search needs) (λ c κs. search needs) returns returns-2)

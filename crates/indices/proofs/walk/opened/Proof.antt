@@ -3,14 +3,8 @@ use borrow.Author.Needs.{needs}
 use Rattle.indices.proofs.walk.opened.Statement.{statement}
 use Rattle.indices.proofs.walk.opened.Tie as tie
 
-mul-more : tie.Need-mul-more
-mul-more c = search needs
-
-array-write-more : tie.Need-array-write-more
-array-write-more c = search needs
-
 returns : tie.Need-returns
 returns c = record { here = search needs; others = λ k d. getD-set-other (c .args .words) (c .args .depth) k (c .args .word) 0 d }
 
 pub opened-spec : {M : Type 1} → statement M
-opened-spec = tie.close (tie.spec mul-more array-write-more returns)
+opened-spec = tie.close (tie.spec (λ c. search needs) (λ c. search needs) returns)

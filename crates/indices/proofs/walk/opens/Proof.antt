@@ -3,9 +3,6 @@ use borrow.Author.Needs.{needs}
 use Rattle.indices.proofs.walk.opens.Statement.{statement}
 use Rattle.indices.proofs.walk.opens.Tie as tie
 
-word-at-requires : tie.Need-word-at-requires
-word-at-requires c κs = search needs
-
 returns : tie.Need-returns
 returns c = opens-loop (c .before .before .before .args .depth) (c .before .word-at .ensures) (c .if1 .taken)
 
@@ -13,4 +10,4 @@ returns-2 : tie.Need-returns-2
 returns-2 c = opens-not (c .before .before .before .args .depth) (c .before .word-at .ensures) (c .if1 .left)
 
 pub opens-spec : {M : Type 1} → statement M
-opens-spec = tie.close (tie.spec word-at-requires returns returns-2)
+opens-spec = tie.close (tie.spec (λ c κs. search needs) returns returns-2)

@@ -6,9 +6,6 @@ use Rattle.iteration.proofs.counting.fill_asked.Tie as tie
 fill-counts-requires : tie.Need-fill-counts-requires
 fill-counts-requires c κs = c .before .before .before .before .pre (c .before .if1 .taken)
 
-same-length : tie.Need-same-length
-same-length c = search needs
-
 returns : tie.Need-returns
 returns c = search (filled-yes, needs)
 
@@ -16,4 +13,4 @@ returns-2 : tie.Need-returns-2
 returns-2 c = search (filled-no, needs)
 
 pub fill-asked-spec : {M : Type 1} → statement M
-fill-asked-spec = tie.close (tie.spec fill-counts-requires same-length returns returns-2)
+fill-asked-spec = tie.close (tie.spec fill-counts-requires (λ c. search needs) returns returns-2)

@@ -6,9 +6,6 @@ use Rattle.iteration.proofs.counting.move_asked.Tie as tie
 move-counts-requires : tie.Need-move-counts-requires
 move-counts-requires c κs = c .before .before .before .before .before .pre (c .before .if1 .taken)
 
-same-length : tie.Need-same-length
-same-length c = search needs
-
 returns : tie.Need-returns
 returns c = search (filled-yes, needs)
 
@@ -16,4 +13,4 @@ returns-2 : tie.Need-returns-2
 returns-2 c = search (filled-no, needs)
 
 pub move-asked-spec : {M : Type 1} → statement M
-move-asked-spec = tie.close (tie.spec move-counts-requires same-length returns returns-2)
+move-asked-spec = tie.close (tie.spec move-counts-requires (λ c. search needs) returns returns-2)

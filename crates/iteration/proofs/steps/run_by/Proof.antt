@@ -6,17 +6,8 @@ use borrow.Author.Needs.{needs}
 use Rattle.iteration.proofs.steps.run_by.Statement.{statement}
 use Rattle.iteration.proofs.steps.run_by.Tie as tie
 
-cast-fill-leaves : tie.Need-cast-fill-leaves
-cast-fill-leaves c = search needs
-
-cast-fill-leaves-2 : tie.Need-cast-fill-leaves-2
-cast-fill-leaves-2 c = search needs
-
 fill-leaves-requires : tie.Need-fill-leaves-requires
 fill-leaves-requires c κs = fill-ready (c .before .before .before .before .before .before .before .before .before .before .pre .0) (c .before .before .before .before .before .before .before .before .before .before .pre .2)
-
-slice-aggregate-set-ways : tie.Need-slice-aggregate-set-ways
-slice-aggregate-set-ways c = search needs
 
 set-ways-requires : tie.Need-set-ways-requires
 set-ways-requires c κs = (prepared (c .before .before .before .before .before .before .before .before .before .before .before .before .pre .0), refl)
@@ -26,9 +17,6 @@ begin-marks-requires c κs = copying (c .before .before .before .before .before 
 
 fill-asked-requires : tie.Need-fill-asked-requires
 fill-asked-requires c κs = λ e. countable (c .before .before .before .before .before .before .before .before .before .before .before .before .before .before .before .before .before .before .before .before .before .before .before .pre .0) (c .before .before .before .before .before .before .before .before .before .before .before .before .before .before .before .before .before .before .before .before .before .before .before .pre .1) e refl
-
-slice-aggregate-run-marked : tie.Need-slice-aggregate-run-marked
-slice-aggregate-run-marked c = search needs
 
 run-marked-requires : tie.Need-run-marked-requires
 run-marked-requires c κs =
@@ -43,21 +31,6 @@ run-marked-requires c κs =
       c .before .before .before .before .before .before .before .before .before .before .before .before .before .before .before .before .before .before .before .before .before .before .before .before .before .before .before .before .before .before .before .before .before .pre .2,
     )
 
-same-length : tie.Need-same-length
-same-length c = search needs
-
-same-length-2 : tie.Need-same-length-2
-same-length-2 c = search needs
-
-same-length-3 : tie.Need-same-length-3
-same-length-3 c = search needs
-
-same-length-4 : tie.Need-same-length-4
-same-length-4 c = search needs
-
-same-length-5 : tie.Need-same-length-5
-same-length-5 c = search needs
-
 returns : tie.Need-returns
 returns c =
     let ran = c .before .before .before .before .before .before .before .run-marked .ensures in
@@ -67,18 +40,18 @@ pub run-by-spec : {M : Type 1} → statement M
 run-by-spec =
     tie.close
     (tie.spec
-    cast-fill-leaves
-    cast-fill-leaves-2
+    (λ c. search needs)
+    (λ c. search needs)
     fill-leaves-requires
-    slice-aggregate-set-ways
+    (λ c. search needs)
     set-ways-requires
     begin-marks-requires
     fill-asked-requires
-    slice-aggregate-run-marked
+    (λ c. search needs)
     run-marked-requires
-    same-length
-    same-length-2
-    same-length-3
-    same-length-4
-    same-length-5
+    (λ c. search needs)
+    (λ c. search needs)
+    (λ c. search needs)
+    (λ c. search needs)
+    (λ c. search needs)
     returns)

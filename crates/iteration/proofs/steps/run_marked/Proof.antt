@@ -17,32 +17,14 @@ abbrev μ-loop : tie.MeasureT-loop
 μ-loop leaves words rule sizes reach backs listed all-open grid₀ scratch₀ marks₀ values start steps counts₀ counted field shape bands plan room₀ kinds next₀ done₀ count₀ grid scratch marks counts room next done count =
     steps + 1 - done
 
-kind-table-requires : tie.Need-kind-table-requires Inv-loop μ-loop
-kind-table-requires c κs = search needs
-
-next-block-requires : tie.Need-next-block-requires Inv-loop μ-loop
-next-block-requires c κs = search needs
-
 loop-holds : tie.Need-loop-holds Inv-loop μ-loop
 loop-holds c = (loop-start (c .before .before .before .before .before .before .before .before .before .before .before .pre .0) (c .before .before .before .before .before .before .before .before .before .before .before .pre .1) (c .before .before .before .before .before .before .before .before .before .before .before .pre .2) (c .before .before .before .before .before .before .before .before .before .before .before .pre .3) (c .before .before .before .before .before .before .before .before .before .before .before .pre .6) (c .before .before .kind-table .ensures) (c .next-block .ensures), keep-start (c .before .before .before .before .before .before .before .before .before .before .before .pre .4) (c .before .before .before .before .before .before .before .before .before .before .before .pre .5), refl)
-
-add-recounts : tie.Need-add-recounts Inv-loop μ-loop
-add-recounts c = search needs
-
-recounts-requires : tie.Need-recounts-requires Inv-loop μ-loop
-recounts-requires c κs = search needs
-
-add-set-due : tie.Need-add-set-due Inv-loop μ-loop
-add-set-due c = search needs
 
 set-due-requires : tie.Need-set-due-requires Inv-loop μ-loop
 set-due-requires c κs = loop-settable (c .before .before .before .before .before .before .before .loop .inv .0)
 
 fill-asked-requires : tie.Need-fill-asked-requires Inv-loop μ-loop
 fill-asked-requires c κs = block-countable (c .before .before .before .before .before .before .before .before .before .before .before .before .before .before .loop .inv .1) (c .before .before .before .before .before .before .before .before .before .before .before .before .before .before .loop .inv .0 .begins) (c .before .before .before .before .before .before .set-due .ensures) (c .before .before .before .before .before .before .before .before .before .before .before .recounts .ensures) (placed-grid (c .before .before .before .before .before .before .before .before .before .before .before .before .before .before .loop .inv .0) (c .before .before .before .before .before .before .set-due .ensures) (omega (arith, c .before .before .before .before .before .before .set-due .kept .1 .1 .1 .1 .1 .1 .1 .1 .0)))
-
-ended-requires : tie.Need-ended-requires Inv-loop μ-loop
-ended-requires c κs = search needs
 
 same-length : tie.Need-same-length Inv-loop μ-loop
 same-length c = placed-grid (c .before .before .before .before .before .before .before .before .before .before .before .before .before .before .before .before .before .before .before .loop .inv .0) (c .before .before .before .before .before .before .before .before .before .before .before .set-due .ensures) (omega (arith, c .before .before .before .before .before .before .before .before .before .before .before .set-due .kept .1 .1 .1 .1 .1 .1 .1 .1 .0))
@@ -68,15 +50,6 @@ add-one-step c = record { fits = omega (arith, c .before .before .before .before
 one-step-requires : tie.Need-one-step-requires Inv-loop μ-loop
 one-step-requires c κs = loop-step (c .before .before .before .before .before .before .before .before .before .before .before .before .before .before .before .before .before .before .before .before .before .before .loop .inv .0) (c .before .before .before .before .before .before .before .before .before .before .before .before .before .before .set-due .ensures) (omega (arith, c .before .before .before .before .before .before .before .before .before .before .before .before .before .before .set-due .kept .1 .1 .1 .1 .1 .1 .1 .1 .0)) (c .before .before .before .before .if1 .left) (c .before .before .before .before .before .before .before .before .before .before .before .before .before .before .before .before .before .before .before .before .before .before .loop .inv .2)
 
-enum-known-counted : tie.Need-enum-known-counted Inv-loop μ-loop
-enum-known-counted c = search needs
-
-enum-known-cell : tie.Need-enum-known-cell Inv-loop μ-loop
-enum-known-cell c = search needs
-
-clear-marks-requires : tie.Need-clear-marks-requires Inv-loop μ-loop
-clear-marks-requires c κs = search needs
-
 same-length-6 : tie.Need-same-length-6 Inv-loop μ-loop
 same-length-6 c = c .before .before .before .before .before .before .before .before .before .before .one-step .ensures .grid-size ∙ placed-grid (c .before .before .before .before .before .before .before .before .before .before .before .before .before .before .before .before .before .before .before .before .before .before .before .before .before .before .before .before .before .before .before .before .before .loop .inv .0) (c .before .before .before .before .before .before .before .before .before .before .before .before .before .before .before .before .before .before .before .before .before .before .before .before .before .set-due .ensures) (omega (arith, c .before .before .before .before .before .before .before .before .before .before .before .before .before .before .before .before .before .before .before .before .before .before .before .before .before .set-due .kept .1 .1 .1 .1 .1 .1 .1 .1 .0))
 
@@ -100,9 +73,6 @@ move-asked-requires c κs =
     let k = (keep-block (c .before .before .before .before .before .before .before .before .before .before .before .before .before .before .before .before .before .before .before .before .before .before .before .before .before .before .before .before .before .before .before .before .before .loop .inv .1) (c .before .before .before .before .before .before .before .before .before .before .before .before .before .before .before .before .before .before .before .before .before .before .before .before .before .set-due .ensures) (c .before .before .before .before .before .before .before .before .before .before .before .before .before .before .before .before .before .before .before .before .before .before .before .before .before .before .before .before .before .before .recounts .ensures) (c .before .before .before .before .before .before .before .before .before .before .before .before .before .before .before .before .before .before .fill-asked .ensures) (omega (arith, c .before .before .before .before .before .before .before .before .before .before .before .before .before .before .before .before .before .before .fill-asked .kept .1 .1 .1 .1 .1 .0))) in
     movable (c .before .before .before .before .before .before .before .before .before .before .before .before .before .before .before .before .before .before .before .before .before .before .before .before .before .before .before .before .before .before .before .before .before .loop .inv .0 .begins) (k .fit) refl (placed-grid (c .before .before .before .before .before .before .before .before .before .before .before .before .before .before .before .before .before .before .before .before .before .before .before .before .before .before .before .before .before .before .before .before .before .loop .inv .0) (c .before .before .before .before .before .before .before .before .before .before .before .before .before .before .before .before .before .before .before .before .before .before .before .before .before .set-due .ensures) (omega (arith, c .before .before .before .before .before .before .before .before .before .before .before .before .before .before .before .before .before .before .before .before .before .before .before .before .before .set-due .kept .1 .1 .1 .1 .1 .1 .1 .1 .0))) (placed-scratch (c .before .before .before .before .before .before .before .before .before .before .before .before .before .before .before .before .before .before .before .before .before .before .before .before .before .before .before .before .before .before .before .before .before .loop .inv .0) (c .before .before .before .before .before .before .before .before .before .before .before .before .before .before .before .before .before .before .before .before .before .before .before .before .before .set-due .ensures) (omega (arith, c .before .before .before .before .before .before .before .before .before .before .before .before .before .before .before .before .before .before .before .before .before .before .before .before .before .set-due .kept .1 .1 .1 .1 .1 .1 .1 .1 .0)) ∙ c .before .before .before .before .before .before .before .before .before .before .before .before .before .before .before .before .before .before .before .before .before .before .before .before .before .before .before .before .before .before .before .before .before .loop .inv .0 .begins .scratch-fits) (placed-marks (c .before .before .before .before .before .before .before .before .before .before .before .before .before .before .before .before .before .before .before .before .before .before .before .before .before .before .before .before .before .before .before .before .before .loop .inv .0) (c .before .before .before .before .before .before .before .before .before .before .before .before .before .before .before .before .before .before .before .before .before .before .before .before .before .set-due .ensures) (omega (arith, c .before .before .before .before .before .before .before .before .before .before .before .before .before .before .before .before .before .before .before .before .before .before .before .before .before .set-due .kept .1 .1 .1 .1 .1 .1 .1 .1 .0)) ∙ c .before .before .before .before .before .before .before .before .before .before .before .before .before .before .before .before .before .before .before .before .before .before .before .before .before .before .before .before .before .before .before .before .before .loop .inv .0 .begins .marks-fit) (c .before .before .before .before .before .before .before .before .before .before .one-step .ensures) (c .before .before .before .before .before .counted .given .1) (k .tally)
 
-cast-renew-marks : tie.Need-cast-renew-marks Inv-loop μ-loop
-cast-renew-marks c = search needs
-
 renew-marks-requires : tie.Need-renew-marks-requires Inv-loop μ-loop
 renew-marks-requires c κs = loop-mark (c .before .before .before .before .before .before .before .before .before .before .before .before .before .before .before .before .before .before .before .before .before .before .before .before .before .before .before .before .before .before .before .before .before .before .before .before .before .before .before .before .loop .inv .0) (c .before .before .before .before .before .before .before .before .before .before .before .before .before .before .before .before .before .before .before .before .before .before .before .before .before .before .before .before .before .before .before .before .set-due .ensures) (omega (arith, c .before .before .before .before .before .before .before .before .before .before .before .before .before .before .before .before .before .before .before .before .before .before .before .before .before .before .before .before .before .before .before .before .set-due .kept .1 .1 .1 .1 .1 .1 .1 .1 .0)) (c .before .before .before .before .before .before .before .before .before .before .before .before .before .before .before .before .before .before .before .before .before .before .if1 .left) (c .before .before .before .before .before .before .before .before .before .before .before .before .before .before .before .before .before .one-step .ensures) (c .before .before .before .before .before .before .before .before .before .before .before .before .counted .given .1)
 
@@ -115,24 +85,6 @@ loop-less c = omega (arith, c .before .before .before .before .before .before .b
 loop-again : tie.Need-loop-again Inv-loop μ-loop
 loop-again c = (laws.loop-again (c .before .before .before .before .before .before .before .before .before .before .before .before .before .before .before .before .before .before .before .before .before .before .before .before .before .before .before .before .before .before .before .before .before .before .before .before .before .before .before .before .before .before .before .loop .inv .0) (c .before .before .before .before .before .before .before .before .before .before .before .before .before .before .before .before .before .before .before .before .before .before .before .before .before .before .before .before .before .before .before .before .before .before .before .set-due .ensures) (omega (arith, c .before .before .before .before .before .before .before .before .before .before .before .before .before .before .before .before .before .before .before .before .before .before .before .before .before .before .before .before .before .before .before .before .before .before .before .set-due .kept .1 .1 .1 .1 .1 .1 .1 .1 .0)) (c .before .before .before .before .before .before .before .before .before .before .before .before .before .before .before .before .before .before .before .before .before .before .before .before .before .if1 .left) (c .before .before .before .before .before .before .before .before .before .before .before .before .before .before .before .before .before .before .before .before .one-step .ensures) (c .before .before .before .before .before .before .before .before .before .before .before .before .before .before .before .counted .given .1) (c .before .before .renew-marks .ensures), keep-step (keep-block (c .before .before .before .before .before .before .before .before .before .before .before .before .before .before .before .before .before .before .before .before .before .before .before .before .before .before .before .before .before .before .before .before .before .before .before .before .before .before .before .before .before .before .before .loop .inv .1) (c .before .before .before .before .before .before .before .before .before .before .before .before .before .before .before .before .before .before .before .before .before .before .before .before .before .before .before .before .before .before .before .before .before .before .before .set-due .ensures) (c .before .before .before .before .before .before .before .before .before .before .before .before .before .before .before .before .before .before .before .before .before .before .before .before .before .before .before .before .before .before .before .before .before .before .before .before .before .before .before .before .recounts .ensures) (c .before .before .before .before .before .before .before .before .before .before .before .before .before .before .before .before .before .before .before .before .before .before .before .before .before .before .before .before .fill-asked .ensures) (omega (arith, c .before .before .before .before .before .before .before .before .before .before .before .before .before .before .before .before .before .before .before .before .before .before .before .before .before .before .before .before .fill-asked .kept .1 .1 .1 .1 .1 .0))) (c .before .before .before .before .before .before .before .before .before .move-asked .ensures) (omega (arith, c .before .before .before .before .before .before .before .before .before .move-asked .kept .1 .1 .1 .1 .1 .1 .1 .0)), (omega (arith, c .before .before .before .before .before .before .before .before .before .before .before .before .before .before .before .before .before .before .before .before .one-step .kept .1 .1 .1 .1 .1 .1 .1 .1 .1 .0)) ∙ c .before .before .before .before .before .before .before .before .before .before .before .before .before .before .before .before .before .before .before .before .before .before .before .before .before .before .before .before .before .before .before .before .before .before .before .before .before .before .before .before .before .before .before .loop .inv .2)
 
-ended-requires-2 : tie.Need-ended-requires-2 Inv-loop μ-loop
-ended-requires-2 c κs = search needs
-
-same-length-11 : tie.Need-same-length-11 Inv-loop μ-loop
-same-length-11 c = search needs
-
-same-length-12 : tie.Need-same-length-12 Inv-loop μ-loop
-same-length-12 c = search needs
-
-same-length-13 : tie.Need-same-length-13 Inv-loop μ-loop
-same-length-13 c = search needs
-
-same-length-14 : tie.Need-same-length-14 Inv-loop μ-loop
-same-length-14 c = search needs
-
-same-length-15 : tie.Need-same-length-15 Inv-loop μ-loop
-same-length-15 c = search needs
-
 returns-3 : tie.Need-returns-3 Inv-loop μ-loop
 returns-3 c = absurd (omega (arith, c .before .loop-test .left, c .before .before .loop .inv .0 .underway .so-far .few-steps))
 
@@ -142,15 +94,15 @@ run-marked-spec =
     (tie.spec
     Inv-loop
     μ-loop
-    kind-table-requires
-    next-block-requires
+    (λ c κs. search needs)
+    (λ c κs. search needs)
     loop-holds
-    add-recounts
-    recounts-requires
-    add-set-due
+    (λ c. search needs)
+    (λ c κs. search needs)
+    (λ c. search needs)
     set-due-requires
     fill-asked-requires
-    ended-requires
+    (λ c κs. search needs)
     same-length
     same-length-2
     same-length-3
@@ -159,9 +111,9 @@ run-marked-spec =
     returns
     add-one-step
     one-step-requires
-    enum-known-counted
-    enum-known-cell
-    clear-marks-requires
+    (λ c. search needs)
+    (λ c. search needs)
+    (λ c κs. search needs)
     same-length-6
     same-length-7
     same-length-8
@@ -169,15 +121,15 @@ run-marked-spec =
     same-length-10
     returns-2
     move-asked-requires
-    cast-renew-marks
+    (λ c. search needs)
     renew-marks-requires
     add-done
     loop-less
     loop-again
-    ended-requires-2
-    same-length-11
-    same-length-12
-    same-length-13
-    same-length-14
-    same-length-15
+    (λ c κs. search needs)
+    (λ c. search needs)
+    (λ c. search needs)
+    (λ c. search needs)
+    (λ c. search needs)
+    (λ c. search needs)
     returns-3)

@@ -5,15 +5,6 @@ use borrow.Author.Needs.{needs}
 use Rattle.leaf_table.proofs.noting.field_leaf.Statement.{statement}
 use Rattle.leaf_table.proofs.noting.field_leaf.Tie as tie
 
-word-at-requires : tie.Need-word-at-requires
-word-at-requires c κs = search needs
-
-link-at-requires : tie.Need-link-at-requires
-link-at-requires c κs = search needs
-
-cast-if1 : tie.Need-cast-if1
-cast-if1 c = search needs
-
 cast-t12 : tie.Need-cast-t12
 cast-t12 c =
     let pre = c .before .before .before .before .pre in
@@ -32,4 +23,4 @@ returns-2 c = field-unnoted _ _ _ _ _ (c .before .before .before .before .pre .3
 
 pub field-leaf-spec : {M : Type 1} → statement M
 field-leaf-spec =
-    tie.close (tie.spec word-at-requires link-at-requires cast-if1 cast-t12 returns returns-2)
+    tie.close (tie.spec (λ c κs. search needs) (λ c κs. search needs) (λ c. search needs) cast-t12 returns returns-2)

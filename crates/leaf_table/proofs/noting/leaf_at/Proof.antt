@@ -7,12 +7,6 @@ use borrow.Author.Needs.{needs}
 use Rattle.leaf_table.proofs.noting.leaf_at.Statement.{statement}
 use Rattle.leaf_table.proofs.noting.leaf_at.Tie as tie
 
-word-at-requires : tie.Need-word-at-requires
-word-at-requires c κs = search needs
-
-word-at-requires-2 : tie.Need-word-at-requires-2
-word-at-requires-2 c κs = search needs
-
 cast-t10 : tie.Need-cast-t10
 cast-t10 c = let l = token _ _ _ (c .before .before .word-at .ensures) (omega arith) in record { fits = omega (arith, c .before .before .before .before .pre .1) }
 
@@ -30,18 +24,12 @@ name-leaf-requires c κs =
     let p = c .before .before .before .before .pre in
     (p .0, p .1, token _ _ _ e (omega arith), sym e ∙ c .if2 .taken)
 
-returns-2 : tie.Need-returns-2
-returns-2 c = search needs
-
 field-leaf-requires : tie.Need-field-leaf-requires
 field-leaf-requires c κs =
     let pre = c .before .before .before .before .before .pre in
     let e = c .before .before .before .word-at .ensures in
     let p = pre in
     (p .0, p .1, token _ _ _ e (omega arith), inl (sym e ∙ c .if3 .taken, refl))
-
-returns-3 : tie.Need-returns-3
-returns-3 c = search needs
 
 field-leaf-requires-2 : tie.Need-field-leaf-requires-2
 field-leaf-requires-2 c κs =
@@ -50,12 +38,6 @@ field-leaf-requires-2 c κs =
     let p = pre in
     (p .0, p .1, token _ _ _ e (omega arith), inr (sym e ∙ c .if4 .taken, refl))
 
-returns-4 : tie.Need-returns-4
-returns-4 c = search needs
-
-level-of-requires : tie.Need-level-of-requires
-level-of-requires c κs = search needs
-
 returns-5 : tie.Need-returns-5
 returns-5 c = other-unnoted _ _ _ _ _ (c .before .before .before .before .before .word-at .ensures) (c .level-of .ensures)
 
@@ -63,16 +45,16 @@ pub leaf-at-spec : {M : Type 1} → statement M
 leaf-at-spec =
     tie.close
     (tie.spec
-    word-at-requires
-    word-at-requires-2
+    (λ c κs. search needs)
+    (λ c κs. search needs)
     cast-t10
     add-t11
     returns
     name-leaf-requires
-    returns-2
+    (λ c. search needs)
     field-leaf-requires
-    returns-3
+    (λ c. search needs)
     field-leaf-requires-2
-    returns-4
-    level-of-requires
+    (λ c. search needs)
+    (λ c κs. search needs)
     returns-5)

@@ -3,25 +3,10 @@ use borrow.Author.Needs.{needs}
 use Rattle.leaf_table.proofs.noting.name_leaf.Statement.{statement}
 use Rattle.leaf_table.proofs.noting.name_leaf.Tie as tie
 
-word-at-requires : tie.Need-word-at-requires
-word-at-requires c κs = search needs
-
-word-at-requires-2 : tie.Need-word-at-requires-2
-word-at-requires-2 c κs = search needs
-
-cast-next : tie.Need-cast-next
-cast-next c = search needs
-
-add-next : tie.Need-add-next
-add-next c = search needs
-
 returns : tie.Need-returns
 returns c =
     let s = c .before .before .before .before in
     constant-leaf _ _ _ _ _ (s .pre .3) (s .pre .2) (c .before .before .word-at .ensures) (c .before .word-at2 .ensures) (c .if1 .taken)
-
-cast-if3 : tie.Need-cast-if3
-cast-if3 c = search needs
 
 returns-2 : tie.Need-returns-2
 returns-2 c =
@@ -40,12 +25,12 @@ pub name-leaf-spec : {M : Type 1} → statement M
 name-leaf-spec =
     tie.close
     (tie.spec
-    word-at-requires
-    word-at-requires-2
-    cast-next
-    add-next
+    (λ c κs. search needs)
+    (λ c κs. search needs)
+    (λ c. search needs)
+    (λ c. search needs)
     returns
-    cast-if3
+    (λ c. search needs)
     returns-2
     returns-3
     returns-4)

@@ -4,20 +4,11 @@ use Rattle.leaf_table.proofs.ShapingLaws.{next-small, level-behind, non
 use Rattle.leaf_table.proofs.shaping.level_after.Statement.{statement}
 use Rattle.leaf_table.proofs.shaping.level_after.Tie as tie
 
-leaf-word-requires : tie.Need-leaf-word-requires
-leaf-word-requires c κs = search needs
-
 returns : tie.Need-returns
 returns c = none-behind _ _
 
 returns-2 : tie.Need-returns-2
 returns-2 c = none-behind _ _
-
-leaf-word-requires-2 : tie.Need-leaf-word-requires-2
-leaf-word-requires-2 c κs = search needs
-
-cast-leaf-word : tie.Need-cast-leaf-word
-cast-leaf-word c = search needs
 
 leaf-word-requires-3 : tie.Need-leaf-word-requires-3
 leaf-word-requires-3 c κs =
@@ -33,10 +24,10 @@ pub level-after-spec : {M : Type 1} → statement M
 level-after-spec =
     tie.close
     (tie.spec
-    leaf-word-requires
+    (λ c κs. search needs)
     returns
     returns-2
-    leaf-word-requires-2
-    cast-leaf-word
+    (λ c κs. search needs)
+    (λ c. search needs)
     leaf-word-requires-3
     returns-3)

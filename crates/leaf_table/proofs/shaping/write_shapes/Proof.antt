@@ -1,7 +1,7 @@
 use Prim.Native.Nat.{_+_, _-_, _≤_}
 use native.Mathlib.Omega.{arith}
 use borrow.Author.Needs.{needs}
-use Rattle.leaf_table.specs.Shaping.{Shaped}
+use Rattle.leaf_table.specs.Contracts.Shaping.{Shaped}
 use Rattle.leaf_table.proofs.ShapingLaws.{shaped-start, shaped-linked, shaped-more, shaped-done}
 use Rattle.leaf_table.proofs.shaping.write_shapes.Statement.{statement}
 use Rattle.leaf_table.proofs.shaping.write_shapes.Tie as tie
@@ -19,15 +19,6 @@ shape-at-requires : tie.Need-shape-at-requires Inv-loop μ-loop
 shape-at-requires c κs =
     let pre = c .before .before .before .pre in
     (pre .0, shaped-linked (c .before .before .loop .inv .0) (pre .1), c .before .loop-test .taken)
-
-write-shape-requires : tie.Need-write-shape-requires Inv-loop μ-loop
-write-shape-requires c κs = search needs
-
-add-p : tie.Need-add-p Inv-loop μ-loop
-add-p c = search needs
-
-loop-less : tie.Need-loop-less Inv-loop μ-loop
-loop-less c = search needs
 
 loop-again : tie.Need-loop-again Inv-loop μ-loop
 loop-again c =
@@ -47,8 +38,8 @@ write-shapes-spec =
     μ-loop
     loop-holds
     shape-at-requires
-    write-shape-requires
-    add-p
-    loop-less
+    (λ c κs. search needs)
+    (λ c. search needs)
+    (λ c. search needs)
     loop-again
     returns)

@@ -4,12 +4,6 @@ use borrow.Author.Needs.{needs}
 use Rattle.leaf_table.proofs.writing.is_moving.Statement.{statement}
 use Rattle.leaf_table.proofs.writing.is_moving.Tie as tie
 
-word-at-requires : tie.Need-word-at-requires
-word-at-requires c κs = search needs
-
-word-at-requires-2 : tie.Need-word-at-requires-2
-word-at-requires-2 c κs = search needs
-
 returns : tie.Need-returns
 returns c = moving-name (c .before .before .word-at .ensures) (c .before .if1 .taken) (c .word-at2 .ensures)
 
@@ -17,4 +11,4 @@ returns-2 : tie.Need-returns-2
 returns-2 c = let a = c .before .before .before .args in moving-other (c .before .word-at .ensures) (word-in (a .words .now) (a .n) 2 (a .at)) (c .if1 .left)
 
 pub is-moving-spec : {M : Type 1} → statement M
-is-moving-spec = tie.close (tie.spec word-at-requires word-at-requires-2 returns returns-2)
+is-moving-spec = tie.close (tie.spec (λ c κs. search needs) (λ c κs. search needs) returns returns-2)

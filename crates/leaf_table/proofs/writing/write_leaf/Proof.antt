@@ -4,18 +4,6 @@ use borrow.Author.Needs.{needs}
 use Rattle.leaf_table.proofs.writing.write_leaf.Statement.{statement}
 use Rattle.leaf_table.proofs.writing.write_leaf.Tie as tie
 
-leaf-at-requires : tie.Need-leaf-at-requires
-leaf-at-requires c κs = search needs
-
-write-offsets-requires : tie.Need-write-offsets-requires
-write-offsets-requires c κs = search needs
-
-write-words-requires : tie.Need-write-words-requires
-write-words-requires c κs = search needs
-
-same-length : tie.Need-same-length
-same-length c = search needs
-
 returns : tie.Need-returns
 returns c =
     let leaf-at-ensures = c .before .before .before .before .before .before .before .before .before .before .before .leaf-at .ensures in
@@ -23,24 +11,12 @@ returns c =
     written-near _ _ _ _ _ _ (c .before .before .write-words .ensures) write-offsets-ensures leaf-at-ensures
     (c .before .before .before .before .if2 .taken)
 
-write-words-requires-2 : tie.Need-write-words-requires-2
-write-words-requires-2 c κs = search needs
-
-same-length-2 : tie.Need-same-length-2
-same-length-2 c = search needs
-
 returns-2 : tie.Need-returns-2
 returns-2 c =
     let leaf-at-ensures = c .before .before .before .before .before .before .before .before .before .before .before .leaf-at .ensures in
     let write-offsets-ensures = c .before .before .before .before .before .before .before .write-offsets .ensures in
     let a = leaf-at-ensures in
     written-none _ _ _ _ _ _ (c .before .before .write-words2 .ensures) write-offsets-ensures refl (a .level) (a .operator)
-
-write-words-requires-3 : tie.Need-write-words-requires-3
-write-words-requires-3 c κs = search needs
-
-same-length-3 : tie.Need-same-length-3
-same-length-3 c = search needs
 
 returns-3 : tie.Need-returns-3
 returns-3 c =
@@ -51,14 +27,14 @@ pub write-leaf-spec : {M : Type 1} → statement M
 write-leaf-spec =
     tie.close
     (tie.spec
-    leaf-at-requires
-    write-offsets-requires
-    write-words-requires
-    same-length
+    (λ c κs. search needs)
+    (λ c κs. search needs)
+    (λ c κs. search needs)
+    (λ c. search needs)
     returns
-    write-words-requires-2
-    same-length-2
+    (λ c κs. search needs)
+    (λ c. search needs)
     returns-2
-    write-words-requires-3
-    same-length-3
+    (λ c κs. search needs)
+    (λ c. search needs)
     returns-3)

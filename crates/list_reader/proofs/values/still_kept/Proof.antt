@@ -16,12 +16,6 @@ returns c = search Kepts
 returns-2 : tie.Need-returns-2
 returns-2 c = search Kepts
 
-enum-told : tie.Need-enum-told
-enum-told c = search needs
-
-enum-known-v : tie.Need-enum-known-v
-enum-known-v c = search needs
-
 returns-3 : tie.Need-returns-3
 returns-3 c = search Kepts
 
@@ -33,4 +27,4 @@ returns-4 c =
     search Kepts
 
 pub still-kept-spec : {M : Type 1} → statement M
-still-kept-spec = tie.close (tie.spec returns returns-2 enum-told enum-known-v returns-3 returns-4)
+still-kept-spec = tie.close (tie.spec returns returns-2 (λ c. search needs) (λ c. search needs) returns-3 returns-4)

@@ -4,15 +4,6 @@ use borrow.Author.Needs.{needs}
 use Rattle.list_writer.proofs.admitting.admit_both.Statement.{statement}
 use Rattle.list_writer.proofs.admitting.admit_both.Tie as tie
 
-admit-grid-requires : tie.Need-admit-grid-requires
-admit-grid-requires c κs = search needs
-
-admit-grid-requires-2 : tie.Need-admit-grid-requires-2
-admit-grid-requires-2 c κs = search needs
-
-lower-of-requires : tie.Need-lower-of-requires
-lower-of-requires c κs = search needs
-
 returns : tie.Need-returns
 returns c =
     let o = c .before in
@@ -22,4 +13,4 @@ returns c =
 
 pub admit-both-spec : {M : Type 1} → statement M
 admit-both-spec =
-    tie.close (tie.spec admit-grid-requires admit-grid-requires-2 lower-of-requires returns)
+    tie.close (tie.spec (λ c κs. search needs) (λ c κs. search needs) (λ c κs. search needs) returns)

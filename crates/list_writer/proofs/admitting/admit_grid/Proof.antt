@@ -4,11 +4,8 @@ use borrow.Author.Needs.{needs}
 use Rattle.list_writer.proofs.admitting.admit_grid.Statement.{statement}
 use Rattle.list_writer.proofs.admitting.admit_grid.Tie as tie
 
-admit-requires : tie.Need-admit-requires
-admit-requires c κs = search needs
-
 returns : tie.Need-returns
 returns c = admits-grid (c .before .before .before .fits .time) (c .admit .ensures)
 
 pub admit-grid-spec : {M : Type 1} → statement M
-admit-grid-spec = tie.close (tie.spec admit-requires returns)
+admit-grid-spec = tie.close (tie.spec (λ c κs. search needs) returns)

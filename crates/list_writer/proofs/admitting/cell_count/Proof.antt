@@ -4,14 +4,8 @@ use borrow.Author.Needs.{needs}
 use Rattle.list_writer.proofs.admitting.cell_count.Statement.{statement}
 use Rattle.list_writer.proofs.admitting.cell_count.Tie as tie
 
-returns : tie.Need-returns
-returns c = search needs
-
-cells-requires : tie.Need-cells-requires
-cells-requires c κs = search needs
-
 returns-2 : tie.Need-returns-2
 returns-2 c = counts-cells _ (c .cells .ensures)
 
 pub cell-count-spec : {M : Type 1} → statement M
-cell-count-spec = tie.close (tie.spec returns cells-requires returns-2)
+cell-count-spec = tie.close (tie.spec (λ c. search needs) (λ c κs. search needs) returns-2)

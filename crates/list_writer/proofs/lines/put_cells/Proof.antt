@@ -25,24 +25,12 @@ put-changed-requires c κs =
     let s = c .before .before .before .before .before .before .before in
     (s .pre .0, search needs, search needs, omega (arith, s .pre .0 .cells))
 
-add-c : tie.Need-add-c Inv-loop μ-loop
-add-c c = search needs
-
-loop-less : tie.Need-loop-less Inv-loop μ-loop
-loop-less c = search needs
-
 loop-again : tie.Need-loop-again Inv-loop μ-loop
 loop-again c =
     let o = c .before .before .before .before in
     let p = o .before .before .before .before in
     let s = p .before .before .before .before in
     (cells-again (s .args .sizes .now) (s .args .fields) (some (s .args .flag)) (s .args .earlier .now) (s .args .later .now) (p .loop .c) (p .loop .inv .0) (o .put-changed .ensures), search needs, omega (arith, o .put-changed .ensures .end, changed-length (s .pre .0) {c = p .loop .c} (search needs) (some (s .args .flag))), search needs, search needs)
-
-same-length : tie.Need-same-length Inv-loop μ-loop
-same-length c = search needs
-
-same-length-2 : tie.Need-same-length-2 Inv-loop μ-loop
-same-length-2 c = search needs
 
 returns : tie.Need-returns Inv-loop μ-loop
 returns c =
@@ -58,9 +46,9 @@ put-cells-spec =
     μ-loop
     loop-holds
     put-changed-requires
-    add-c
-    loop-less
+    (λ c. search needs)
+    (λ c. search needs)
     loop-again
-    same-length
-    same-length-2
+    (λ c. search needs)
+    (λ c. search needs)
     returns)

@@ -15,12 +15,6 @@ returns c =
     let s = o .before .before .before .before in
     same-put (s .pre .0) (s .pre .2) (some (s .args .flag)) (o .differs .ensures) (c .if1 .taken) _ _
 
-cast-set-place : tie.Need-cast-set-place
-cast-set-place c = search needs
-
-set-place-requires : tie.Need-set-place-requires
-set-place-requires c κs = search needs
-
 mul-from : tie.Need-mul-from
 mul-from c =
     let s = c .before .before .before .before .before .before .before .before .before in
@@ -36,25 +30,10 @@ mul-put-line c =
     let s = c .before .before .before .before .before .before .before .before .before .before .before in
     omega (arith, changed-within (s .pre .0) (s .pre .2))
 
-sub-put-line : tie.Need-sub-put-line
-sub-put-line c = search needs
-
-part-put-line-start : tie.Need-part-put-line-start
-part-put-line-start c = search needs
-
 part-put-line-end : tie.Need-part-put-line-end
 part-put-line-end c =
     let s = c .before .before .before .before .before .before .before .before .before .before .before in
     omega (arith, changed-within (s .pre .0) (s .pre .2))
-
-put-line-requires : tie.Need-put-line-requires
-put-line-requires c κs = search needs
-
-same-length : tie.Need-same-length
-same-length c = search needs
-
-same-length-2 : tie.Need-same-length-2
-same-length-2 c = search needs
 
 returns-2 : tie.Need-returns-2
 returns-2 c =
@@ -71,15 +50,15 @@ put-changed-spec =
     (tie.spec
     differs-requires
     returns
-    cast-set-place
-    set-place-requires
+    (λ c. search needs)
+    (λ c κs. search needs)
     mul-from
     add-end
     mul-put-line
-    sub-put-line
-    part-put-line-start
+    (λ c. search needs)
+    (λ c. search needs)
     part-put-line-end
-    put-line-requires
-    same-length
-    same-length-2
+    (λ c κs. search needs)
+    (λ c. search needs)
+    (λ c. search needs)
     returns-2)

@@ -7,12 +7,6 @@ use borrow.Author.Needs.{needs}
 use Rattle.list_writer.proofs.lines.put_line.Statement.{statement}
 use Rattle.list_writer.proofs.lines.put_line.Tie as tie
 
-put-byte-requires : tie.Need-put-byte-requires
-put-byte-requires c κs = search needs
-
-put-numbers-requires : tie.Need-put-numbers-requires
-put-numbers-requires c κs = search needs
-
 put-between-requires : tie.Need-put-between-requires
 put-between-requires c κs =
     let s = c .before .before .before .before .before .before .before .before .before .before .before in
@@ -28,9 +22,6 @@ put-byte-requires-2 c κs =
     let s = c .before .before .before .before .before .before .before .before .before .before .before .before .before .before .before .before .before .before .before in
     omega (arith, numbers-length (s .args .place .now) (s .pre .0), values-length (some (s .args .flag)) (s .args .values .now) (s .pre .1))
 
-same-length : tie.Need-same-length
-same-length c = search needs
-
 returns : tie.Need-returns
 returns c =
     let o = c .before .before in
@@ -45,10 +36,10 @@ pub put-line-spec : {M : Type 1} → statement M
 put-line-spec =
     tie.close
     (tie.spec
-    put-byte-requires
-    put-numbers-requires
+    (λ c κs. search needs)
+    (λ c κs. search needs)
     put-between-requires
     put-values-requires
     put-byte-requires-2
-    same-length
+    (λ c. search needs)
     returns)

@@ -8,17 +8,11 @@ use borrow.Author.Needs.{needs}
 use Rattle.list_writer.proofs.lines.put_list.Statement.{statement}
 use Rattle.list_writer.proofs.lines.put_list.Tie as tie
 
-put-digits-requires : tie.Need-put-digits-requires
-put-digits-requires c κs = search needs
-
 put-byte-requires : tie.Need-put-byte-requires
 put-byte-requires c κs =
     let o = c .before .before .before in
     let s = o .before .before .before .before in
     omega (arith, number-put (s .fits .time .fits) (o .put-digits .ensures) .end, digits-length 9 (s .args .time))
-
-array-borrow-prefix-place : tie.Need-array-borrow-prefix-place
-array-borrow-prefix-place c = search needs
 
 slice-aggregate-put-cells : tie.Need-slice-aggregate-put-cells
 slice-aggregate-put-cells c = sym (place-fits (c .before .before .before .before .before .before .before .before .before .before .before .before .pre .0) _ refl)
@@ -29,9 +23,6 @@ put-cells-requires c κs =
     let p = o .before .before .before .before in
     let s = p .before .before .before .before in
     (s .pre .0, place-fits (s .pre .0) _ refl, s .pre .1, omega (arith, number-put (s .fits .time .fits) (p .put-digits .ensures) .end, o .put-byte .ensures .end, digits-length 9 (s .args .time)))
-
-same-length : tie.Need-same-length
-same-length c = search needs
 
 returns : tie.Need-returns
 returns c =
@@ -45,10 +36,10 @@ pub put-list-spec : {M : Type 1} → statement M
 put-list-spec =
     tie.close
     (tie.spec
-    put-digits-requires
+    (λ c κs. search needs)
     put-byte-requires
-    array-borrow-prefix-place
+    (λ c. search needs)
     slice-aggregate-put-cells
     put-cells-requires
-    same-length
+    (λ c. search needs)
     returns)

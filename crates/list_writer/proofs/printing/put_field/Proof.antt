@@ -6,12 +6,6 @@ use Rattle.list_writer.proofs.PrintingLaws.{field-plain, field-missing,
 use Rattle.list_writer.proofs.printing.put_field.Statement.{statement}
 use Rattle.list_writer.proofs.printing.put_field.Tie as tie
 
-put-value-requires : tie.Need-put-value-requires
-put-value-requires c κs = search needs
-
-same-length : tie.Need-same-length
-same-length c = search needs
-
 returns : tie.Need-returns
 returns c =
     let o = c .before .before in
@@ -25,12 +19,6 @@ returns-2 c =
     let s = o .before .before in
     field-missing (s .args .flag) (s .args .z) (o .if1 .left) (zero-yes w32 (s .args .z) (s .fits .z) (c .if2 .taken)) _ _
 
-put-value-requires-2 : tie.Need-put-value-requires-2
-put-value-requires-2 c κs = search needs
-
-same-length-2 : tie.Need-same-length-2
-same-length-2 c = search needs
-
 returns-3 : tie.Need-returns-3
 returns-3 c =
     let o = c .before .before in
@@ -43,10 +31,10 @@ pub put-field-spec : {M : Type 1} → statement M
 put-field-spec =
     tie.close
     (tie.spec
-    put-value-requires
-    same-length
+    (λ c κs. search needs)
+    (λ c. search needs)
     returns
     returns-2
-    put-value-requires-2
-    same-length-2
+    (λ c κs. search needs)
+    (λ c. search needs)
     returns-3)

@@ -27,24 +27,12 @@ put-separator-requires c κs =
     let s = o .before .before .before in
     omega (arith, listed-bound print-number 0 (s .args .numbers .now) 10 (digits-length 9) (o .loop .inv .1) (o .loop .inv .0))
 
-mul-put-digits : tie.Need-mul-put-digits Inv-loop μ-loop
-mul-put-digits c = search needs
-
-shared-slice-read-put-digits : tie.Need-shared-slice-read-put-digits Inv-loop μ-loop
-shared-slice-read-put-digits c = search needs
-
 put-digits-requires : tie.Need-put-digits-requires Inv-loop μ-loop
 put-digits-requires c κs =
     let o = c .before .before .before .before in
     let p = o .before .before .before in
     let s = p .before .before .before in
     omega (arith, listed-bound print-number 0 (s .args .numbers .now) 10 (digits-length 9) (p .loop .inv .1) (p .loop .inv .0), o .put-separator .ensures .end, separator-length (p .loop .k))
-
-add-k : tie.Need-add-k Inv-loop μ-loop
-add-k c = search needs
-
-loop-less : tie.Need-loop-less Inv-loop μ-loop
-loop-less c = search needs
 
 loop-again : tie.Need-loop-again Inv-loop μ-loop
 loop-again c =
@@ -55,9 +43,6 @@ loop-again c =
     let t = r .before in
     let s = t .before .before .before in
     (listed-again print-number 0 (s .args .numbers .now) (t .loop .k) (r .loop-test .taken) (t .loop .inv .0) (q .put-separator .ensures) (number-put (omega (arith, p .shared-slice-known2 .given (t .loop .k))) (o .put-digits .ensures)), search needs, search needs)
-
-same-length : tie.Need-same-length Inv-loop μ-loop
-same-length c = search needs
 
 returns : tie.Need-returns Inv-loop μ-loop
 returns c =
@@ -73,11 +58,11 @@ put-numbers-spec =
     μ-loop
     loop-holds
     put-separator-requires
-    mul-put-digits
-    shared-slice-read-put-digits
+    (λ c. search needs)
+    (λ c. search needs)
     put-digits-requires
-    add-k
-    loop-less
+    (λ c. search needs)
+    (λ c. search needs)
     loop-again
-    same-length
+    (λ c. search needs)
     returns)

@@ -7,15 +7,6 @@ use Rattle.list_writer.proofs.printing.put_separator.Tie as tie
 returns : tie.Need-returns
 returns c = separator-none (c .if1 .taken) _ _
 
-put-byte-requires : tie.Need-put-byte-requires
-put-byte-requires c κs = search needs
-
-put-byte-requires-2 : tie.Need-put-byte-requires-2
-put-byte-requires-2 c κs = search needs
-
-same-length : tie.Need-same-length
-same-length c = search needs
-
 returns-2 : tie.Need-returns-2
 returns-2 c =
     let o = c .before .before in
@@ -25,4 +16,4 @@ returns-2 c =
 
 pub put-separator-spec : {M : Type 1} → statement M
 put-separator-spec =
-    tie.close (tie.spec returns put-byte-requires put-byte-requires-2 same-length returns-2)
+    tie.close (tie.spec returns (λ c κs. search needs) (λ c κs. search needs) (λ c. search needs) returns-2)

@@ -4,15 +4,6 @@ use borrow.Author.Needs.{needs}
 use Rattle.list_writer.proofs.printing.put_value.Statement.{statement}
 use Rattle.list_writer.proofs.printing.put_value.Tie as tie
 
-encode-requires : tie.Need-encode-requires
-encode-requires c κs = search needs
-
-put-word-requires : tie.Need-put-word-requires
-put-word-requires c κs = search needs
-
-same-length : tie.Need-same-length
-same-length c = search needs
-
 returns : tie.Need-returns
 returns c =
     let o = c .before .before in
@@ -21,4 +12,4 @@ returns c =
     value-put (s .fits .z) (p .encode .ensures) (o .put-word .ensures)
 
 pub put-value-spec : {M : Type 1} → statement M
-put-value-spec = tie.close (tie.spec encode-requires put-word-requires same-length returns)
+put-value-spec = tie.close (tie.spec (λ c κs. search needs) (λ c κs. search needs) (λ c. search needs) returns)

@@ -29,24 +29,12 @@ put-separator-requires c κs =
     let s = o .before .before in
     omega (arith, fields-bound (s .args .flag) (s .args .values .now) (o .loop .inv .1) (o .loop .inv .0))
 
-mul-put-field : tie.Need-mul-put-field Inv-loop μ-loop
-mul-put-field c = search needs
-
-shared-slice-copy-out-put-field : tie.Need-shared-slice-copy-out-put-field Inv-loop μ-loop
-shared-slice-copy-out-put-field c = search needs
-
 put-field-requires : tie.Need-put-field-requires Inv-loop μ-loop
 put-field-requires c κs =
     let o = c .before .before .before .before in
     let p = o .before .before .before in
     let s = p .before .before in
     omega (arith, fields-bound (s .args .flag) (s .args .values .now) (p .loop .inv .1) (p .loop .inv .0), o .put-separator .ensures .end, separator-length (p .loop .k))
-
-add-k : tie.Need-add-k Inv-loop μ-loop
-add-k c = search needs
-
-loop-less : tie.Need-loop-less Inv-loop μ-loop
-loop-less c = search needs
 
 loop-again : tie.Need-loop-again Inv-loop μ-loop
 loop-again c =
@@ -56,9 +44,6 @@ loop-again c =
     let r = q .before in
     let s = r .before .before in
     (fields-again (s .args .flag) (s .args .values .now) (r .loop .k) (q .loop-test .taken) (r .loop .inv .0) (p .put-separator .ensures) (field-read (eqb (r .loop .k) (s .args .flag)) (getD (s .args .values .now) (r .loop .k) (pos 0)) (search needs) (o .put-field .ensures)), search needs, search needs)
-
-same-length : tie.Need-same-length Inv-loop μ-loop
-same-length c = search needs
 
 returns : tie.Need-returns Inv-loop μ-loop
 returns c =
@@ -74,11 +59,11 @@ put-values-spec =
     μ-loop
     loop-holds
     put-separator-requires
-    mul-put-field
-    shared-slice-copy-out-put-field
+    (λ c. search needs)
+    (λ c. search needs)
     put-field-requires
-    add-k
-    loop-less
+    (λ c. search needs)
+    (λ c. search needs)
     loop-again
-    same-length
+    (λ c. search needs)
     returns)

@@ -25,9 +25,6 @@ loop-holds c =
     let n = c .next-marked .ensures in
     (half-skip _ _ _ _ _ 0 _ (half-start _ _ _ _) n, half-skip _ _ _ _ _ 0 _ (half-start _ _ _ _) n, n .within, n .found)
 
-run-end-requires : tie.Need-run-end-requires Inv-loop μ-loop
-run-end-requires c κs = search needs
-
 mul-exchange-part : tie.Need-mul-exchange-part Inv-loop μ-loop
 mul-exchange-part c =
     let e = c .before .before .run-end .ensures in
@@ -85,7 +82,7 @@ exchange-marked-spec =
     μ-loop
     next-marked-requires
     loop-holds
-    run-end-requires
+    (λ c κs. search needs)
     mul-exchange-part
     mul-exchange-part-2
     exchange-part-requires

@@ -1,7 +1,7 @@
 use Prim.Native.Nat.{_-_, _≤_}
 use native.Mathlib.Omega.{arith}
 use borrow.Author.Needs.{needs}
-use Rattle.marked_cells.specs.Marked.{Swapped}
+use Rattle.marked_cells.specs.Contracts.Marked.{Swapped}
 use Rattle.marked_cells.proofs.ExchangeLaws.{swap-start, swap-more, swap-end}
 use Rattle.marked_cells.proofs.exchange.exchange_part.Statement.{statement}
 use Rattle.marked_cells.proofs.exchange.exchange_part.Tie as tie
@@ -14,33 +14,6 @@ abbrev μ-loop : tie.MeasureT-loop
 
 loop-holds : tie.Need-loop-holds Inv-loop μ-loop
 loop-holds c = (swap-start _ _ _, swap-start _ _ _, omega arith, omega arith)
-
-mul-x : tie.Need-mul-x Inv-loop μ-loop
-mul-x c = search needs
-
-slice-copy-out-x : tie.Need-slice-copy-out-x Inv-loop μ-loop
-slice-copy-out-x c = search needs
-
-mul-y : tie.Need-mul-y Inv-loop μ-loop
-mul-y c = search needs
-
-slice-copy-out-y : tie.Need-slice-copy-out-y Inv-loop μ-loop
-slice-copy-out-y c = search needs
-
-mul-y-2 : tie.Need-mul-y-2 Inv-loop μ-loop
-mul-y-2 c = search needs
-
-slice-set-from-y : tie.Need-slice-set-from-y Inv-loop μ-loop
-slice-set-from-y c = search needs
-
-mul-x-2 : tie.Need-mul-x-2 Inv-loop μ-loop
-mul-x-2 c = search needs
-
-slice-set-from-x : tie.Need-slice-set-from-x Inv-loop μ-loop
-slice-set-from-x c = search needs
-
-add-i : tie.Need-add-i Inv-loop μ-loop
-add-i c = search needs
 
 loop-less : tie.Need-loop-less Inv-loop μ-loop
 loop-less c = omega arith
@@ -72,15 +45,15 @@ exchange-part-spec =
     Inv-loop
     μ-loop
     loop-holds
-    mul-x
-    slice-copy-out-x
-    mul-y
-    slice-copy-out-y
-    mul-y-2
-    slice-set-from-y
-    mul-x-2
-    slice-set-from-x
-    add-i
+    (λ c. search needs)
+    (λ c. search needs)
+    (λ c. search needs)
+    (λ c. search needs)
+    (λ c. search needs)
+    (λ c. search needs)
+    (λ c. search needs)
+    (λ c. search needs)
+    (λ c. search needs)
     loop-less
     loop-again
     same-length

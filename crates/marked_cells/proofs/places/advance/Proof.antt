@@ -14,21 +14,6 @@ abbrev μ-loop : tie.MeasureT-loop
 loop-holds : tie.Need-loop-holds Inv-loop μ-loop
 loop-holds c = carry-start _ _ (c .pre)
 
-sub-k : tie.Need-sub-k Inv-loop μ-loop
-sub-k c = search needs
-
-mul-size : tie.Need-mul-size Inv-loop μ-loop
-mul-size c = search needs
-
-shared-slice-read-size : tie.Need-shared-slice-read-size Inv-loop μ-loop
-shared-slice-read-size c = search needs
-
-mul-up : tie.Need-mul-up Inv-loop μ-loop
-mul-up c = search needs
-
-slice-read-up : tie.Need-slice-read-up Inv-loop μ-loop
-slice-read-up c = search needs
-
 add-up : tie.Need-add-up Inv-loop μ-loop
 add-up c =
     let l = c .before .before .before .loop in
@@ -36,32 +21,14 @@ add-up c =
     let s = c .before .shared-slice-known .given (l .k - 1) in
     search needs
 
-mul-place : tie.Need-mul-place Inv-loop μ-loop
-mul-place c = search needs
-
-slice-write-place : tie.Need-slice-write-place Inv-loop μ-loop
-slice-write-place c = search needs
-
-same-length : tie.Need-same-length Inv-loop μ-loop
-same-length c = search needs
-
 returns : tie.Need-returns Inv-loop μ-loop
 returns c = carry-stop _ _ _ _ (c .before .before .before .before .loop .inv) (c .before .before .before .loop-test .taken) (c .if1 .taken)
-
-mul-place-2 : tie.Need-mul-place-2 Inv-loop μ-loop
-mul-place-2 c = search needs
-
-slice-write-place-2 : tie.Need-slice-write-place-2 Inv-loop μ-loop
-slice-write-place-2 c = search needs
 
 loop-less : tie.Need-loop-less Inv-loop μ-loop
 loop-less c = omega arith
 
 loop-again : tie.Need-loop-again Inv-loop μ-loop
 loop-again c = carry-more _ _ _ _ (c .before .before .before .before .loop .inv) (c .before .before .before .loop-test .taken) (c .if1 .left)
-
-same-length-2 : tie.Need-same-length-2 Inv-loop μ-loop
-same-length-2 c = search needs
 
 returns-2 : tie.Need-returns-2 Inv-loop μ-loop
 returns-2 c = carry-end _ _ _ _ (c .before .loop .inv) (c .loop-test .left)
@@ -73,19 +40,19 @@ advance-spec =
     Inv-loop
     μ-loop
     loop-holds
-    sub-k
-    mul-size
-    shared-slice-read-size
-    mul-up
-    slice-read-up
+    (λ c. search needs)
+    (λ c. search needs)
+    (λ c. search needs)
+    (λ c. search needs)
+    (λ c. search needs)
     add-up
-    mul-place
-    slice-write-place
-    same-length
+    (λ c. search needs)
+    (λ c. search needs)
+    (λ c. search needs)
     returns
-    mul-place-2
-    slice-write-place-2
+    (λ c. search needs)
+    (λ c. search needs)
     loop-less
     loop-again
-    same-length-2
+    (λ c. search needs)
     returns-2)

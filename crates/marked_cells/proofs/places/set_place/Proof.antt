@@ -14,23 +14,8 @@ abbrev μ-loop : tie.MeasureT-loop
 loop-holds : tie.Need-loop-holds Inv-loop μ-loop
 loop-holds c = walk-start _ _ _ (search needs)
 
-sub-k : tie.Need-sub-k Inv-loop μ-loop
-sub-k c = search needs
-
-mul-size : tie.Need-mul-size Inv-loop μ-loop
-mul-size c = search needs
-
-shared-slice-read-size : tie.Need-shared-slice-read-size Inv-loop μ-loop
-shared-slice-read-size c = search needs
-
 rem-place : tie.Need-rem-place Inv-loop μ-loop
 rem-place c = positive-at (c .before .before .before .args .sizes .now) (c .before .before .loop .k - 1) (c .before .before .before .pre .positive) (search needs)
-
-mul-place : tie.Need-mul-place Inv-loop μ-loop
-mul-place c = search needs
-
-slice-write-place : tie.Need-slice-write-place Inv-loop μ-loop
-slice-write-place c = search needs
 
 div-rest : tie.Need-div-rest Inv-loop μ-loop
 div-rest c = positive-at (c .before .before .before .args .sizes .now) (c .before .before .loop .k - 1) (c .before .before .before .pre .positive) (search needs)
@@ -40,9 +25,6 @@ loop-less c = omega arith
 
 loop-again : tie.Need-loop-again Inv-loop μ-loop
 loop-again c = walk-more _ _ _ _ _ (c .before .before .loop .inv) (c .before .loop-test .taken) (c .before .before .before .pre .positive)
-
-same-length : tie.Need-same-length Inv-loop μ-loop
-same-length c = search needs
 
 returns : tie.Need-returns Inv-loop μ-loop
 returns c = walk-end _ _ _ _ _ (c .before .loop .inv) (c .loop-test .left)
@@ -54,14 +36,14 @@ set-place-spec =
     Inv-loop
     μ-loop
     loop-holds
-    sub-k
-    mul-size
-    shared-slice-read-size
+    (λ c. search needs)
+    (λ c. search needs)
+    (λ c. search needs)
     rem-place
-    mul-place
-    slice-write-place
+    (λ c. search needs)
+    (λ c. search needs)
     div-rest
     loop-less
     loop-again
-    same-length
+    (λ c. search needs)
     returns)

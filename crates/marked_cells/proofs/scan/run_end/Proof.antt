@@ -3,7 +3,7 @@ use mathlib.Core.Path.{_≡_, refl}
 use lib.ListN.{length}
 use native.Mathlib.Omega.{arith}
 use borrow.Author.Needs.{needs}
-use Rattle.marked_cells.specs.Marked.{MarkedUpTo}
+use Rattle.marked_cells.specs.Contracts.Marked.{MarkedUpTo}
 use Rattle.marked_cells.proofs.ScanLaws.{run-start, run-more}
 use Rattle.marked_cells.proofs.scan.run_end.Statement.{statement}
 use Rattle.marked_cells.proofs.scan.run_end.Tie as tie
@@ -14,20 +14,11 @@ Inv-loop marks from cells at₀ at = MarkedUpTo marks from at × (cells ≡ leng
 abbrev μ-loop : tie.MeasureT-loop
 μ-loop marks from cells at₀ at = cells - at
 
-add-at : tie.Need-add-at Inv-loop μ-loop
-add-at c = search needs
-
 loop-holds : tie.Need-loop-holds Inv-loop μ-loop
 loop-holds c = (run-start _ _ (search needs), search needs)
 
-shared-slice-read-if1 : tie.Need-shared-slice-read-if1 Inv-loop μ-loop
-shared-slice-read-if1 c = search needs
-
 returns : tie.Need-returns Inv-loop μ-loop
 returns c = c .before .before .before .loop .inv .0
-
-add-at-2 : tie.Need-add-at-2 Inv-loop μ-loop
-add-at-2 c = search needs
 
 loop-less : tie.Need-loop-less Inv-loop μ-loop
 loop-less c = omega arith
@@ -44,11 +35,11 @@ run-end-spec =
     (tie.spec
     Inv-loop
     μ-loop
-    add-at
+    (λ c. search needs)
     loop-holds
-    shared-slice-read-if1
+    (λ c. search needs)
     returns
-    add-at-2
+    (λ c. search needs)
     loop-less
     loop-again
     returns-2)

@@ -3,7 +3,7 @@ use mathlib.Core.Path.{_≡_, refl}
 use native.Mathlib.Omega.{arith}
 use lib.ListN.{length}
 use borrow.Author.Needs.{needs}
-use Rattle.marked_cells.specs.Clear.{Clear}
+use Rattle.marked_cells.specs.Contracts.Clear.{Clear}
 use Rattle.marked_cells.proofs.ClearLaws.{clear-start, clear-more}
 use Rattle.marked_cells.proofs.skipping.skip_clear.Statement.{statement}
 use Rattle.marked_cells.proofs.skipping.skip_clear.Tie as tie
@@ -26,9 +26,6 @@ eight-sum-requires c κs = omega (arith, c .before .loop .inv .0 .within)
 returns : tie.Need-returns Inv-loop μ-loop
 returns c = c .before .before .before .loop .inv .0
 
-add-at : tie.Need-add-at Inv-loop μ-loop
-add-at c = search needs
-
 loop-less : tie.Need-loop-less Inv-loop μ-loop
 loop-less c = omega arith
 
@@ -48,7 +45,7 @@ skip-clear-spec =
     sub-loop
     eight-sum-requires
     returns
-    add-at
+    (λ c. search needs)
     loop-less
     loop-again
     returns-2)

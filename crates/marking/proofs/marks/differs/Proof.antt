@@ -12,28 +12,13 @@ Inv-loop old grid fields c from k₀ k = (k ≤ fields) × (from ≡ c * fields)
 abbrev μ-loop : tie.MeasureT-loop
 μ-loop old grid fields c from k₀ k = fields - k
 
-mul-from : tie.Need-mul-from Inv-loop μ-loop
-mul-from c = search needs
-
 loop-holds : tie.Need-loop-holds Inv-loop μ-loop
 loop-holds c = (omega arith, refl, same-start _ _ _)
-
-add-entry-differs : tie.Need-add-entry-differs Inv-loop μ-loop
-add-entry-differs c = search needs
-
-entry-differs-requires : tie.Need-entry-differs-requires Inv-loop μ-loop
-entry-differs-requires c κs = search needs
 
 returns : tie.Need-returns Inv-loop μ-loop
 returns c =
     let l = c .before .before .before .loop in
     differs-here _ _ _ _ _ (l .k) (l .inv .1) (c .before .before .loop-test .taken) (c .before .entry-differs .ensures) (c .if1 .taken)
-
-add-k : tie.Need-add-k Inv-loop μ-loop
-add-k c = search needs
-
-loop-less : tie.Need-loop-less Inv-loop μ-loop
-loop-less c = search needs
 
 loop-again : tie.Need-loop-again Inv-loop μ-loop
 loop-again c =
@@ -49,12 +34,12 @@ differs-spec =
     (tie.spec
     Inv-loop
     μ-loop
-    mul-from
+    (λ c. search needs)
     loop-holds
-    add-entry-differs
-    entry-differs-requires
+    (λ c. search needs)
+    (λ c κs. search needs)
     returns
-    add-k
-    loop-less
+    (λ c. search needs)
+    (λ c. search needs)
     loop-again
     returns-2)

@@ -8,18 +8,6 @@ use borrow.Author.Needs.{needs}
 use Rattle.marking.proofs.marks.entry_differs.Statement.{statement}
 use Rattle.marking.proofs.marks.entry_differs.Tie as tie
 
-mul-x : tie.Need-mul-x
-mul-x c = search needs
-
-shared-slice-copy-out-x : tie.Need-shared-slice-copy-out-x
-shared-slice-copy-out-x c = search needs
-
-mul-y : tie.Need-mul-y
-mul-y c = search needs
-
-shared-slice-copy-out-y : tie.Need-shared-slice-copy-out-y
-shared-slice-copy-out-y c = search needs
-
 returns : tie.Need-returns
 returns c =
     let s = c .before .before in
@@ -29,4 +17,4 @@ returns c =
 
 pub entry-differs-spec : {M : Type 1} → statement M
 entry-differs-spec =
-    tie.close (tie.spec mul-x shared-slice-copy-out-x mul-y shared-slice-copy-out-y returns)
+    tie.close (tie.spec (λ c. search needs) (λ c. search needs) (λ c. search needs) (λ c. search needs) returns)

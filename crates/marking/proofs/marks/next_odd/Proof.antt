@@ -2,7 +2,7 @@ use Prim.Native.Nat.{_≤_, _-_}
 use mathlib.Core.Path.{_≡_, refl}
 use native.Mathlib.Omega.{arith}
 use lib.ListN.{length}
-use Rattle.marking.specs.Noting.{NextOdd}
+use Rattle.marking.specs.Contracts.Noting.{NextOdd}
 use Rattle.marking.proofs.MarkLaws.{next-start, next-more}
 use borrow.Author.Needs.{needs}
 use Rattle.marking.proofs.marks.next_odd.Statement.{statement}
@@ -17,18 +17,6 @@ abbrev μ-loop : tie.MeasureT-loop
 loop-holds : tie.Need-loop-holds Inv-loop μ-loop
 loop-holds c = (search needs, refl, next-start _ _ (search needs))
 
-shared-slice-read-if1 : tie.Need-shared-slice-read-if1 Inv-loop μ-loop
-shared-slice-read-if1 c = search needs
-
-returns : tie.Need-returns Inv-loop μ-loop
-returns c = search needs
-
-add-skip-clear : tie.Need-add-skip-clear Inv-loop μ-loop
-add-skip-clear c = search needs
-
-skip-clear-requires : tie.Need-skip-clear-requires Inv-loop μ-loop
-skip-clear-requires c κs = search needs
-
 loop-less : tie.Need-loop-less Inv-loop μ-loop
 loop-less c = omega (arith, c .skip-clear .ensures .onward)
 
@@ -38,9 +26,6 @@ loop-again c =
     let k = c .skip-clear .ensures in
     (omega (arith, k .within, l .inv .1), l .inv .1, next-more _ _ (l .c) (l .inv .2) (omega (arith, l .inv .1)) (c .before .if1 .left) k)
 
-returns-2 : tie.Need-returns-2 Inv-loop μ-loop
-returns-2 c = search needs
-
 pub next-odd-spec : {M : Type 1} → statement M
 next-odd-spec =
     tie.close
@@ -48,10 +33,10 @@ next-odd-spec =
     Inv-loop
     μ-loop
     loop-holds
-    shared-slice-read-if1
-    returns
-    add-skip-clear
-    skip-clear-requires
+    (λ c. search needs)
+    (λ c. search needs)
+    (λ c. search needs)
+    (λ c κs. search needs)
     loop-less
     loop-again
-    returns-2)
+    (λ c. search needs))

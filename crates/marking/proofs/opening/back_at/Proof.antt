@@ -4,24 +4,9 @@ use borrow.Author.Needs.{needs}
 use Rattle.marking.proofs.opening.back_at.Statement.{statement}
 use Rattle.marking.proofs.opening.back_at.Tie as tie
 
-wide-requires : tie.Need-wide-requires
-wide-requires c κs = search needs
-
-returns : tie.Need-returns
-returns c = search needs
-
-wide-requires-2 : tie.Need-wide-requires-2
-wide-requires-2 c κs = search needs
-
-returns-2 : tie.Need-returns-2
-returns-2 c = search needs
-
-wide-requires-3 : tie.Need-wide-requires-3
-wide-requires-3 c κs = search needs
-
 returns-3 : tie.Need-returns-3
 returns-3 c = c .wide3 .ensures ∙ last-back _ _ (c .before .before .if1 .left) (c .before .if2 .left)
 
 pub back-at-spec : {M : Type 1} → statement M
 back-at-spec =
-    tie.close (tie.spec wide-requires returns wide-requires-2 returns-2 wide-requires-3 returns-3)
+    tie.close (tie.spec (λ c κs. search needs) (λ c. search needs) (λ c κs. search needs) (λ c. search needs) (λ c κs. search needs) returns-3)

@@ -16,37 +16,10 @@ abbrev μ-loop : tie.MeasureT-loop
 loop-holds : tie.Need-loop-holds Inv-loop μ-loop
 loop-holds c = (omega arith, refl, counting-start _ _ _ refl)
 
-mul-wide : tie.Need-mul-wide Inv-loop μ-loop
-mul-wide c = search needs
-
-shared-slice-read-wide : tie.Need-shared-slice-read-wide Inv-loop μ-loop
-shared-slice-read-wide c = search needs
-
-wide-requires : tie.Need-wide-requires Inv-loop μ-loop
-wide-requires c κs = search needs
-
-back-at-requires : tie.Need-back-at-requires Inv-loop μ-loop
-back-at-requires c κs = search needs
-
-ahead-at-requires : tie.Need-ahead-at-requires Inv-loop μ-loop
-ahead-at-requires c κs = search needs
-
 clipped-requires : tie.Need-clipped-requires Inv-loop μ-loop
 clipped-requires c κs =
     let s = c .before .before .before .before .before .before .before in
     clipped-ready _ _ (s .pre) _ (omega arith) (c .before .before .wide .ensures) (c .before .back-at .ensures) (c .ahead-at .ensures)
-
-mul-counts : tie.Need-mul-counts Inv-loop μ-loop
-mul-counts c = search needs
-
-array-write-counts : tie.Need-array-write-counts Inv-loop μ-loop
-array-write-counts c = search needs
-
-add-k : tie.Need-add-k Inv-loop μ-loop
-add-k c = search needs
-
-loop-less : tie.Need-loop-less Inv-loop μ-loop
-loop-less c = search needs
 
 loop-again : tie.Need-loop-again Inv-loop μ-loop
 loop-again c =
@@ -68,15 +41,15 @@ counts-of-spec =
     Inv-loop
     μ-loop
     loop-holds
-    mul-wide
-    shared-slice-read-wide
-    wide-requires
-    back-at-requires
-    ahead-at-requires
+    (λ c. search needs)
+    (λ c. search needs)
+    (λ c κs. search needs)
+    (λ c κs. search needs)
+    (λ c κs. search needs)
     clipped-requires
-    mul-counts
-    array-write-counts
-    add-k
-    loop-less
+    (λ c. search needs)
+    (λ c. search needs)
+    (λ c. search needs)
+    (λ c. search needs)
     loop-again
     returns)

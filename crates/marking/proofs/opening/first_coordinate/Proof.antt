@@ -6,14 +6,8 @@ use Rattle.marking.proofs.opening.first_coordinate.Tie as tie
 returns : tie.Need-returns
 returns c = search (PlaceWays, needs)
 
-add-result : tie.Need-add-result
-add-result c = search needs
-
-sub-result : tie.Need-sub-result
-sub-result c = search needs
-
 returns-2 : tie.Need-returns-2
 returns-2 c = search (PlaceWays, needs)
 
 pub first-coordinate-spec : {M : Type 1} → statement M
-first-coordinate-spec = tie.close (tie.spec returns add-result sub-result returns-2)
+first-coordinate-spec = tie.close (tie.spec returns (λ c. search needs) (λ c. search needs) returns-2)

@@ -3,17 +3,11 @@ use borrow.Author.Needs.{needs}
 use Rattle.marking.proofs.opening.next_coordinate.Statement.{statement}
 use Rattle.marking.proofs.opening.next_coordinate.Tie as tie
 
-add-if1 : tie.Need-add-if1
-add-if1 c = search needs
-
 returns : tie.Need-returns
 returns c = search PlaceWays
-
-add-result : tie.Need-add-result
-add-result c = search needs
 
 returns-2 : tie.Need-returns-2
 returns-2 c = after-inner _ _ (search needs) (c .if1 .left)
 
 pub next-coordinate-spec : {M : Type 1} → statement M
-next-coordinate-spec = tie.close (tie.spec add-if1 returns add-result returns-2)
+next-coordinate-spec = tie.close (tie.spec (λ c. search needs) returns (λ c. search needs) returns-2)

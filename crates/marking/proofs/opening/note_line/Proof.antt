@@ -1,4 +1,4 @@
-use Rattle.marking.specs.Noting.{line}
+use Rattle.marking.specs.Contracts.Noting.{line}
 use Rattle.marking.proofs.NotingLaws.{Noted, noted-start, noted-more, noted-done, note-line}
 use Prim.Native.Nat.{_≤_, _-_}
 use native.Mathlib.Omega.{arith}
@@ -15,34 +15,10 @@ abbrev μ-loop : tie.MeasureT-loop
 loop-holds : tie.Need-loop-holds Inv-loop μ-loop
 loop-holds c = (omega arith, noted-start _ _ _ _ (search needs))
 
-add-c : tie.Need-add-c Inv-loop μ-loop
-add-c c = search needs
-
-slice-read-marks : tie.Need-slice-read-marks Inv-loop μ-loop
-slice-read-marks c = search needs
-
-add-marks : tie.Need-add-marks Inv-loop μ-loop
-add-marks c = search needs
-
-slice-write-marks : tie.Need-slice-write-marks Inv-loop μ-loop
-slice-write-marks c = search needs
-
-next-coordinate-requires : tie.Need-next-coordinate-requires Inv-loop μ-loop
-next-coordinate-requires c κs = search needs
-
-add-e : tie.Need-add-e Inv-loop μ-loop
-add-e c = search needs
-
-loop-less : tie.Need-loop-less Inv-loop μ-loop
-loop-less c = search needs
-
 loop-again : tie.Need-loop-again Inv-loop μ-loop
 loop-again c =
     let l = c .before .before .before .loop in
     (omega arith, noted-more _ _ _ _ (l .marks) _ (l .j) (l .e) (l .inv .1) (note-line _ _ _ _ (l .marks) (l .j) (l .e) (l .inv .1)) (c .next-coordinate .ensures))
-
-same-length : tie.Need-same-length Inv-loop μ-loop
-same-length c = search needs
 
 returns : tie.Need-returns Inv-loop μ-loop
 returns c = let l = c .before .loop in noted-done _ _ _ _ (l .marks) (l .j) (l .e) _ (l .inv .1) (l .inv .0) (c .loop-test .left)
@@ -54,13 +30,13 @@ note-line-spec =
     Inv-loop
     μ-loop
     loop-holds
-    add-c
-    slice-read-marks
-    add-marks
-    slice-write-marks
-    next-coordinate-requires
-    add-e
-    loop-less
+    (λ c. search needs)
+    (λ c. search needs)
+    (λ c. search needs)
+    (λ c. search needs)
+    (λ c κs. search needs)
+    (λ c. search needs)
+    (λ c. search needs)
     loop-again
-    same-length
+    (λ c. search needs)
     returns)

@@ -1,4 +1,4 @@
-use Rattle.marking.specs.Noting.{lines}
+use Rattle.marking.specs.Contracts.Noting.{lines}
 use Rattle.marking.proofs.NotingLaws.{Noted, noted-start, noted-more, noted-done}
 use Rattle.marking.proofs.BoxLaws.{line-room, line-base, line-count, line-noted}
 use Prim.Native.Nat.{_≤_, _-_}
@@ -46,19 +46,10 @@ next-coordinate-requires c κs =
     let l = c .before .before .before .before .before .loop in
     (l .inv .1 .inside, omega (arith, line-count _ _ _ _ (s .pre .2) (omega (arith, s .pre .1)) (l .j) (l .inv .1 .inside), s .pre .3))
 
-add-e : tie.Need-add-e Inv-loop μ-loop
-add-e c = search needs
-
-loop-less : tie.Need-loop-less Inv-loop μ-loop
-loop-less c = search needs
-
 loop-again : tie.Need-loop-again Inv-loop μ-loop
 loop-again c =
     let l = c .before .before .before .before .before .before .loop in
     (omega arith, noted-more _ _ _ _ (l .marks) _ (l .j) (l .e) (l .inv .1) (line-noted _ _ _ _ _ _ _ (l .marks) _ (l .j) (l .e) (l .inv .1) (c .before .before .before .note-line .ensures)) (c .next-coordinate .ensures))
-
-same-length : tie.Need-same-length Inv-loop μ-loop
-same-length c = search needs
 
 returns : tie.Need-returns Inv-loop μ-loop
 returns c = let l = c .before .loop in noted-done _ _ _ _ (l .marks) (l .j) (l .e) _ (l .inv .1) (l .inv .0) (c .loop-test .left)
@@ -75,8 +66,8 @@ note-lines-spec =
     mul-note-line-2
     note-line-requires
     next-coordinate-requires
-    add-e
-    loop-less
+    (λ c. search needs)
+    (λ c. search needs)
     loop-again
-    same-length
+    (λ c. search needs)
     returns)

@@ -8,26 +8,14 @@ use Rattle.marking.proofs.opening.open_box.Tie as tie
 cast-set-coordinates : tie.Need-cast-set-coordinates
 cast-set-coordinates c = omega (arith, c .before .before .pre .0 .cells, c .before .before .pre .3)
 
-slice-aggregate-set-coordinates : tie.Need-slice-aggregate-set-coordinates
-slice-aggregate-set-coordinates c = search needs
-
 set-coordinates-requires : tie.Need-set-coordinates-requires
 set-coordinates-requires c κs = (c .before .before .before .pre .0 .dims, c .before .before .before .pre .0 .positive, c .before .before .before .pre .3, refl)
-
-slice-aggregate-set-firsts : tie.Need-slice-aggregate-set-firsts
-slice-aggregate-set-firsts c = search needs
 
 set-firsts-requires : tie.Need-set-firsts-requires
 set-firsts-requires c κs = (c .before .before .before .before .before .before .before .pre .0, below-of _ _ (c .before .before .before .before .before .before .before .pre .0 .positive) (c .before .before .before .before .before .before .before .pre .3) (c .before .before .before .set-coordinates .ensures), refl)
 
-slice-aggregate-note-box : tie.Need-slice-aggregate-note-box
-slice-aggregate-note-box c = search needs
-
 note-box-requires : tie.Need-note-box-requires
 note-box-requires c κs = boxed-whole _ _ (c .before .before .before .before .before .before .before .before .before .before .before .before .pre .0) _ (c .before .before .before .before .before .before .before .before .set-coordinates .ensures) (c .before .before .before .before .set-firsts .ensures) (c .before .before .before .before .before .before .before .before .before .before .before .before .pre .1) _ (c .before .before .before .before .before .before .before .before .before .before .before .before .pre .2)
-
-same-length : tie.Need-same-length
-same-length c = search needs
 
 returns : tie.Need-returns
 returns c = box-done _ _ (c .before .before .before .before .before .before .before .before .before .before .before .before .before .before .before .pre .0) _ (c .before .before .before .before .before .before .before .before .before .before .before .set-coordinates .ensures) (c .before .before .before .before .before .before .before .set-firsts .ensures) (c .before .before .before .before .before .before .before .before .before .before .before .before .before .before .before .pre .1) _ _ (c .before .before .note-box .ensures)
@@ -37,11 +25,11 @@ open-box-spec =
     tie.close
     (tie.spec
     cast-set-coordinates
-    slice-aggregate-set-coordinates
+    (λ c. search needs)
     set-coordinates-requires
-    slice-aggregate-set-firsts
+    (λ c. search needs)
     set-firsts-requires
-    slice-aggregate-note-box
+    (λ c. search needs)
     note-box-requires
-    same-length
+    (λ c. search needs)
     returns)

@@ -1,7 +1,7 @@
 use Prim.Native.Nat.{ℕ}
 use mathlib.Core.Path.{sym, ap, _∙_}
 use mathlib.Core.List.{List}
-use Rattle.marking.specs.Noting.{note-all}
+use Rattle.marking.specs.Contracts.Noting.{note-all}
 use Rattle.marking.proofs.OpenLaws.{by-list, by-box}
 use borrow.Author.Needs.{needs}
 use Rattle.marking.proofs.opening.open_from.Statement.{statement}
@@ -10,17 +10,11 @@ use Rattle.marking.proofs.opening.open_from.Tie as tie
 open-list-requires : tie.Need-open-list-requires
 open-list-requires c κs = (c .before .before .before .before .before .pre .0, c .before .before .before .before .before .pre .2, c .before .if1 .taken, c .before .before .before .before .before .pre .3, c .before .before .before .before .before .pre .4)
 
-same-length : tie.Need-same-length
-same-length c = search needs
-
 returns : tie.Need-returns
 returns c = let a = c .before .before .before .before .before .before .before .before .args in c .before .before .open-list .ensures ∙ ap (λ (cs : List ℕ). note-all cs (a .marks .now)) (sym (by-list (a .sizes .now) (a .bounds) (a .steps .now) (a .listed) (a .x) (c .before .before .before .before .if1 .taken)))
 
 open-box-requires : tie.Need-open-box-requires
 open-box-requires c κs = (c .before .before .before .before .before .pre .0, c .before .before .before .before .before .pre .1, c .before .before .before .before .before .pre .3, c .before .before .before .before .before .pre .4)
-
-same-length-2 : tie.Need-same-length-2
-same-length-2 c = search needs
 
 returns-2 : tie.Need-returns-2
 returns-2 c = let a = c .before .before .before .before .before .before .before .before .args in c .before .before .open-box .ensures ∙ ap (λ (cs : List ℕ). note-all cs (a .marks .now)) (sym (by-box (a .sizes .now) (a .bounds) (a .steps .now) (a .listed) (a .x) (c .before .before .before .before .if1 .left)))
@@ -28,4 +22,4 @@ returns-2 c = let a = c .before .before .before .before .before .before .before 
 pub open-from-spec : {M : Type 1} → statement M
 open-from-spec =
     tie.close
-    (tie.spec open-list-requires same-length returns open-box-requires same-length-2 returns-2)
+    (tie.spec open-list-requires (λ c. search needs) returns open-box-requires (λ c. search needs) returns-2)

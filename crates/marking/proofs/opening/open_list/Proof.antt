@@ -4,20 +4,8 @@ use borrow.Author.Needs.{needs}
 use Rattle.marking.proofs.opening.open_list.Statement.{statement}
 use Rattle.marking.proofs.opening.open_list.Tie as tie
 
-cast-set-coordinates : tie.Need-cast-set-coordinates
-cast-set-coordinates c = search needs
-
-slice-aggregate-set-coordinates : tie.Need-slice-aggregate-set-coordinates
-slice-aggregate-set-coordinates c = search needs
-
-set-coordinates-requires : tie.Need-set-coordinates-requires
-set-coordinates-requires c κs = search needs
-
 note-steps-requires : tie.Need-note-steps-requires
 note-steps-requires c κs = (λ k l. led-placed _ (c .before .before .before .before .before .before .before .before .args .bounds) _ (c .before .before .before .before .before .before .before .before .pre .0) (c .before .before .before .before .before .before .before .before .pre .4) (c .before .before .before .set-coordinates .ensures) (c .before .before .before .before .before .before .before .before .pre .1) (c .before .before .before .before .before .before .before .before .pre .2) k l, omega (arith, c .before .before .before .before .before .before .before .before .pre .2), c .before .before .before .before .before .before .before .before .pre .3, omega (arith, c .before .before .before .before .before .before .before .before .pre .3, c .before .before .before .before .before .before .before .before .pre .0 .cells))
-
-same-length : tie.Need-same-length
-same-length c = search needs
 
 returns : tie.Need-returns
 returns c = list-done _ _ _ _ _ _ (c .before .before .before .before .before .before .set-coordinates .ensures) (c .before .before .note-steps .ensures)
@@ -26,9 +14,9 @@ pub open-list-spec : {M : Type 1} → statement M
 open-list-spec =
     tie.close
     (tie.spec
-    cast-set-coordinates
-    slice-aggregate-set-coordinates
-    set-coordinates-requires
+    (λ c. search needs)
+    (λ c. search needs)
+    (λ c κs. search needs)
     note-steps-requires
-    same-length
+    (λ c. search needs)
     returns)

@@ -16,29 +16,14 @@ abbrev μ-loop : tie.MeasureT-loop
 loop-holds : tie.Need-loop-holds Inv-loop μ-loop
 loop-holds c = (refl, firsting-start _ _ _ _ (c .before .before .pre .2))
 
-mul-first-coordinate : tie.Need-mul-first-coordinate Inv-loop μ-loop
-mul-first-coordinate c = search needs
-
 element-copy-out-first-coordinate : tie.Need-element-copy-out-first-coordinate Inv-loop μ-loop
 element-copy-out-first-coordinate c = omega (arith, c .before .loop .inv .0, c .before .before .before .before .pre .0 .dims, c .loop-test .taken)
-
-ahead-at-requires : tie.Need-ahead-at-requires Inv-loop μ-loop
-ahead-at-requires c κs = search needs
-
-mul-wide : tie.Need-mul-wide Inv-loop μ-loop
-mul-wide c = search needs
 
 shared-slice-read-wide : tie.Need-shared-slice-read-wide Inv-loop μ-loop
 shared-slice-read-wide c = omega (arith, c .before .before .before .before .loop .inv .0, c .before .before .before .loop-test .taken)
 
-wide-requires : tie.Need-wide-requires Inv-loop μ-loop
-wide-requires c κs = search needs
-
 first-coordinate-requires : tie.Need-first-coordinate-requires Inv-loop μ-loop
 first-coordinate-requires c κs = let l : c .before .before .before .before .before .loop .k < length (c .before .before .before .before .before .before .before .before .args .sizes .now) = omega (arith, c .before .before .before .before .before .loop .inv .0, c .before .before .before .before .loop-test .taken) in first-ready _ _ (c .before .before .before .before .before .before .before .before .pre .0) (c .before .before .before .before .before .loop .k) l (c .wide .ensures) (c .before .before .before .before .before .before .before .before .pre .1 .each (c .before .before .before .before .before .loop .k) l) (c .before .before .ahead-at .ensures)
-
-mul-firsts : tie.Need-mul-firsts Inv-loop μ-loop
-mul-firsts c = search needs
 
 slice-write-firsts : tie.Need-slice-write-firsts Inv-loop μ-loop
 slice-write-firsts c = omega (arith, c .before .before .before .before .before .before .loop .inv .0, c .before .before .before .before .before .before .loop .inv .1 .len, c .before .before .before .before .before .before .before .before .before .pre .0 .dims, c .before .before .before .before .before .loop-test .taken)
@@ -65,14 +50,14 @@ set-firsts-spec =
     Inv-loop
     μ-loop
     loop-holds
-    mul-first-coordinate
+    (λ c. search needs)
     element-copy-out-first-coordinate
-    ahead-at-requires
-    mul-wide
+    (λ c κs. search needs)
+    (λ c. search needs)
     shared-slice-read-wide
-    wide-requires
+    (λ c κs. search needs)
     first-coordinate-requires
-    mul-firsts
+    (λ c. search needs)
     slice-write-firsts
     add-k
     loop-less

@@ -2,8 +2,8 @@ use Prim.Native.Nat.{_-_}
 use native.Mathlib.Omega.{arith}
 use mathlib.Core.List.{map}
 use Rattle.automaton.specs.Shape.{width}
-use Rattle.stepper.specs.Fitting.{bounds-of}
-use Rattle.stepper.specs.Cutting.{Counting, counting-small, counting-done}
+use Rattle.stepper.specs.Contracts.Fitting.{bounds-of}
+use Rattle.stepper.proofs.Theorems.Cutting.{Counting, counting-small, counting-done}
 use Rattle.marking.proofs.WayLaws.{box-start, box-more}
 use borrow.Author.Needs.{needs}
 use Rattle.marking.proofs.ways.box_count.Statement.{statement}
@@ -18,17 +18,8 @@ abbrev μ-loop : tie.MeasureT-loop
 loop-holds : tie.Need-loop-holds Inv-loop μ-loop
 loop-holds c = box-start (c .args .bounds) (c .args .dims)
 
-sub-k : tie.Need-sub-k Inv-loop μ-loop
-sub-k c = search needs
-
-width-at-requires : tie.Need-width-at-requires Inv-loop μ-loop
-width-at-requires c κs = search needs
-
 times-requires : tie.Need-times-requires Inv-loop μ-loop
 times-requires c κs = (omega (arith, c .width-at .ensures), counting-small _ (c .before .before .loop .total) (c .before .before .loop .k) (c .before .before .loop .inv))
-
-loop-less : tie.Need-loop-less Inv-loop μ-loop
-loop-less c = search needs
 
 loop-again : tie.Need-loop-again Inv-loop μ-loop
 loop-again c = box-more (c .before .before .before .before .args .bounds) (c .before .before .before .before .args .dims) (c .before .before .before .loop .total) (c .before .before .before .loop .k) (c .before .before .before .loop .k - 1) (c .before .before .before .loop .inv) (omega (arith, c .before .before .loop-test .taken)) (c .before .width-at .ensures) (c .times .ensures)
@@ -43,9 +34,9 @@ box-count-spec =
     Inv-loop
     μ-loop
     loop-holds
-    sub-k
-    width-at-requires
+    (λ c. search needs)
+    (λ c κs. search needs)
     times-requires
-    loop-less
+    (λ c. search needs)
     loop-again
     returns)

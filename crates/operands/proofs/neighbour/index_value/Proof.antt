@@ -4,12 +4,6 @@ use borrow.Author.Needs.{needs}
 use Rattle.operands.proofs.neighbour.index_value.Statement.{statement}
 use Rattle.operands.proofs.neighbour.index_value.Tie as tie
 
-mul-t5 : tie.Need-mul-t5
-mul-t5 c = search needs
-
-element-copy-out-t8 : tie.Need-element-copy-out-t8
-element-copy-out-t8 c = search needs
-
 returns : tie.Need-returns
 returns c = rw (front-entry (c .before .before .args .index .now) _ _ (c .before .if1 .taken)) (search needs)
 
@@ -17,4 +11,4 @@ returns-2 : tie.Need-returns-2
 returns-2 c = search NeighbourWays
 
 pub index-value-spec : {M : Type 1} → statement M
-index-value-spec = tie.close (tie.spec mul-t5 element-copy-out-t8 returns returns-2)
+index-value-spec = tie.close (tie.spec (λ c. search needs) (λ c. search needs) returns returns-2)

@@ -2,28 +2,19 @@ use native.Mathlib.Omega.{arith}
 use Prim.Native.Nat.{_<_, _+_}
 use lib.ListN.{take}
 use Rattle.automaton.specs.Shape.{product}
-use Rattle.operands.specs.Working.{site-table}
-use Rattle.automaton.specs.GridLaws.{cell-room}
+use Rattle.operands.specs.Contracts.Working.{site-table}
+use Rattle.automaton.proofs.Theorems.GridLaws.{cell-room}
 use Rattle.operands.proofs.PrimaryLaws.{ready-inside, neighbour-is}
 use Rattle.operands.proofs.NeighbourLaws.{total-small}
 use borrow.Author.Needs.{needs}
 use Rattle.operands.proofs.neighbour.neighbour_field.Statement.{statement}
 use Rattle.operands.proofs.neighbour.neighbour_field.Tie as tie
 
-add-neighbour-number : tie.Need-add-neighbour-number
-add-neighbour-number c = search needs
-
 neighbour-number-requires : tie.Need-neighbour-number-requires
 neighbour-number-requires c κs =
     let pre = c .before .before .before .pre in
     let r = (pre .0) in
     (r .table, r .tokens, r .loops, omega (arith, pre .1), r .dims, r .cells, ready-inside r)
-
-word-at-requires : tie.Need-word-at-requires
-word-at-requires c κs = search needs
-
-cast-field-of : tie.Need-cast-field-of
-cast-field-of c = search needs
 
 field-of-requires : tie.Need-field-of-requires
 field-of-requires c κs =
@@ -44,9 +35,9 @@ pub neighbour-field-spec : {M : Type 1} → statement M
 neighbour-field-spec =
     tie.close
     (tie.spec
-    add-neighbour-number
+    (λ c. search needs)
     neighbour-number-requires
-    word-at-requires
-    cast-field-of
+    (λ c κs. search needs)
+    (λ c. search needs)
     field-of-requires
     returns)

@@ -18,23 +18,11 @@ abbrev μ-loop : tie.MeasureT-loop
 loop-holds : tie.Need-loop-holds Inv-loop μ-loop
 loop-holds c = (steps-start _ _ _ _ _, refl)
 
-mul-size : tie.Need-mul-size Inv-loop μ-loop
-mul-size c = search needs
-
-shared-slice-read-size : tie.Need-shared-slice-read-size Inv-loop μ-loop
-shared-slice-read-size c = search needs
-
-mul-own : tie.Need-mul-own Inv-loop μ-loop
-mul-own c = search needs
-
 shared-slice-read-own : tie.Need-shared-slice-read-own Inv-loop μ-loop
 shared-slice-read-own c =
     let args = c .before .before .before .before .before .before .before .args in
     let pre = c .before .before .before .before .before .before .before .pre in
     omega (arith, inside-length (args .sizes .now) (args .place .now) (pre .6))
-
-element-value-requires : tie.Need-element-value-requires Inv-loop μ-loop
-element-value-requires c κs = search needs
 
 wrapped-requires : tie.Need-wrapped-requires Inv-loop μ-loop
 wrapped-requires c κs =
@@ -54,24 +42,12 @@ mul-number c =
     record
     { fits = omega (arith, pre .5, number-small _ _ _ _ (pre .6) _ _ _ _ (inv .0) (c .before .before .before .before .loop-test .taken) _ (c .before .element-value .ensures) _ (c .wrapped .ensures)) }
 
-cast-number-2 : tie.Need-cast-number-2 Inv-loop μ-loop
-cast-number-2 c = search needs
-
 add-number : tie.Need-add-number Inv-loop μ-loop
 add-number c =
     let pre = c .before .before .before .before .before .before .before .before .before .pre in
     let inv = c .before .before .before .before .before .loop .inv in
     record
     { fits = omega (arith, pre .5, number-small _ _ _ _ (pre .6) _ _ _ _ (inv .0) (c .before .before .before .before .loop-test .taken) _ (c .before .element-value .ensures) _ (c .wrapped .ensures)) }
-
-element-after-requires : tie.Need-element-after-requires Inv-loop μ-loop
-element-after-requires c κs = search needs
-
-add-k : tie.Need-add-k Inv-loop μ-loop
-add-k c = search needs
-
-loop-less : tie.Need-loop-less Inv-loop μ-loop
-loop-less c = search needs
 
 loop-again : tie.Need-loop-again Inv-loop μ-loop
 loop-again c =
@@ -93,18 +69,18 @@ neighbour-number-spec =
     Inv-loop
     μ-loop
     loop-holds
-    mul-size
-    shared-slice-read-size
-    mul-own
+    (λ c. search needs)
+    (λ c. search needs)
+    (λ c. search needs)
     shared-slice-read-own
-    element-value-requires
+    (λ c κs. search needs)
     wrapped-requires
     cast-number
     mul-number
-    cast-number-2
+    (λ c. search needs)
     add-number
-    element-after-requires
-    add-k
-    loop-less
+    (λ c κs. search needs)
+    (λ c. search needs)
+    (λ c. search needs)
     loop-again
     returns)

@@ -9,18 +9,6 @@ use borrow.Author.Needs.{needs}
 use Rattle.operands.proofs.neighbour.wrapped.Statement.{statement}
 use Rattle.operands.proofs.neighbour.wrapped.Tie as tie
 
-encode-requires : tie.Need-encode-requires
-encode-requires c κs = search needs
-
-cast-word : tie.Need-cast-word
-cast-word c = search needs
-
-add-reduced : tie.Need-add-reduced
-add-reduced c = search needs
-
-reduced-requires : tie.Need-reduced-requires
-reduced-requires c κs = search needs
-
 cast-result : tie.Need-cast-result
 cast-result c =
     let args = c .before .before .before .args in
@@ -30,35 +18,14 @@ cast-result c =
 returns : tie.Need-returns
 returns c = wrap-ahead _ (c .before .before .before .args .index .n) _ _ (c .before .before .encode .ensures) (search needs) (c .before .if1 .taken) (c .reduced .ensures)
 
-sub-back : tie.Need-sub-back
-sub-back c = search needs
-
-cast-result-2 : tie.Need-cast-result-2
-cast-result-2 c = search needs
-
 returns-2 : tie.Need-returns-2
 returns-2 c = wrap-near _ (c .before .before .before .args .index .n) _ _ (c .before .before .encode .ensures) (search needs) (c .before .if1 .left) (search needs) (search needs) (c .if2 .taken)
-
-sub-result : tie.Need-sub-result
-sub-result c = search needs
-
-sub-reduced : tie.Need-sub-reduced
-sub-reduced c = search needs
-
-sub-reduced-2 : tie.Need-sub-reduced-2
-sub-reduced-2 c = search needs
-
-reduced-requires-2 : tie.Need-reduced-requires-2
-reduced-requires-2 c κs = search needs
 
 sub-result-2 : tie.Need-sub-result-2
 sub-result-2 c =
     let args = c .before .before .before .before .args in
     let m : (4294967296 - c .before .before .before .encode .result - args .own - 1) % args .size < args .size = mod-lt _ (omega arith) in
     omega (arith, c .reduced2 .ensures)
-
-cast-result-3 : tie.Need-cast-result-3
-cast-result-3 c = search needs
 
 returns-3 : tie.Need-returns-3
 returns-3 c = wrap-far _ (c .before .before .before .before .args .index .n) _ _ (c .before .before .before .encode .ensures) (search needs) (c .before .before .if1 .left) (search needs) (search needs) (c .before .if2 .left) (c .reduced2 .ensures)
@@ -67,19 +34,19 @@ pub wrapped-spec : {M : Type 1} → statement M
 wrapped-spec =
     tie.close
     (tie.spec
-    encode-requires
-    cast-word
-    add-reduced
-    reduced-requires
+    (λ c κs. search needs)
+    (λ c. search needs)
+    (λ c. search needs)
+    (λ c κs. search needs)
     cast-result
     returns
-    sub-back
-    cast-result-2
+    (λ c. search needs)
+    (λ c. search needs)
     returns-2
-    sub-result
-    sub-reduced
-    sub-reduced-2
-    reduced-requires-2
+    (λ c. search needs)
+    (λ c. search needs)
+    (λ c. search needs)
+    (λ c κs. search needs)
     sub-result-2
-    cast-result-3
+    (λ c. search needs)
     returns-3)

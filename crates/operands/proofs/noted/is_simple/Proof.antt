@@ -1,6 +1,6 @@
 use native.Mathlib.Omega.{arith}
 use borrow.Author.Tests.{ltb-true}
-use Rattle.value.specs.Laws.{never}
+use Rattle.value.proofs.Theorems.Laws.{never}
 use Rattle.operands.proofs.noted.is_simple.Statement.{statement}
 use Rattle.operands.proofs.noted.is_simple.Tie as tie
 

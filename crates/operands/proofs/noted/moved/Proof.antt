@@ -4,9 +4,6 @@ use Rattle.operands.proofs.NeighbourLaws.{reduced-below, reduced-once}
 use Rattle.operands.proofs.noted.moved.Statement.{statement}
 use Rattle.operands.proofs.noted.moved.Tie as tie
 
-add-to : tie.Need-add-to
-add-to c = search needs
-
 returns : tie.Need-returns
 returns c = reduced-below _ _ (c .if1 .taken)
 
@@ -14,4 +11,4 @@ returns-2 : tie.Need-returns-2
 returns-2 c = reduced-once _ _ (c .if1 .left) (omega arith)
 
 pub moved-spec : {M : Type 1} → statement M
-moved-spec = tie.close (tie.spec add-to returns returns-2)
+moved-spec = tie.close (tie.spec (λ c. search needs) returns returns-2)

@@ -6,12 +6,6 @@ use Rattle.operands.proofs.NotedLaws.{near-offsets, near-room, near-sma
 use Rattle.operands.proofs.noted.near_value.Statement.{statement}
 use Rattle.operands.proofs.noted.near_value.Tie as tie
 
-leaf-word-requires : tie.Need-leaf-word-requires
-leaf-word-requires c κs = search needs
-
-cast-which : tie.Need-cast-which
-cast-which c = search needs
-
 noted-number-requires : tie.Need-noted-number-requires
 noted-number-requires c κs =
     let pre = c .before .before .before .before .pre in
@@ -36,4 +30,4 @@ returns c =
     (pre .2) (c .entry-of .ensures)
 
 pub near-value-spec : {M : Type 1} → statement M
-near-value-spec = tie.close (tie.spec leaf-word-requires cast-which noted-number-requires entry-of-requires returns)
+near-value-spec = tie.close (tie.spec (λ c κs. search needs) (λ c. search needs) noted-number-requires entry-of-requires returns)

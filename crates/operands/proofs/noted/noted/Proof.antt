@@ -5,15 +5,6 @@ use Rattle.operands.proofs.NotedLaws.{noted-found, noted-none}
 use Rattle.operands.proofs.noted.noted.Statement.{statement}
 use Rattle.operands.proofs.noted.noted.Tie as tie
 
-leaf-word-requires : tie.Need-leaf-word-requires
-leaf-word-requires c κs = search needs
-
-leaf-word-requires-2 : tie.Need-leaf-word-requires-2
-leaf-word-requires-2 c κs = search needs
-
-cast-next : tie.Need-cast-next
-cast-next c = search needs
-
 near-value-requires : tie.Need-near-value-requires
 near-value-requires c κs =
     let pre = c .before .before .before .before .before .before .pre in
@@ -21,9 +12,6 @@ near-value-requires c κs =
 
 returns : tie.Need-returns
 returns c = noted-found _ _ _ _ _ _ (c .before .before .leaf-word2 .ensures) (c .near-value .ensures)
-
-is-simple-requires : tie.Need-is-simple-requires
-is-simple-requires c κs = search needs
 
 simple-value-requires : tie.Need-simple-value-requires
 simple-value-requires c κs =
@@ -39,4 +27,4 @@ returns-3 : tie.Need-returns-3
 returns-3 c = noted-none _ _ _ _ _ _
 
 pub noted-spec : {M : Type 1} → statement M
-noted-spec = tie.close (tie.spec leaf-word-requires leaf-word-requires-2 cast-next near-value-requires returns is-simple-requires simple-value-requires returns-2 returns-3)
+noted-spec = tie.close (tie.spec (λ c κs. search needs) (λ c κs. search needs) (λ c. search needs) near-value-requires returns (λ c κs. search needs) simple-value-requires returns-2 returns-3)

@@ -22,21 +22,12 @@ loop-holds : tie.Need-loop-holds Inv-loop μ-loop
 loop-holds c = (walk-start _ _ _ _ _ _ (c .before .before .before .pre .4), refl, omega arith)
 
 -- src/noted.rt:48:20
-mul-size : tie.Need-mul-size Inv-loop μ-loop
-mul-size c = search needs
-
 -- src/noted.rt:48:20
-shared-slice-read-size : tie.Need-shared-slice-read-size Inv-loop μ-loop
-shared-slice-read-size c = search needs
-
 -- src/noted.rt:48:20
 cast-size : tie.Need-cast-size Inv-loop μ-loop
 cast-size c = record { fits = omega (arith, (c .shared-slice-known4 .given) (c .before .before .loop .k)) }
 
 -- src/noted.rt:49:19
-mul-own : tie.Need-mul-own Inv-loop μ-loop
-mul-own c = search needs
-
 -- src/noted.rt:49:19
 shared-slice-read-own : tie.Need-shared-slice-read-own Inv-loop μ-loop
 shared-slice-read-own c = omega (arith, inside-length (c .before .before .before .before .before .before .before .args .sizes .now) (c .before .before .before .before .before .before .before .args .place .now) (c .before .before .before .before .before .before .before .pre .3))
@@ -46,17 +37,8 @@ cast-own : tie.Need-cast-own Inv-loop μ-loop
 cast-own c = record { fits = omega (arith, (c .shared-slice-known5 .given) (c .before .before .before .loop .k)) }
 
 -- src/noted.rt:50:51
-add-leaf-word : tie.Need-add-leaf-word Inv-loop μ-loop
-add-leaf-word c = search needs
-
 -- src/noted.rt:50:29
-leaf-word-requires : tie.Need-leaf-word-requires Inv-loop μ-loop
-leaf-word-requires c κs = search needs
-
 -- src/noted.rt:50:29
-cast-moved : tie.Need-cast-moved Inv-loop μ-loop
-cast-moved c = search needs
-
 -- src/noted.rt:50:13
 moved-requires : tie.Need-moved-requires Inv-loop μ-loop
 moved-requires c κs =
@@ -81,13 +63,7 @@ add-number c =
     }
 
 -- src/noted.rt:52:9
-add-k : tie.Need-add-k Inv-loop μ-loop
-add-k c = search needs
-
 -- src/noted.rt:47:5
-loop-less : tie.Need-loop-less Inv-loop μ-loop
-loop-less c = search needs
-
 -- src/noted.rt:47:5
 loop-again : tie.Need-loop-again Inv-loop μ-loop
 loop-again c =
@@ -108,19 +84,19 @@ noted-number-spec =
     Inv-loop
     μ-loop
     loop-holds
-    mul-size
-    shared-slice-read-size
+    (λ c. search needs)
+    (λ c. search needs)
     cast-size
-    mul-own
+    (λ c. search needs)
     shared-slice-read-own
     cast-own
-    add-leaf-word
-    leaf-word-requires
-    cast-moved
+    (λ c. search needs)
+    (λ c κs. search needs)
+    (λ c. search needs)
     moved-requires
     mul-number
     add-number
-    add-k
-    loop-less
+    (λ c. search needs)
+    (λ c. search needs)
     loop-again
     returns)

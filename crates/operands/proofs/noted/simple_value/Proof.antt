@@ -5,27 +5,12 @@ use Rattle.operands.proofs.NotedLaws.{number-leaf, variable-leaf, own-l
 use Rattle.operands.proofs.noted.simple_value.Statement.{statement}
 use Rattle.operands.proofs.noted.simple_value.Tie as tie
 
-leaf-word-requires : tie.Need-leaf-word-requires
-leaf-word-requires c κs = search needs
-
-leaf-word-requires-2 : tie.Need-leaf-word-requires-2
-leaf-word-requires-2 c κs = search needs
-
-decode-requires : tie.Need-decode-requires
-decode-requires c κs = search needs
-
 returns : tie.Need-returns
 returns c =
     let pre = c .before .before .before .before .before .before .before .pre in
     let args = c .before .before .before .before .before .before .before .args in
     number-leaf (pre .0) (args .vars .now) (args .index .now) _ (pre .1) (c .before .before .before .leaf-word .ensures)
     (c .before .before .leaf-word2 .ensures) (c .before .if1 .taken) (c .decode .ensures)
-
-cast-which : tie.Need-cast-which
-cast-which c = search needs
-
-mul-t15 : tie.Need-mul-t15
-mul-t15 c = search needs
 
 element-copy-out-t18 : tie.Need-element-copy-out-t18
 element-copy-out-t18 c =
@@ -63,4 +48,4 @@ returns-3 c =
     (c .entry-of .ensures)
 
 pub simple-value-spec : {M : Type 1} → statement M
-simple-value-spec = tie.close (tie.spec leaf-word-requires leaf-word-requires-2 decode-requires returns cast-which mul-t15 element-copy-out-t18 returns-2 entry-of-requires returns-3)
+simple-value-spec = tie.close (tie.spec (λ c κs. search needs) (λ c κs. search needs) (λ c κs. search needs) returns (λ c. search needs) (λ c. search needs) element-copy-out-t18 returns-2 entry-of-requires returns-3)

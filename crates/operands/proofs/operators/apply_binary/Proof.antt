@@ -6,43 +6,25 @@ use borrow.Author.Needs.{needs}
 use Rattle.operands.proofs.operators.apply_binary.Statement.{statement}
 use Rattle.operands.proofs.operators.apply_binary.Tie as tie
 
-add-requires : tie.Need-add-requires
-add-requires c κs = search needs
-
 returns : tie.Need-returns
 unfolding apply-binary
 returns c = rw (c .before .if1 .taken) (c .add .ensures)
-
-subtract-requires : tie.Need-subtract-requires
-subtract-requires c κs = search needs
 
 returns-2 : tie.Need-returns-2
 unfolding apply-binary
 returns-2 c = rw (c .before .if2 .taken) (c .subtract .ensures)
 
-multiply-requires : tie.Need-multiply-requires
-multiply-requires c κs = search needs
-
 returns-3 : tie.Need-returns-3
 unfolding apply-binary
 returns-3 c = rw (c .before .if3 .taken) (c .multiply .ensures)
-
-divide-requires : tie.Need-divide-requires
-divide-requires c κs = search needs
 
 returns-4 : tie.Need-returns-4
 unfolding apply-binary
 returns-4 c = rw (c .before .if4 .taken) (c .divide .ensures)
 
-remainder-requires : tie.Need-remainder-requires
-remainder-requires c κs = search needs
-
 returns-5 : tie.Need-returns-5
 unfolding apply-binary
 returns-5 c = rw (c .before .if5 .taken) (c .remainder .ensures)
-
-compare-requires : tie.Need-compare-requires
-compare-requires c κs = search needs
 
 returns-6 : tie.Need-returns-6
 unfolding apply-binary
@@ -56,15 +38,15 @@ pub apply-binary-spec : {M : Type 1} → statement M
 apply-binary-spec =
     tie.close
     (tie.spec
-    add-requires
+    (λ c κs. search needs)
     returns
-    subtract-requires
+    (λ c κs. search needs)
     returns-2
-    multiply-requires
+    (λ c κs. search needs)
     returns-3
-    divide-requires
+    (λ c κs. search needs)
     returns-4
-    remainder-requires
+    (λ c κs. search needs)
     returns-5
-    compare-requires
+    (λ c κs. search needs)
     returns-6)

@@ -6,15 +6,9 @@ use borrow.Author.Needs.{needs}
 use Rattle.operands.proofs.operators.apply_unary.Statement.{statement}
 use Rattle.operands.proofs.operators.apply_unary.Tie as tie
 
-negate-requires : tie.Need-negate-requires
-negate-requires c κs = search needs
-
 returns : tie.Need-returns
 unfolding apply-unary
 returns c = rw (c .before .if1 .taken) (c .negate .ensures)
-
-not-requires : tie.Need-not-requires
-not-requires c κs = search needs
 
 returns-2 : tie.Need-returns-2
 unfolding apply-unary
@@ -25,4 +19,4 @@ unfolding apply-unary
 returns-3 c = simp (ne-eqb _ _ (c .before .if1 .left), ne-eqb _ _ (c .if2 .left))
 
 pub apply-unary-spec : {M : Type 1} → statement M
-apply-unary-spec = tie.close (tie.spec negate-requires returns not-requires returns-2 returns-3)
+apply-unary-spec = tie.close (tie.spec (λ c κs. search needs) returns (λ c κs. search needs) returns-2 returns-3)

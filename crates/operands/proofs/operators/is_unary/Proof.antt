@@ -6,11 +6,8 @@ use Rattle.operands.proofs.operators.is_unary.Tie as tie
 returns : tie.Need-returns
 returns c = search OperatorWays
 
-is-sign-requires : tie.Need-is-sign-requires
-is-sign-requires c κs = search needs
-
 returns-2 : tie.Need-returns-2
 returns-2 c = search OperatorWays
 
 pub is-unary-spec : {M : Type 1} → statement M
-is-unary-spec = tie.close (tie.spec returns is-sign-requires returns-2)
+is-unary-spec = tie.close (tie.spec returns (λ c κs. search needs) returns-2)

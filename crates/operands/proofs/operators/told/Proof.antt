@@ -3,21 +3,6 @@ use borrow.Author.Needs.{needs}
 use Rattle.operands.proofs.operators.told.Statement.{statement}
 use Rattle.operands.proofs.operators.told.Tie as tie
 
-enum-known-worked : tie.Need-enum-known-worked
-enum-known-worked c = search needs
-
-enum-told : tie.Need-enum-told
-enum-told c = search needs
-
-place-at-requires : tie.Need-place-at-requires
-place-at-requires c κs = search needs
-
-enum-told-2 : tie.Need-enum-told-2
-enum-told-2 c = search needs
-
-place-at-requires-2 : tie.Need-place-at-requires-2
-place-at-requires-2 c κs = search needs
-
 returns : tie.Need-returns
 returns c = search OperatorWays
 
@@ -31,11 +16,11 @@ pub told-spec : {M : Type 1} → statement M
 told-spec =
     tie.close
     (tie.spec
-    enum-known-worked
-    enum-told
-    place-at-requires
-    enum-told-2
-    place-at-requires-2
+    (λ c. search needs)
+    (λ c. search needs)
+    (λ c κs. search needs)
+    (λ c. search needs)
+    (λ c κs. search needs)
     returns
     returns-2
     returns-3)

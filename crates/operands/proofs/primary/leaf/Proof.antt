@@ -6,13 +6,7 @@ use Rattle.operands.proofs.primary.leaf.Statement.{statement}
 use Rattle.operands.proofs.primary.leaf.Tie as tie
 
 -- src/primary.rt:137:9
-word-at-requires : tie.Need-word-at-requires
-word-at-requires c κs = search needs
-
 -- src/primary.rt:139:12
-word-at-requires-2 : tie.Need-word-at-requires-2
-word-at-requires-2 c κs = search needs
-
 -- src/primary.rt:140:13
 returns : tie.Need-returns
 returns c = leaf-array _ _ _ _ _ _ (c .before .before .before .word-at .ensures) (c .before .before .if1 .taken) (c .before .word-at2 .ensures) (c .if2 .taken)
@@ -30,17 +24,11 @@ returns-3 : tie.Need-returns-3
 returns-3 c = leaf-paren _ _ _ _ _ _ (c .before .before .word-at .ensures) (c .if3 .taken)
 
 -- src/primary.rt:147:8
-is-unary-requires : tie.Need-is-unary-requires
-is-unary-requires c κs = search needs
-
 -- src/primary.rt:148:9
 returns-4 : tie.Need-returns-4
 returns-4 c = leaf-unary _ _ _ _ _ _ (c .before .before .before .before .word-at .ensures) (c .before .is-unary .ensures) (c .if4 .taken)
 
 -- src/primary.rt:150:5
-plain-requires : tie.Need-plain-requires
-plain-requires c κs = search needs
-
 -- src/primary.rt:122:1
 returns-5 : tie.Need-returns-5
 returns-5 c = leaf-plain _ _ _ _ _ _ (c .before .before .before .before .before .word-at .ensures) (c .before .before .before .before .if1 .left) (c .before .before .before .if3 .left) (c .before .before .is-unary .ensures) (c .before .if4 .left) (c .plain .ensures)
@@ -49,13 +37,13 @@ pub leaf-spec : {M : Type 1} → statement M
 leaf-spec =
     tie.close
     (tie.spec
-    word-at-requires
-    word-at-requires-2
+    (λ c κs. search needs)
+    (λ c κs. search needs)
     returns
     name-requires
     returns-2
     returns-3
-    is-unary-requires
+    (λ c κs. search needs)
     returns-4
-    plain-requires
+    (λ c κs. search needs)
     returns-5)

@@ -5,36 +5,18 @@ use Prim.Native.Nat.{ℕ}
 use Rattle.value.specs.Worked.{value}
 use Rattle.automaton.specs.Grid.{cell-of}
 use Rattle.semantics.specs.Evaluation.{entry}
-use Rattle.automaton.specs.GridLaws.{cell-room}
+use Rattle.automaton.proofs.Theorems.GridLaws.{cell-room}
 use Rattle.operands.proofs.PrimaryLaws.{own-is, plain-literal, plain-neighbour, plain-cell, plain-time, plain-other}
 use Rattle.operands.proofs.TableLaws.{token, link-bounds}
 use borrow.Author.Needs.{needs}
 use Rattle.operands.proofs.primary.plain.Statement.{statement}
 use Rattle.operands.proofs.primary.plain.Tie as tie
 
-word-at-requires : tie.Need-word-at-requires
-word-at-requires c κs = search needs
-
-word-at-requires-2 : tie.Need-word-at-requires-2
-word-at-requires-2 c κs = search needs
-
-decode-requires : tie.Need-decode-requires
-decode-requires c κs = search needs
-
-add-t18 : tie.Need-add-t18
-add-t18 c = search needs
-
 returns : tie.Need-returns
 returns c =
     let word-at-ensures = c .before .before .before .word-at .ensures in
     plain-literal _ _ _ _ _ _ _ word-at-ensures (token _ _ _ word-at-ensures (omega arith)) (c .before .before .if1 .taken)
     (c .before .word-at2 .ensures) (c .decode .ensures)
-
-neighbour-field-requires : tie.Need-neighbour-field-requires
-neighbour-field-requires c κs = search needs
-
-link-at-requires : tie.Need-link-at-requires
-link-at-requires c κs = search needs
 
 returns-2 : tie.Need-returns-2
 returns-2 c =
@@ -43,19 +25,10 @@ returns-2 c =
     plain-neighbour _ _ _ _ _ _ _ word-at-ensures (b .0) (b .1) (c .link-at .ensures) (c .before .before .if2 .taken)
     (c .before .neighbour-field .ensures)
 
-word-at-requires-3 : tie.Need-word-at-requires-3
-word-at-requires-3 c κs = search needs
-
-cast-field-of : tie.Need-cast-field-of
-cast-field-of c = search needs
-
 field-of-requires : tie.Need-field-of-requires
 field-of-requires c κs =
     let pre = c .before .before .before .before .before .before .before .before .pre in
     cell-room _ _ _ _ (pre .0 .cell) (pre .0 .entries)
-
-link-at-requires-2 : tie.Need-link-at-requires-2
-link-at-requires-2 c κs = search needs
 
 returns-3 : tie.Need-returns-3
 returns-3 c =
@@ -66,12 +39,6 @@ returns-3 c =
     plain-cell _ _ _ _ _ _ _ word-at-ensures (b .0) (b .1) (c .link-at2 .ensures) (c .before .before .before .if3 .taken)
     (c .before .before .word-at3 .ensures)
     ((c .before .field-of .ensures) ∙ ap (λ (x : ℕ). value (entry (cell-of ((args .site .fields)) ((args .grid .now)) x) ((c .before .before .word-at3 .result)))) (sym (own-is (pre .0) (take ((args .depth)) ((args .index .now))))))
-
-decode-requires-2 : tie.Need-decode-requires-2
-decode-requires-2 c κs = search needs
-
-add-t23 : tie.Need-add-t23
-add-t23 c = search needs
 
 returns-4 : tie.Need-returns-4
 returns-4 c =
@@ -86,20 +53,20 @@ pub plain-spec : {M : Type 1} → statement M
 plain-spec =
     tie.close
     (tie.spec
-    word-at-requires
-    word-at-requires-2
-    decode-requires
-    add-t18
+    (λ c κs. search needs)
+    (λ c κs. search needs)
+    (λ c κs. search needs)
+    (λ c. search needs)
     returns
-    neighbour-field-requires
-    link-at-requires
+    (λ c κs. search needs)
+    (λ c κs. search needs)
     returns-2
-    word-at-requires-3
-    cast-field-of
+    (λ c κs. search needs)
+    (λ c. search needs)
     field-of-requires
-    link-at-requires-2
+    (λ c κs. search needs)
     returns-3
-    decode-requires-2
-    add-t23
+    (λ c κs. search needs)
+    (λ c. search needs)
     returns-4
     returns-5)

@@ -3,12 +3,6 @@ use borrow.Author.Needs.{needs}
 use Rattle.operands.proofs.primary.variable_value.Statement.{statement}
 use Rattle.operands.proofs.primary.variable_value.Tie as tie
 
-mul-t5 : tie.Need-mul-t5
-mul-t5 c = search needs
-
-element-copy-out-t8 : tie.Need-element-copy-out-t8
-element-copy-out-t8 c = search needs
-
 returns : tie.Need-returns
 returns c = rw (front-entry (c .before .before .args .vars .now) _ _ (c .before .if1 .taken)) (search needs)
 
@@ -16,4 +10,4 @@ returns-2 : tie.Need-returns-2
 returns-2 c = front-past (c .before .args .vars .now) _ _ (c .if1 .left)
 
 pub variable-value-spec : {M : Type 1} → statement M
-variable-value-spec = tie.close (tie.spec mul-t5 element-copy-out-t8 returns returns-2)
+variable-value-spec = tie.close (tie.spec (λ c. search needs) (λ c. search needs) returns returns-2)

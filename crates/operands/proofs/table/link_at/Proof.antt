@@ -3,12 +3,6 @@ use borrow.Author.Needs.{needs}
 use Rattle.operands.proofs.table.link_at.Statement.{statement}
 use Rattle.operands.proofs.table.link_at.Tie as tie
 
-word-at-requires : tie.Need-word-at-requires
-word-at-requires c κs = search needs
-
-cast-there : tie.Need-cast-there
-cast-there c = search needs
-
 returns : tie.Need-returns
 returns c = search TableWays
 
@@ -19,4 +13,4 @@ returns-3 : tie.Need-returns-3
 returns-3 c = search TableWays
 
 pub link-at-spec : {M : Type 1} → statement M
-link-at-spec = tie.close (tie.spec word-at-requires cast-there returns returns-2 returns-3)
+link-at-spec = tie.close (tie.spec (λ c κs. search needs) (λ c. search needs) returns returns-2 returns-3)

@@ -1,7 +1,7 @@
 use Prim.Native.Nat.{_-_, _≤_}
 use mathlib.Core.Path.{_≡_, refl, sym, _∙_}
 use native.Mathlib.Omega.{arith}
-use Rattle.stepper.specs.Fitting.{place-at, place-list}
+use Rattle.stepper.specs.Contracts.Fitting.{place-at, place-list}
 use Rattle.places.proofs.ListLaws.{Adding, adding-start, adding-more, adding-done}
 use borrow.Author.Needs.{needs}
 use Rattle.places.proofs.listing.add_places.Statement.{statement}
@@ -18,12 +18,6 @@ loop-holds c = (omega arith, refl, adding-start _ _ _ _ (c .before .before .pre 
 
 add-place-requires : tie.Need-add-place-requires Inv-loop μ-loop
 add-place-requires c κs = (c .before .before .loop .inv .2 .len, c .before .before .before .before .before .pre .1, omega (arith, c .before .before .loop .inv .1, c .before .before .before .before .before .pre .2, c .before .loop-test .taken), c .before .before .before .before .before .pre .3)
-
-add-e : tie.Need-add-e Inv-loop μ-loop
-add-e c = search needs
-
-loop-less : tie.Need-loop-less Inv-loop μ-loop
-loop-less c = search needs
 
 loop-again : tie.Need-loop-again Inv-loop μ-loop
 loop-again c = (omega (arith, c .before .before .before .before .loop-test .taken), c .before .before .before .before .before .loop .inv .1, adding-more _ _ _ (c .before .before .before .before .before .loop .places) _ (c .before .before .before .before .before .loop .r) _ (c .before .before .before .before .before .loop .e) (c .before .before .before .before .before .loop .inv .2) (search needs) (c .before .before .add-place .ensures))
@@ -42,8 +36,8 @@ add-places-spec =
     μ-loop
     loop-holds
     add-place-requires
-    add-e
-    loop-less
+    (λ c. search needs)
+    (λ c. search needs)
     loop-again
     same-length
     returns)

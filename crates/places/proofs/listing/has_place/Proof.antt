@@ -1,6 +1,6 @@
 use Prim.Native.Nat.{_-_}
 use native.Mathlib.Omega.{arith}
-use Rattle.stepper.specs.Fitting.{place-at}
+use Rattle.stepper.specs.Contracts.Fitting.{place-at}
 use Rattle.places.proofs.ListLaws.{Missing, missing-start, missing-more, missing-found, missing-done}
 use borrow.Author.Needs.{needs}
 use Rattle.places.proofs.listing.has_place.Statement.{statement}
@@ -21,12 +21,6 @@ same-place-requires c κs = (c .before .before .before .before .pre .0, omega (a
 returns : tie.Need-returns Inv-loop μ-loop
 returns c = missing-found _ _ _ (c .before .before .before .loop .k) (c .before .before .loop-test .taken) (c .before .same-place .ensures) (c .if1 .taken)
 
-add-k : tie.Need-add-k Inv-loop μ-loop
-add-k c = search needs
-
-loop-less : tie.Need-loop-less Inv-loop μ-loop
-loop-less c = search needs
-
 loop-again : tie.Need-loop-again Inv-loop μ-loop
 loop-again c = missing-more _ _ _ (c .before .before .before .loop .k) (c .before .before .before .loop .inv) (c .before .before .loop-test .taken) (c .before .same-place .ensures) (c .if1 .left)
 
@@ -42,7 +36,7 @@ has-place-spec =
     loop-holds
     same-place-requires
     returns
-    add-k
-    loop-less
+    (λ c. search needs)
+    (λ c. search needs)
     loop-again
     returns-2)

@@ -5,7 +5,7 @@ use lib.IntN.{pos}
 use lib.ListN.{getD}
 use Rattle.value.specs.Worked.{decode-of}
 use Rattle.automaton.specs.Listed.{length-list-of, getD-list-of}
-use Rattle.stepper.specs.Fitting.{place-at}
+use Rattle.stepper.specs.Contracts.Fitting.{place-at}
 use Rattle.places.proofs.VectorLaws.{Putting, putting-start, putting-more, putting-done}
 use borrow.Author.Needs.{needs}
 use Rattle.places.proofs.listing.put_place.Statement.{statement}
@@ -20,35 +20,8 @@ abbrev μ-loop : tie.MeasureT-loop
 loop-holds : tie.Need-loop-holds Inv-loop μ-loop
 loop-holds c = putting-start _ _ _ _
 
-mul-places : tie.Need-mul-places Inv-loop μ-loop
-mul-places c = search needs
-
-add-places : tie.Need-add-places Inv-loop μ-loop
-add-places c = search needs
-
-mul-places-2 : tie.Need-mul-places-2 Inv-loop μ-loop
-mul-places-2 c = search needs
-
-shared-slice-read-places : tie.Need-shared-slice-read-places Inv-loop μ-loop
-shared-slice-read-places c = search needs
-
-mul-places-3 : tie.Need-mul-places-3 Inv-loop μ-loop
-mul-places-3 c = search needs
-
-add-places-2 : tie.Need-add-places-2 Inv-loop μ-loop
-add-places-2 c = search needs
-
-mul-places-4 : tie.Need-mul-places-4 Inv-loop μ-loop
-mul-places-4 c = search needs
-
 slice-write-places : tie.Need-slice-write-places Inv-loop μ-loop
 slice-write-places c = omega (arith, c .before .before .loop .inv .len, c .before .before .before .pre .0, c .before .before .before .pre .1, c .before .before .before .pre .4, c .before .loop-test .taken)
-
-add-d : tie.Need-add-d Inv-loop μ-loop
-add-d c = search needs
-
-loop-less : tie.Need-loop-less Inv-loop μ-loop
-loop-less c = search needs
 
 loop-again : tie.Need-loop-again Inv-loop μ-loop
 loop-again c = putting-more _ _ _ _ (c .before .before .loop .places) (c .before .before .loop .d) _ (c .before .before .loop .inv) (c .before .loop-test .taken) (omega (arith, c .before .before .loop .inv .len, c .before .before .before .pre .0, c .before .before .before .pre .1, c .before .before .before .pre .4, c .before .loop-test .taken)) (sym (getD-list-of (λ d. decode-of (getD (c .before .before .before .args .list .now) (3 * c .before .before .before .args .e + d) 0)) (c .before .before .before .args .dims) (c .before .before .loop .d) (pos 0) (c .before .loop-test .taken)))
@@ -66,16 +39,16 @@ put-place-spec =
     Inv-loop
     μ-loop
     loop-holds
-    mul-places
-    add-places
-    mul-places-2
-    shared-slice-read-places
-    mul-places-3
-    add-places-2
-    mul-places-4
+    (λ c. search needs)
+    (λ c. search needs)
+    (λ c. search needs)
+    (λ c. search needs)
+    (λ c. search needs)
+    (λ c. search needs)
+    (λ c. search needs)
     slice-write-places
-    add-d
-    loop-less
+    (λ c. search needs)
+    (λ c. search needs)
     loop-again
     same-length
     returns)

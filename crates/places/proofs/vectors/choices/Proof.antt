@@ -2,8 +2,8 @@ use Prim.Native.Nat.{_≤_, _-_}
 use native.Mathlib.Omega.{arith}
 use mathlib.Core.List.{map}
 use Rattle.semantics.specs.Places.{span}
-use Rattle.stepper.specs.Cutting.{Counting, counting-small, counting-done}
-use Rattle.places.specs.Vectors.{loops-of}
+use Rattle.stepper.proofs.Theorems.Cutting.{Counting, counting-small, counting-done}
+use Rattle.places.specs.Contracts.Vectors.{loops-of}
 use Rattle.places.proofs.ChoiceLaws.{choices-start, choices-more}
 use borrow.Author.Needs.{needs}
 use Rattle.places.proofs.vectors.choices.Statement.{statement}
@@ -18,29 +18,14 @@ abbrev μ-loop : tie.MeasureT-loop
 loop-holds : tie.Need-loop-holds Inv-loop μ-loop
 loop-holds c = let a = c .args in (omega arith, choices-start (a .lows .now) (a .highs .now) (a .depth))
 
-sub-d : tie.Need-sub-d Inv-loop μ-loop
-sub-d c = search needs
-
-mul-span : tie.Need-mul-span Inv-loop μ-loop
-mul-span c = search needs
-
 element-copy-out-span : tie.Need-element-copy-out-span Inv-loop μ-loop
 element-copy-out-span c = omega (arith, c .before .before .pre, c .before .loop .inv .0)
-
-mul-span-2 : tie.Need-mul-span-2 Inv-loop μ-loop
-mul-span-2 c = search needs
 
 element-copy-out-span-2 : tie.Need-element-copy-out-span-2 Inv-loop μ-loop
 element-copy-out-span-2 c = omega (arith, c .before .before .before .pre, c .before .before .loop .inv .0)
 
-span-requires : tie.Need-span-requires Inv-loop μ-loop
-span-requires c κs = search needs
-
 times-requires : tie.Need-times-requires Inv-loop μ-loop
 times-requires c κs = (omega (arith, c .span .ensures .is), counting-small _ (c .before .before .before .before .loop .total) (c .before .before .before .before .loop .d) (c .before .before .before .before .loop .inv .1))
-
-loop-less : tie.Need-loop-less Inv-loop μ-loop
-loop-less c = search needs
 
 loop-again : tie.Need-loop-again Inv-loop μ-loop
 loop-again c = let a = c .before .before .before .before .before .before .args in (omega (arith, c .before .before .before .before .before .loop .inv .0), choices-more (a .lows .now) (a .highs .now) (a .depth) (c .before .before .before .before .before .loop .total) (c .before .before .before .before .before .loop .d) (c .before .before .before .before .before .loop .d - 1) (c .before .before .before .before .before .loop .inv .1) (omega (arith, c .before .before .before .before .loop-test .taken)) (c .before .span .ensures .is) (c .times .ensures))
@@ -55,13 +40,13 @@ choices-spec =
     Inv-loop
     μ-loop
     loop-holds
-    sub-d
-    mul-span
+    (λ c. search needs)
+    (λ c. search needs)
     element-copy-out-span
-    mul-span-2
+    (λ c. search needs)
     element-copy-out-span-2
-    span-requires
+    (λ c κs. search needs)
     times-requires
-    loop-less
+    (λ c. search needs)
     loop-again
     returns)

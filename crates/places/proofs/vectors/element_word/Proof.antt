@@ -4,24 +4,6 @@ use borrow.Author.Needs.{needs}
 use Rattle.places.proofs.vectors.element_word.Statement.{statement}
 use Rattle.places.proofs.vectors.element_word.Tie as tie
 
-word-at-requires : tie.Need-word-at-requires
-word-at-requires c κs = search needs
-
-word-at-requires-2 : tie.Need-word-at-requires-2
-word-at-requires-2 c κs = search needs
-
-word-at-requires-3 : tie.Need-word-at-requires-3
-word-at-requires-3 c κs = search needs
-
-cast-which : tie.Need-cast-which
-cast-which c = search needs
-
-mul-result : tie.Need-mul-result
-mul-result c = search needs
-
-element-copy-out-result : tie.Need-element-copy-out-result
-element-copy-out-result c = search needs
-
 returns : tie.Need-returns
 returns c = let a = c .before .before .before .before .before .before .before .before .args in word-open (table-of (a .words .now) (a .n) (a .dims)) (a .at) (c .before .before .before .before .before .word-at2 .ensures) (c .before .before .before .before .before .before .word-at .ensures) (a .given .now) (a .depth) (c .before .before .before .before .if1 .taken) (c .before .before .before .word-at3 .ensures) (c .before .before .if2 .taken) (c .before .if3 .taken)
 
@@ -38,12 +20,12 @@ pub element-word-spec : {M : Type 1} → statement M
 element-word-spec =
     tie.close
     (tie.spec
-    word-at-requires
-    word-at-requires-2
-    word-at-requires-3
-    cast-which
-    mul-result
-    element-copy-out-result
+    (λ c κs. search needs)
+    (λ c κs. search needs)
+    (λ c κs. search needs)
+    (λ c. search needs)
+    (λ c. search needs)
+    (λ c. search needs)
     returns
     returns-2
     returns-3

@@ -4,18 +4,6 @@ use borrow.Author.Needs.{needs}
 use Rattle.places.proofs.vectors.is_variable.Statement.{statement}
 use Rattle.places.proofs.vectors.is_variable.Tie as tie
 
-word-at-requires : tie.Need-word-at-requires
-word-at-requires c κs = search needs
-
-word-at-requires-2 : tie.Need-word-at-requires-2
-word-at-requires-2 c κs = search needs
-
-word-at-requires-3 : tie.Need-word-at-requires-3
-word-at-requires-3 c κs = search needs
-
-cast-result : tie.Need-cast-result
-cast-result c = search needs
-
 returns : tie.Need-returns
 returns c = let a = c .before .before .before .before .before .before .args in variable-here (table-of (a .words .now) (a .n) (a .dims)) (a .at) (a .which) (c .before .before .before .before .word-at .ensures) (c .before .before .before .if1 .taken) (c .before .before .word-at2 .ensures) (c .before .if2 .taken) (c .word-at3 .ensures)
 
@@ -29,10 +17,10 @@ pub is-variable-spec : {M : Type 1} → statement M
 is-variable-spec =
     tie.close
     (tie.spec
-    word-at-requires
-    word-at-requires-2
-    word-at-requires-3
-    cast-result
+    (λ c κs. search needs)
+    (λ c κs. search needs)
+    (λ c κs. search needs)
+    (λ c. search needs)
     returns
     returns-2
     returns-3)

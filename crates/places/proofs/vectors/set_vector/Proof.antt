@@ -1,7 +1,7 @@
 use Prim.Native.Nat.{_-_}
 use native.Mathlib.Omega.{arith}
 use Rattle.semantics.specs.Stands.{table-of}
-use Rattle.places.specs.Vectors.{values-in}
+use Rattle.places.specs.Contracts.Vectors.{values-in}
 use Rattle.places.proofs.VectorLaws.{Putting, putting-start, putting-more, putting-done, vector, vector-length, Reading, reading-start, reading-word, reading-more}
 use borrow.Author.Needs.{needs}
 use Rattle.places.proofs.vectors.set_vector.Statement.{statement}
@@ -18,15 +18,6 @@ loop-holds c = (putting-start _ _ _ _, reading-start _ _ _ _)
 
 element-word-requires : tie.Need-element-word-requires Inv-loop μ-loop
 element-word-requires c κs = (c .before .before .before .before .pre .0, c .before .before .before .before .pre .1, c .before .before .before .before .pre .3)
-
-mul-list : tie.Need-mul-list Inv-loop μ-loop
-mul-list c = search needs
-
-add-list : tie.Need-add-list Inv-loop μ-loop
-add-list c = search needs
-
-mul-list-2 : tie.Need-mul-list-2 Inv-loop μ-loop
-mul-list-2 c = search needs
 
 slice-write-list : tie.Need-slice-write-list Inv-loop μ-loop
 slice-write-list c = omega (arith, c .before .before .loop .inv .0 .len, c .before .before .before .before .before .pre .2, c .before .before .before .before .before .pre .5, c .before .before .before .before .before .pre .6, c .before .loop-test .taken)
@@ -57,9 +48,9 @@ set-vector-spec =
     μ-loop
     loop-holds
     element-word-requires
-    mul-list
-    add-list
-    mul-list-2
+    (λ c. search needs)
+    (λ c. search needs)
+    (λ c. search needs)
     slice-write-list
     element-after-requires
     add-k

@@ -4,7 +4,7 @@ use native.Mathlib.Omega.{arith}
 use Rattle.semantics.specs.Evaluation.{offsets}
 use Rattle.semantics.specs.Stands.{table-of, indices-in}
 use Rattle.semantics.specs.Places.{choice-at}
-use Rattle.places.specs.Vectors.{loops-of}
+use Rattle.places.specs.Contracts.Vectors.{loops-of}
 use Rattle.places.proofs.VectorLaws.{Filling, filling-start, filling-more, filling-done, filling-none}
 use Rattle.places.proofs.vectors.set_vectors.Statement.{statement}
 use Rattle.places.proofs.vectors.set_vectors.Tie as tie

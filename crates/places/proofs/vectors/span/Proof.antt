@@ -4,15 +4,6 @@ use borrow.Author.Needs.{needs}
 use Rattle.places.proofs.vectors.span.Statement.{statement}
 use Rattle.places.proofs.vectors.span.Tie as tie
 
-decode-requires : tie.Need-decode-requires
-decode-requires c κs = search needs
-
-decode-requires-2 : tie.Need-decode-requires-2
-decode-requires-2 c κs = search needs
-
-span-requires : tie.Need-span-requires
-span-requires c κs = search needs
-
 returns : tie.Need-returns
 returns c = let a = c .before .before .before .before .args in span-many (a .low) (a .high) (c .before .before .before .decode .ensures) (c .before .before .decode2 .ensures) (c .before .span .ensures) (omega arith) (omega arith) (c .if1 .taken)
 
@@ -20,4 +11,4 @@ returns-2 : tie.Need-returns-2
 returns-2 c = let a = c .before .before .before .before .args in span-few (a .low) (a .high) (c .before .before .before .decode .ensures) (c .before .before .decode2 .ensures) (c .before .span .ensures) (omega arith) (omega arith) (c .if1 .left)
 
 pub span-spec : {M : Type 1} → statement M
-span-spec = tie.close (tie.spec decode-requires decode-requires-2 span-requires returns returns-2)
+span-spec = tie.close (tie.spec (λ c κs. search needs) (λ c κs. search needs) (λ c κs. search needs) returns returns-2)

@@ -16,27 +16,6 @@ abbrev μ-loop : tie.MeasureT-loop
 loop-holds : tie.Need-loop-holds Inv-loop μ-loop
 loop-holds c = using-start _ _ _ _ refl
 
-mul-used-word : tie.Need-mul-used-word Inv-loop μ-loop
-mul-used-word c = search needs
-
-element-copy-out-used-word : tie.Need-element-copy-out-used-word Inv-loop μ-loop
-element-copy-out-used-word c = search needs
-
-used-word-requires : tie.Need-used-word-requires Inv-loop μ-loop
-used-word-requires c κs = search needs
-
-mul-r : tie.Need-mul-r Inv-loop μ-loop
-mul-r c = search needs
-
-array-write-r : tie.Need-array-write-r Inv-loop μ-loop
-array-write-r c = search needs
-
-add-d : tie.Need-add-d Inv-loop μ-loop
-add-d c = search needs
-
-loop-less : tie.Need-loop-less Inv-loop μ-loop
-loop-less c = search needs
-
 loop-again : tie.Need-loop-again Inv-loop μ-loop
 loop-again c = using-more _ _ _ (c .before .before .before .loop .r) (c .before .before .before .loop .d) (c .before .before .before .loop .inv) (omega (arith, c .before .before .loop-test .taken, c .before .before .before .before .before .pre .3)) (c .used-word .ensures)
 
@@ -50,12 +29,12 @@ used-spec =
     Inv-loop
     μ-loop
     loop-holds
-    mul-used-word
-    element-copy-out-used-word
-    used-word-requires
-    mul-r
-    array-write-r
-    add-d
-    loop-less
+    (λ c. search needs)
+    (λ c. search needs)
+    (λ c κs. search needs)
+    (λ c. search needs)
+    (λ c. search needs)
+    (λ c. search needs)
+    (λ c. search needs)
     loop-again
     returns)

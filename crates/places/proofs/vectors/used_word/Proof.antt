@@ -4,9 +4,6 @@ use borrow.Author.Needs.{needs}
 use Rattle.places.proofs.vectors.used_word.Statement.{statement}
 use Rattle.places.proofs.vectors.used_word.Tie as tie
 
-uses-requires : tie.Need-uses-requires
-uses-requires c κs = search needs
-
 returns : tie.Need-returns
 returns c = let a = c .before .before .before .args in word-used (indices-in (table-of (a .words .now) (a .n) (a .dims)) (a .dims) (a .at)) (a .which) (a .word) (c .before .uses .ensures) (c .if1 .taken)
 
@@ -14,4 +11,4 @@ returns-2 : tie.Need-returns-2
 returns-2 c = let a = c .before .before .before .args in word-unused (indices-in (table-of (a .words .now) (a .n) (a .dims)) (a .dims) (a .at)) (a .which) (a .word) (c .before .uses .ensures) (c .if1 .left)
 
 pub used-word-spec : {M : Type 1} → statement M
-used-word-spec = tie.close (tie.spec uses-requires returns returns-2)
+used-word-spec = tie.close (tie.spec (λ c κs. search needs) returns returns-2)

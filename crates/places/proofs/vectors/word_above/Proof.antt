@@ -3,21 +3,12 @@ use borrow.Author.Needs.{needs}
 use Rattle.places.proofs.vectors.word_above.Statement.{statement}
 use Rattle.places.proofs.vectors.word_above.Tie as tie
 
-decode-requires : tie.Need-decode-requires
-decode-requires c κs = search needs
-
-cast-offset : tie.Need-cast-offset
-cast-offset c = search needs
-
 offset-requires : tie.Need-offset-requires
 offset-requires c κs = above-in (c .before .args .low) (c .before .args .k) (c .before .pre .1) (c .decode .ensures)
-
-encode-requires : tie.Need-encode-requires
-encode-requires c κs = search needs
 
 returns : tie.Need-returns
 returns c = above-is (c .before .before .before .args .low) (c .before .before .before .args .k) (c .before .before .before .pre .1) (c .before .before .decode .ensures) (c .before .offset .ensures) (c .encode .ensures)
 
 pub word-above-spec : {M : Type 1} → statement M
 word-above-spec =
-    tie.close (tie.spec decode-requires cast-offset offset-requires encode-requires returns)
+    tie.close (tie.spec (λ c κs. search needs) (λ c. search needs) offset-requires (λ c κs. search needs) returns)

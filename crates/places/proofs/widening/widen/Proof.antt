@@ -38,7 +38,7 @@ use denote.Triple.Clauses.{ensured, lasts}
 use denote.Triple.Walked.{says, needs, Stays, stay-ref, stay-none, walkOf, goes-none, goes-ref, Walks, ends-at, walked, walk-meets}
 use denote.Exit.{yes}
 use Rattle.stepper.specs.declared.Reach.{Reach}
-use Rattle.places.specs.Widening.{Widens}
+use Rattle.places.specs.Contracts.Widening.{Widens}
 use Rattle.places.proofs.ReachRow.{Row, mach, vals, tells, makes, typed}
 use Rattle.places.proofs.widening.widened as g
 use Rattle.places.proofs.widening.widened.Symbol as g-def

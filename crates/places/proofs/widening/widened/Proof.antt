@@ -6,12 +6,6 @@ use Rattle.places.proofs.widening.widened.Tie as tie
 returns : tie.Need-returns
 returns c = widens-past (c .before .before .before .before .args .reach) (c .before .before .before .before .args .index) (c .before .before .before .before .args .dims) (c .if1 .taken)
 
-slice-aggregate-add-places : tie.Need-slice-aggregate-add-places
-slice-aggregate-add-places c = search needs
-
-slice-aggregate-add-places-2 : tie.Need-slice-aggregate-add-places-2
-slice-aggregate-add-places-2 c = search needs
-
 add-places-requires : tie.Need-add-places-requires
 add-places-requires c κs = (search needs, search needs, c .before .before .if1 .left, c .before .before .before .before .before .before .pre)
 
@@ -23,7 +17,7 @@ widened-spec =
     tie.close
     (tie.spec
     returns
-    slice-aggregate-add-places
-    slice-aggregate-add-places-2
+    (λ c. search needs)
+    (λ c. search needs)
     add-places-requires
     returns-2)

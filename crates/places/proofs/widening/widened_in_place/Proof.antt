@@ -39,7 +39,7 @@ use denote.Triple.Clauses.{ensured, lasts}
 use denote.Triple.Walked.{says, needs, Stays, stay-none, walkOf, goes-none, Walks, ends-at, walked, walk-meets}
 use denote.Exit.{yes}
 use Rattle.stepper.specs.declared.Reach.{Reach}
-use Rattle.places.specs.Widening.{Widens}
+use Rattle.places.specs.Contracts.Widening.{Widens}
 use Rattle.stepper.proofs.Reach.Laws as R′
 use Rattle.places.proofs.ReachRow.{Row, mach, vals, tells, makes, typed, cell-lies, lies-cell}
 use Rattle.places.proofs.widening.widen as g

@@ -4,7 +4,7 @@ use native.Mathlib.Omega.{arith}
 use mathlib.Core.Path.{_≡_}
 use borrow.Author.Needs.{needs}
 use Rattle.automaton.specs.Listed.{list-of}
-use Rattle.stepper.specs.Fitting.{place-at}
+use Rattle.stepper.specs.Contracts.Fitting.{place-at}
 use Rattle.bands.specs.Edge.{edge-of}
 use Rattle.planner.specs.Contracts.Borders.{border-of}
 use Rattle.planner.proofs.BorderLaws.{no-places, place-more, all-places}

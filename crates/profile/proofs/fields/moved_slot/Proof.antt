@@ -14,17 +14,8 @@ abbrev μ-loop : tie.MeasureT-loop
 loop-holds : tie.Need-loop-holds Inv-loop μ-loop
 loop-holds c = search Seekings
 
-names-moved-requires : tie.Need-names-moved-requires Inv-loop μ-loop
-names-moved-requires c κs = search needs
-
 returns : tie.Need-returns Inv-loop μ-loop
 returns c = search Seekings
-
-add-i : tie.Need-add-i Inv-loop μ-loop
-add-i c = search needs
-
-loop-less : tie.Need-loop-less Inv-loop μ-loop
-loop-less c = search needs
 
 loop-again : tie.Need-loop-again Inv-loop μ-loop
 loop-again c = search Seekings
@@ -33,4 +24,4 @@ returns-2 : tie.Need-returns-2 Inv-loop μ-loop
 returns-2 c = search Seekings
 
 pub moved-slot-spec : {M : Type 1} → statement M
-moved-slot-spec = tie.close (tie.spec Inv-loop μ-loop loop-holds names-moved-requires returns add-i loop-less loop-again returns-2)
+moved-slot-spec = tie.close (tie.spec Inv-loop μ-loop loop-holds (λ c κs. search needs) returns (λ c. search needs) (λ c. search needs) loop-again returns-2)

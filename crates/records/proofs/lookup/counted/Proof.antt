@@ -6,11 +6,8 @@ use Rattle.records.proofs.lookup.counted.Tie as tie
 returns : tie.Need-returns
 returns c = not-counted _ (c .before .before .args .r) (c .if1 .taken)
 
-add-result : tie.Need-add-result
-add-result c = search needs
-
 returns-2 : tie.Need-returns-2
 returns-2 c = is-counted _ (c .before .before .args .r) (c .if1 .left)
 
 pub counted-spec : {M : Type 1} → statement M
-counted-spec = tie.close (tie.spec returns add-result returns-2)
+counted-spec = tie.close (tie.spec returns (λ c. search needs) returns-2)

@@ -8,9 +8,6 @@ use Rattle.records.proofs.lookup.field_found.Tie as tie
 returns : tie.Need-returns
 returns c = let a = c .before .args in found-before (is-field (a .number)) (a .n) (a .r) (a .k) (c .if1 .taken)
 
-is-field-requires : tie.Need-is-field-requires
-is-field-requires c κs = search needs
-
 returns-2 : tie.Need-returns-2
 returns-2 c = let a = c .before .before .before .args in found-here (is-field (a .number)) (a .n) (a .r) (a .k) (c .before .before .if1 .left) (sym (c .before .is-field .ensures) ∙ c .if2 .taken)
 
@@ -18,4 +15,4 @@ returns-3 : tie.Need-returns-3
 returns-3 c = let a = c .before .before .before .args in found-elsewhere (is-field (a .number)) (a .n) (a .r) (a .k) (c .before .before .if1 .left) (sym (c .before .is-field .ensures) ∙ c .if2 .left)
 
 pub field-found-spec : {M : Type 1} → statement M
-field-found-spec = tie.close (tie.spec returns is-field-requires returns-2 returns-3)
+field-found-spec = tie.close (tie.spec returns (λ c κs. search needs) returns-2 returns-3)

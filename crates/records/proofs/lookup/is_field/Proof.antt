@@ -9,9 +9,6 @@ use Rattle.records.proofs.LookupLaws.{plain-field, const-field, no-fiel
 use Rattle.records.proofs.lookup.is_field.Statement.{statement}
 use Rattle.records.proofs.lookup.is_field.Tie as tie
 
-encode-requires : tie.Need-encode-requires
-encode-requires c κs = search needs
-
 returns : tie.Need-returns
 returns c =
     let e = c .before .before in
@@ -31,4 +28,4 @@ returns-3 c =
     no-field (a .number) (a .r) (b .if1 .left) (c .if2 .left)
 
 pub is-field-spec : {M : Type 1} → statement M
-is-field-spec = tie.close (tie.spec encode-requires returns returns-2 returns-3)
+is-field-spec = tie.close (tie.spec (λ c κs. search needs) returns returns-2 returns-3)

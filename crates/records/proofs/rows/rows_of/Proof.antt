@@ -20,21 +20,6 @@ abbrev μ-loop : tie.MeasureT-loop
 loop-holds : tie.Need-loop-holds Inv-loop μ-loop
 loop-holds c = (omega arith, refl, refl)
 
-row-at-requires : tie.Need-row-at-requires Inv-loop μ-loop
-row-at-requires c κs = search needs
-
-mul-rows : tie.Need-mul-rows Inv-loop μ-loop
-mul-rows c = search needs
-
-array-set-from-rows : tie.Need-array-set-from-rows Inv-loop μ-loop
-array-set-from-rows c = search needs
-
-add-k : tie.Need-add-k Inv-loop μ-loop
-add-k c = search needs
-
-loop-less : tie.Need-loop-less Inv-loop μ-loop
-loop-less c = search needs
-
 loop-again : tie.Need-loop-again Inv-loop μ-loop
 loop-again c = (
   omega (arith, c .before .loop-test .taken),
@@ -47,4 +32,4 @@ returns : tie.Need-returns Inv-loop μ-loop
 returns c = all-rows _ _ _ (c .before .loop .k) (le-antisymm (c .before .loop .inv .0) (c .loop-test .left)) refl (c .before .loop .inv .2)
 
 pub rows-of-spec : {M : Type 1} → statement M
-rows-of-spec = tie.close (tie.spec Inv-loop μ-loop loop-holds row-at-requires mul-rows array-set-from-rows add-k loop-less loop-again returns)
+rows-of-spec = tie.close (tie.spec Inv-loop μ-loop loop-holds (λ c κs. search needs) (λ c. search needs) (λ c. search needs) (λ c. search needs) (λ c. search needs) loop-again returns)

@@ -6,7 +6,7 @@ use lib.IntN.{pos}
 use lib.Signed.{mag}
 use mir.Syntax.{w32}
 use Rattle.value.proofs.Tests.{zero-yes, zero-no}
-use Rattle.automaton.specs.RowLaws.{bit}
+use Rattle.automaton.proofs.Theorems.RowLaws.{bit}
 use Rattle.row_counts.proofs.counting.zero_at.Statement.{statement}
 use Rattle.row_counts.proofs.counting.zero_at.Tie as tie
 

@@ -14,12 +14,6 @@ Inv-loop marks from cells at₀ at = Scanned marks from at × (cells ≡ length 
 abbrev μ-loop : tie.MeasureT-loop
 μ-loop marks from cells at₀ at = cells - at
 
-shared-slice-read-if2 : tie.Need-shared-slice-read-if2 Inv-loop μ-loop
-shared-slice-read-if2 c = search needs
-
-next-marked-requires : tie.Need-next-marked-requires Inv-loop μ-loop
-next-marked-requires c κs = search needs
-
 returns : tie.Need-returns Inv-loop μ-loop
 returns c = c .next-marked .ensures
 
@@ -37,9 +31,6 @@ next-marked-requires-2 c κs = c .before .before .before .loop .inv .0 .within
 
 returns-2 : tie.Need-returns-2 Inv-loop μ-loop
 returns-2 c = scan-next (c .before .before .before .before .loop .inv .0) (c .next-marked2 .ensures)
-
-add-at : tie.Need-add-at Inv-loop μ-loop
-add-at c = search needs
 
 loop-less : tie.Need-loop-less Inv-loop μ-loop
 loop-less c = omega arith
@@ -59,15 +50,15 @@ far-marked-spec =
     (tie.spec
     Inv-loop
     μ-loop
-    shared-slice-read-if2
-    next-marked-requires
+    (λ c. search needs)
+    (λ c κs. search needs)
     returns
     loop-holds
     sub-loop
     sum-from-requires
     next-marked-requires-2
     returns-2
-    add-at
+    (λ c. search needs)
     loop-less
     loop-again
     next-marked-requires-3

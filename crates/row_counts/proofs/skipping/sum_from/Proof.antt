@@ -15,9 +15,6 @@ abbrev μ-loop : tie.MeasureT-loop
 loop-holds : tie.Need-loop-holds Inv-loop μ-loop
 loop-holds c = (summed-start _ _, omega arith, c .pre)
 
-add-sum : tie.Need-add-sum Inv-loop μ-loop
-add-sum c = search needs
-
 shared-slice-read-sum : tie.Need-shared-slice-read-sum Inv-loop μ-loop
 shared-slice-read-sum c = omega (arith)
 
@@ -26,9 +23,6 @@ cast-sum c = record { fits = omega (arith, c .shared-slice-known .given (c .befo
 
 add-sum-2 : tie.Need-add-sum-2 Inv-loop μ-loop
 add-sum-2 c = record { fits = omega (arith, c .shared-slice-known .given (c .before .before .before .args .at + c .before .before .loop .k), c .before .before .loop .inv .0 .few) }
-
-add-k : tie.Need-add-k Inv-loop μ-loop
-add-k c = search needs
 
 loop-less : tie.Need-loop-less Inv-loop μ-loop
 loop-less c = omega arith
@@ -46,11 +40,11 @@ sum-from-spec =
     Inv-loop
     μ-loop
     loop-holds
-    add-sum
+    (λ c. search needs)
     shared-slice-read-sum
     cast-sum
     add-sum-2
-    add-k
+    (λ c. search needs)
     loop-less
     loop-again
     returns)

@@ -14,8 +14,5 @@ cast-result c =
     let small : mag (c .args .n) < 2 ^ 31 = search needs in
     subst (SFits w64) (sym (toZ-ofZ {w = w32} {z = c .args .n} (record { sfits = small }))) (sfits-widen {w = w32} {w′ = w64} {z = c .args .n} tt (record { sfits = small }))
 
-returns : tie.Need-returns
-returns c = search needs
-
 pub wide-spec : {M : Type 1} → statement M
-wide-spec = tie.close (tie.spec cast-result returns)
+wide-spec = tie.close (tie.spec cast-result (λ c. search needs))

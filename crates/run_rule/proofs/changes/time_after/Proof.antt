@@ -14,17 +14,5 @@ cast-wrapping-add-u64 c =
     let z = toZ w64 (ofZ w64 (s .args .start)) in
     not-negative z (subst (SFits w64) (sym (toZ-ofZ (s .fits .start))) (s .fits .start)) (c .if1 .taken)
 
-wide-requires : tie.Need-wide-requires
-wide-requires c κs = search needs
-
-wrapping-add-u64-requires : tie.Need-wrapping-add-u64-requires
-wrapping-add-u64-requires c κs = search needs
-
-returns : tie.Need-returns
-returns c = search needs
-
-returns-2 : tie.Need-returns-2
-returns-2 c = search needs
-
 pub time-after-spec : {M : Type 1} → statement M
-time-after-spec = tie.close (tie.spec cast-wrapping-add-u64 wide-requires wrapping-add-u64-requires returns returns-2)
+time-after-spec = tie.close (tie.spec cast-wrapping-add-u64 (λ c κs. search needs) (λ c κs. search needs) (λ c. search needs) (λ c. search needs))

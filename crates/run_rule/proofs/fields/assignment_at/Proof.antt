@@ -10,23 +10,5 @@ Inv-loop words place found₀ i₀ found i = i ≤ 4096
 abbrev μ-loop : tie.MeasureT-loop
 μ-loop words place found₀ i₀ found i = 4096 - i
 
-loop-holds : tie.Need-loop-holds Inv-loop μ-loop
-loop-holds c = search needs
-
-assignment-requires : tie.Need-assignment-requires Inv-loop μ-loop
-assignment-requires c κs = search needs
-
-add-i : tie.Need-add-i Inv-loop μ-loop
-add-i c = search needs
-
-loop-less : tie.Need-loop-less Inv-loop μ-loop
-loop-less c = search needs
-
-loop-again : tie.Need-loop-again Inv-loop μ-loop
-loop-again c = search needs
-
-returns : tie.Need-returns Inv-loop μ-loop
-returns c = search needs
-
 pub assignment-at-spec : {M : Type 1} → statement M
-assignment-at-spec = tie.close (tie.spec Inv-loop μ-loop loop-holds assignment-requires add-i loop-less loop-again returns)
+assignment-at-spec = tie.close (tie.spec Inv-loop μ-loop (λ c. search needs) (λ c κs. search needs) (λ c. search needs) (λ c. search needs) (λ c. search needs) (λ c. search needs))

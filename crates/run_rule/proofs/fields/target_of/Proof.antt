@@ -10,23 +10,5 @@ Inv-loop words at field₀ i₀ field i = i ≤ at
 abbrev μ-loop : tie.MeasureT-loop
 μ-loop words at field₀ i₀ field i = at - i
 
-loop-holds : tie.Need-loop-holds Inv-loop μ-loop
-loop-holds c = search needs
-
-target-requires : tie.Need-target-requires Inv-loop μ-loop
-target-requires c κs = search needs
-
-add-i : tie.Need-add-i Inv-loop μ-loop
-add-i c = search needs
-
-loop-less : tie.Need-loop-less Inv-loop μ-loop
-loop-less c = search needs
-
-loop-again : tie.Need-loop-again Inv-loop μ-loop
-loop-again c = search needs
-
-returns : tie.Need-returns Inv-loop μ-loop
-returns c = search needs
-
 pub target-of-spec : {M : Type 1} → statement M
-target-of-spec = tie.close (tie.spec Inv-loop μ-loop loop-holds target-requires add-i loop-less loop-again returns)
+target-of-spec = tie.close (tie.spec Inv-loop μ-loop (λ c. search needs) (λ c κs. search needs) (λ c. search needs) (λ c. search needs) (λ c. search needs) (λ c. search needs))

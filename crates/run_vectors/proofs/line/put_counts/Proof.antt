@@ -15,26 +15,8 @@ abbrev μ-loop : tie.MeasureT-loop
 loop-holds : tie.Need-loop-holds Inv-loop μ-loop
 loop-holds c = (omega arith, refl)
 
-mul-put-count : tie.Need-mul-put-count Inv-loop μ-loop
-mul-put-count c = search needs
-
-shared-slice-read-put-count : tie.Need-shared-slice-read-put-count Inv-loop μ-loop
-shared-slice-read-put-count c = search needs
-
 put-count-requires : tie.Need-put-count-requires Inv-loop μ-loop
 put-count-requires c κs = tt
-
-add-i : tie.Need-add-i Inv-loop μ-loop
-add-i c = search needs
-
-loop-less : tie.Need-loop-less Inv-loop μ-loop
-loop-less c = search needs
-
-loop-again : tie.Need-loop-again Inv-loop μ-loop
-loop-again c = search needs
-
-same-length : tie.Need-same-length Inv-loop μ-loop
-same-length c = search needs
 
 returns : tie.Need-returns Inv-loop μ-loop
 returns c = tt
@@ -46,11 +28,11 @@ put-counts-spec =
     Inv-loop
     μ-loop
     loop-holds
-    mul-put-count
-    shared-slice-read-put-count
+    (λ c. search needs)
+    (λ c. search needs)
     put-count-requires
-    add-i
-    loop-less
-    loop-again
-    same-length
+    (λ c. search needs)
+    (λ c. search needs)
+    (λ c. search needs)
+    (λ c. search needs)
     returns)

@@ -6,18 +6,9 @@ use borrow.Author.Needs.{needs}
 use Rattle.run_vectors.proofs.line.write_front.Statement.{statement}
 use Rattle.run_vectors.proofs.line.write_front.Tie as tie
 
-returns : tie.Need-returns
-returns c = search needs
-
 slice-aggregate-write-all : tie.Need-slice-aggregate-write-all
 slice-aggregate-write-all c = sym (length-take-le _ _ (omega arith))
 
-write-all-requires : tie.Need-write-all-requires
-write-all-requires c κs = search needs
-
-returns-2 : tie.Need-returns-2
-returns-2 c = search needs
-
 pub write-front-spec : {M : Type 1} → statement M
 write-front-spec =
-    tie.close (tie.spec returns slice-aggregate-write-all write-all-requires returns-2)
+    tie.close (tie.spec (λ c. search needs) slice-aggregate-write-all (λ c κs. search needs) (λ c. search needs))

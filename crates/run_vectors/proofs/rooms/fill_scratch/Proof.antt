@@ -18,23 +18,11 @@ loop-holds c = (omega arith, refl)
 scratch-entry-requires : tie.Need-scratch-entry-requires Inv-loop μ-loop
 scratch-entry-requires c κs = tt
 
-mul-t3 : tie.Need-mul-t3 Inv-loop μ-loop
-mul-t3 c = search needs
-
-slice-set-from-scratch : tie.Need-slice-set-from-scratch Inv-loop μ-loop
-slice-set-from-scratch c = search needs
-
-add-i : tie.Need-add-i Inv-loop μ-loop
-add-i c = search needs
-
 loop-less : tie.Need-loop-less Inv-loop μ-loop
 loop-less c = simp length-set (omega arith)
 
 loop-again : tie.Need-loop-again Inv-loop μ-loop
 loop-again c = (simp length-set (omega arith), simp length-set (omega arith))
-
-same-length : tie.Need-same-length Inv-loop μ-loop
-same-length c = search needs
 
 returns : tie.Need-returns Inv-loop μ-loop
 returns c = tt
@@ -47,10 +35,10 @@ fill-scratch-spec =
     μ-loop
     loop-holds
     scratch-entry-requires
-    mul-t3
-    slice-set-from-scratch
-    add-i
+    (λ c. search needs)
+    (λ c. search needs)
+    (λ c. search needs)
     loop-less
     loop-again
-    same-length
+    (λ c. search needs)
     returns)

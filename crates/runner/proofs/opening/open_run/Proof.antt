@@ -7,41 +7,17 @@ use Rattle.runner.proofs.OpeningLaws.{unread, not-admitted, some-sizes,
 use Rattle.runner.proofs.opening.open_run.Statement.{statement}
 use Rattle.runner.proofs.opening.open_run.Tie as tie
 
-load-requires : tie.Need-load-requires
-load-requires c κs = search needs
-
-closed-requires : tie.Need-closed-requires
-closed-requires c κs = search needs
-
-same-length : tie.Need-same-length
-same-length c = search needs
-
-same-length-2 : tie.Need-same-length-2
-same-length-2 c = search needs
-
 returns : tie.Need-returns
 returns c = unread (c .before .before .before .before .before .before .before .load .ensures .0) (c .before .before .before .before .before .before .before .load .ensures .1) (c .before .if1 .taken) (c .closed .ensures)
 
 admit-requires : tie.Need-admit-requires
 admit-requires c κs = (let a = accepts (c .before .before .before .before .before .before .before .before .load .ensures .0) (c .before .before .before .before .before .before .before .before .load .ensures .1) (not-false _ (c .before .before .if1 .left)) in (a .sized, a .some-fields))
 
-closed-requires-2 : tie.Need-closed-requires-2
-closed-requires-2 c κs = search needs
-
-same-length-3 : tie.Need-same-length-3
-same-length-3 c = search needs
-
-same-length-4 : tie.Need-same-length-4
-same-length-4 c = search needs
-
 returns-2 : tie.Need-returns-2
 returns-2 c = read-opens (c .before .before .before .before .before .before .before .before .before .before .before .before .before .before .before .before .before .before .before .before .fits .start) (c .before .before .before .before .before .before .before .before .before .before .before .before .before .before .before .before .before .before .before .before .fits .steps) (not-admitted (c .before .before .before .before .before .before .before .before .before .before .before .before .load .ensures .0) (c .before .before .before .before .before .before .before .before .before .before .before .before .load .ensures .1) (c .before .before .before .before .before .before .if1 .left) (c .before .before .before .admit .ensures) (c .before .if2 .taken) (c .closed2 .ensures))
 
 counts-fit-requires : tie.Need-counts-fit-requires
 counts-fit-requires c κs = some-sizes (c .before .before .before .before .before .before .before .before .before .before .before .load .ensures .0) (c .before .before .before .before .before .before .before .before .before .before .before .load .ensures .1) (c .before .before .before .before .before .if1 .left) (c .before .before .admit .ensures) (c .if2 .left)
-
-closed-requires-3 : tie.Need-closed-requires-3
-closed-requires-3 c κs = search needs
 
 same-length-5 : tie.Need-same-length-5
 same-length-5 c = search (c .before .before .before .before .before .before .before .before .before .before .before .before .before .before .load .kept, needs)
@@ -67,9 +43,6 @@ add-last c = laws.add-last (c .before .before .before .before .before .before .b
 check-list-requires : tie.Need-check-list-requires
 check-list-requires c κs = list-ready (c .before .before .before .before .before .before .before .before .before .before .before .before .before .before .before .before .before .load .ensures .0) (c .before .before .before .before .before .before .before .before .before .before .before .before .before .before .before .before .before .load .ensures .1) (c .before .before .before .before .before .before .before .before .before .before .before .if1 .left) (c .before .before .before .before .before .before .before .before .admit .ensures) (c .before .before .before .before .before .before .if2 .left)
 
-closed-requires-4 : tie.Need-closed-requires-4
-closed-requires-4 c κs = search needs
-
 same-length-7 : tie.Need-same-length-7
 same-length-7 c = search (c .before .before .before .before .before .before .before .before .before .before .before .before .before .before .before .before .before .before .before .before .before .load .kept, needs)
 
@@ -92,18 +65,18 @@ pub open-run-spec : {M : Type 1} → statement M
 open-run-spec =
     tie.close
     (tie.spec
-    load-requires
-    closed-requires
-    same-length
-    same-length-2
+    (λ c κs. search needs)
+    (λ c κs. search needs)
+    (λ c. search needs)
+    (λ c. search needs)
     returns
     admit-requires
-    closed-requires-2
-    same-length-3
-    same-length-4
+    (λ c κs. search needs)
+    (λ c. search needs)
+    (λ c. search needs)
     returns-2
     counts-fit-requires
-    closed-requires-3
+    (λ c κs. search needs)
     same-length-5
     same-length-6
     returns-3
@@ -112,7 +85,7 @@ open-run-spec =
     cast-last
     add-last
     check-list-requires
-    closed-requires-4
+    (λ c κs. search needs)
     same-length-7
     same-length-8
     returns-4

@@ -1,40 +1,16 @@
 use mathlib.Core.Path.{refl}
 use borrow.Author.Needs.{needs}
 use Rattle.services.specs.Calls.{flat-names, memory, lent}
-use Rattle.runner.specs.Sourcewise.{manner-of}
+use Rattle.runner.specs.Contracts.Sourcewise.{manner-of}
 use Rattle.runner.proofs.RunLaws.{unlisted, listed, read-times, run-agrees, run-ranges}
 use Rattle.runner.proofs.running.run.Statement.{statement}
 use Rattle.runner.proofs.running.run.Tie as tie
-
-is-built-in-requires : tie.Need-is-built-in-requires
-is-built-in-requires c κs = search needs
 
 returns : tie.Need-returns
 returns c =
     let s = c .before .before .before .before .before .before .before .before .before .before in
     let ran = unlisted (s .args .list .now) (c .before .is-built-in .ensures) (manner-of (s .args .manner) (s .args .marks .now)) (lent _ _ _ (memory _ _ _ (s .args .scratch .now) (s .args .marks .now) (s .args .counts .now)) (s .args .values .now) (s .args .start) (s .args .steps) (s .args .counted) (s .args .field)) refl (c .if1 .taken) in
     (ran, (run-agrees flat-names (s .args .manner) _ ran, run-ranges flat-names _ _ ran))
-
-run-listed-requires : tie.Need-run-listed-requires
-run-listed-requires c κs = search needs
-
-same-length : tie.Need-same-length
-same-length c = search needs
-
-same-length-2 : tie.Need-same-length-2
-same-length-2 c = search needs
-
-same-length-3 : tie.Need-same-length-3
-same-length-3 c = search needs
-
-same-length-4 : tie.Need-same-length-4
-same-length-4 c = search needs
-
-same-length-5 : tie.Need-same-length-5
-same-length-5 c = search needs
-
-same-length-6 : tie.Need-same-length-6
-same-length-6 c = search needs
 
 returns-2 : tie.Need-returns-2
 returns-2 c =
@@ -47,4 +23,4 @@ returns-2 c =
 pub run-spec : {M : Type 1} → statement M
 run-spec =
     tie.close
-    (tie.spec is-built-in-requires returns run-listed-requires same-length same-length-2 same-length-3 same-length-4 same-length-5 same-length-6 returns-2)
+    (tie.spec (λ c κs. search needs) returns (λ c κs. search needs) (λ c. search needs) (λ c. search needs) (λ c. search needs) (λ c. search needs) (λ c. search needs) (λ c. search needs) returns-2)

@@ -7,26 +7,11 @@ use Rattle.runner.proofs.RunLaws.{closed-run, run-ready, run-done, cast
 use Rattle.runner.proofs.running.run_listed.Statement.{statement}
 use Rattle.runner.proofs.running.run_listed.Tie as tie
 
-open-run-requires : tie.Need-open-run-requires
-open-run-requires c κs = search needs
-
-same-length : tie.Need-same-length
-same-length c = search needs
-
-same-length-2 : tie.Need-same-length-2
-same-length-2 c = search needs
-
-same-length-3 : tie.Need-same-length-3
-same-length-3 c = search needs
-
 returns : tie.Need-returns
 returns c =
     let o = c .before .before .before .before .before .before in
     let s = o .before .before .before .before .before .before .before .before .before .before .before in
     record { each = λ list e. read-times (s .fits .start) (s .fits .steps) (closed-run (lent _ list _ (memory _ _ _ (s .args .scratch .now) (s .args .marks .now) (s .args .counts .now)) (s .args .values .now) _ _ (s .args .counted) (s .args .field)) e (o .open-run .ensures) (s .args .manner) (c .if1 .taken)) }
-
-all-open-requires : tie.Need-all-open-requires
-all-open-requires c κs = search needs
 
 cast-run-steps : tie.Need-cast-run-steps
 cast-run-steps c =
@@ -42,9 +27,6 @@ cast-run-steps-2 c =
     let s = o .before .before .before .before .before .before .before .before .before .before .before in
     cast-steps (lent _ built-in-names _ (memory _ _ _ (s .args .scratch .now) (s .args .marks .now) (s .args .counts .now)) (s .args .values .now) _ _ (s .args .counted) (s .args .field)) the-list (o .open-run .ensures) (s .args .manner) (t .if1 .left)
 
-resumes-requires : tie.Need-resumes-requires
-resumes-requires c κs = search needs
-
 run-steps-requires : tie.Need-run-steps-requires
 run-steps-requires c κs =
     let t = c .before .before .before .before .before .before .before .before .before in
@@ -52,29 +34,11 @@ run-steps-requires c κs =
     let s = o .before .before .before .before .before .before .before .before .before .before .before in
     run-ready (lent _ built-in-names _ (memory _ _ _ (s .args .scratch .now) (s .args .marks .now) (s .args .counts .now)) (s .args .values .now) _ _ (s .args .counted) (s .args .field)) the-list (o .open-run .ensures) (s .args .manner) (t .if1 .left)
 
-clear-numbers-requires : tie.Need-clear-numbers-requires
-clear-numbers-requires c κs = search needs
-
-leave-marks-requires : tie.Need-leave-marks-requires
-leave-marks-requires c κs = search needs
-
 same-length-4 : tie.Need-same-length-4
 same-length-4 c = search (c .before .before .before .before .before .before .before .before .before .before .before .before .before .before .before .before .before .before .before .before .before .before .before .before .before .before .before .before .before .open-run .kept, needs)
 
 same-length-5 : tie.Need-same-length-5
 same-length-5 c = search (c .before .before .before .before .before .before .before .before .before .before .before .before .before .before .before .before .before .before .before .before .before .before .before .before .before .before .before .before .before .open-run .kept, needs)
-
-same-length-6 : tie.Need-same-length-6
-same-length-6 c = search needs
-
-same-length-7 : tie.Need-same-length-7
-same-length-7 c = search needs
-
-same-length-8 : tie.Need-same-length-8
-same-length-8 c = search needs
-
-same-length-9 : tie.Need-same-length-9
-same-length-9 c = search needs
 
 returns-2 : tie.Need-returns-2
 returns-2 c =
@@ -92,22 +56,22 @@ pub run-listed-spec : {M : Type 1} → statement M
 run-listed-spec =
     tie.close
     (tie.spec
-    open-run-requires
-    same-length
-    same-length-2
-    same-length-3
+    (λ c κs. search needs)
+    (λ c. search needs)
+    (λ c. search needs)
+    (λ c. search needs)
     returns
-    all-open-requires
+    (λ c κs. search needs)
     cast-run-steps
     cast-run-steps-2
-    resumes-requires
+    (λ c κs. search needs)
     run-steps-requires
-    clear-numbers-requires
-    leave-marks-requires
+    (λ c κs. search needs)
+    (λ c κs. search needs)
     same-length-4
     same-length-5
-    same-length-6
-    same-length-7
-    same-length-8
-    same-length-9
+    (λ c. search needs)
+    (λ c. search needs)
+    (λ c. search needs)
+    (λ c. search needs)
     returns-2)

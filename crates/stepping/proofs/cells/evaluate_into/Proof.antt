@@ -5,9 +5,6 @@ use Rattle.stepping.proofs.TurnLaws.{part-length, part-whole, turn-fit,
 use Rattle.stepping.proofs.cells.evaluate_into.Statement.{statement}
 use Rattle.stepping.proofs.cells.evaluate_into.Tie as tie
 
-cast-fields : tie.Need-cast-fields
-cast-fields c = search needs
-
 mul-from : tie.Need-mul-from
 mul-from c =
     let a = c .before .before .before .before .pre .part-fits in
@@ -23,12 +20,6 @@ mul-evaluate-counted c =
     let a = c .before .before .before .before .pre .part-fits in
     search needs
 
-sub-evaluate-counted : tie.Need-sub-evaluate-counted
-sub-evaluate-counted c = search needs
-
-part-evaluate-counted-start : tie.Need-part-evaluate-counted-start
-part-evaluate-counted-start c = search needs
-
 part-evaluate-counted-end : tie.Need-part-evaluate-counted-end
 part-evaluate-counted-end c = c .before .before .before .before .pre .part-fits
 
@@ -36,9 +27,6 @@ evaluate-counted-requires : tie.Need-evaluate-counted-requires
 evaluate-counted-requires c κs =
     let p = c .before .before .before .before .before .before .before .pre in
     (turn-fit p (part-length _ _ _ (p .part-fits)), p .countable)
-
-same-length : tie.Need-same-length
-same-length c = search needs
 
 returns : tie.Need-returns
 returns c =
@@ -50,13 +38,13 @@ pub evaluate-into-spec : {M : Type 1} → statement M
 evaluate-into-spec =
     tie.close
     (tie.spec
-    cast-fields
+    (λ c. search needs)
     mul-from
     add-end
     mul-evaluate-counted
-    sub-evaluate-counted
-    part-evaluate-counted-start
+    (λ c. search needs)
+    (λ c. search needs)
     part-evaluate-counted-end
     evaluate-counted-requires
-    same-length
+    (λ c. search needs)
     returns)

@@ -3,7 +3,7 @@ use mathlib.Core.Path.{_≡_, refl}
 use lib.ListN.{length}
 use native.Mathlib.Omega.{arith}
 use borrow.Author.Needs.{needs}
-use Rattle.marked_cells.specs.Marked.{Placed}
+use Rattle.marked_cells.specs.Contracts.Marked.{Placed}
 use Rattle.stepping.proofs.RowLaws.{Rowing, placed-at, rowing-start, rowing-asks, rowing-moves, rowing-turn, rowing-stop, rowing-done}
 use Rattle.stepping.proofs.rows.evaluate_cells.Statement.{statement}
 use Rattle.stepping.proofs.rows.evaluate_cells.Tie as tie
@@ -31,20 +31,8 @@ add-evaluate-into c = let a = c .before .before .before .before .before .before 
 evaluate-into-requires : tie.Need-evaluate-into-requires Inv-loop μ-loop
 evaluate-into-requires c κs = rowing-asks _ _ _ _ _ _ _ (c .before .before .before .before .before .before .before .before .before .before .before .before .before .pre .0) (c .before .before .before .before .before .loop .i) (c .before .before .before .before .before .loop .total) (c .before .before .before .before .before .loop .next) (c .before .before .before .before .before .loop .inv .4) (c .before .before .before .before .before .loop .inv .2) (c .before .before .before .before .before .loop .inv .0) (c .before .before .before .before .loop-test .taken)
 
-enum-known-turn : tie.Need-enum-known-turn Inv-loop μ-loop
-enum-known-turn c = search needs
-
-enum-known-turn-2 : tie.Need-enum-known-turn-2 Inv-loop μ-loop
-enum-known-turn-2 c = search needs
-
 cast-t33 : tie.Need-cast-t33 Inv-loop μ-loop
 cast-t33 c = let a = c .before .before .before .before .before .before .before .before .before .before .before .before .before .before .before .before .before .before .pre .0 .inside in let b = c .before .before .before .before .before .before .before .before .before .before .before .before .before .before .before .before .before .before .pre .0 .roomed .cells in search needs
-
-same-length : tie.Need-same-length Inv-loop μ-loop
-same-length c = search needs
-
-same-length-2 : tie.Need-same-length-2 Inv-loop μ-loop
-same-length-2 c = search needs
 
 returns : tie.Need-returns Inv-loop μ-loop
 returns c = rowing-stop _ _ _ _ _ _ _ (c .before .before .before .before .before .before .before .before .before .before .loop .i) (c .before .before .before .before .before .before .before .before .before .before .loop .total) (c .before .before .before .before .before .before .before .before .before .before .loop .next) _ (c .before .before .before .before .before .before .before .before .before .before .loop .inv .0) (c .before .before .before .before .evaluate-into .ensures) (c .before .turn2 .given .1) (c .before .before .before .before .before .before .before .before .before .loop-test .taken)
@@ -70,9 +58,6 @@ loop-less c = omega arith
 loop-again : tie.Need-loop-again Inv-loop μ-loop
 loop-again c = (rowing-turn _ _ _ _ _ _ _ (c .before .before .before .before .before .before .before .before .before .before .before .before .before .before .loop .i) (c .before .before .before .before .before .before .before .before .before .before .before .before .before .before .loop .total) (c .before .before .before .before .before .before .before .before .before .before .before .before .before .before .loop .next) _ (c .before .before .before .before .before .before .before .before .before .before .before .before .before .before .loop .inv .0) (c .before .before .before .before .before .before .before .before .evaluate-into .ensures) (c .before .before .before .before .before .turn .given .1), omega arith, search needs, search needs, placed-at (c .before .before .before .before .before .before .before .before .before .before .before .before .before .before .before .before .before .before .before .before .before .before .args .sizes .now) (c .before .before .before .before .before .before .before .before .before .before .before .before .before .before .before .before .before .before .before .before .before .before .args .from + c .before .before .before .before .before .before .before .before .before .before .before .before .before .before .loop .i + 1) (c .before .before .before .before .before .before .before .before .before .before .before .before .before .before .before .before .before .before .before .before .before .before .args .from + (c .before .before .before .before .before .before .before .before .before .before .before .before .before .before .loop .i + 1)) _ (c .before .before .move-place .ensures) (omega arith))
 
-same-length-3 : tie.Need-same-length-3 Inv-loop μ-loop
-same-length-3 c = search needs
-
 same-length-4 : tie.Need-same-length-4 Inv-loop μ-loop
 same-length-4 c = c .before .loop .inv .2
 
@@ -90,11 +75,11 @@ evaluate-cells-spec =
     loop-holds
     add-evaluate-into
     evaluate-into-requires
-    enum-known-turn
-    enum-known-turn-2
+    (λ c. search needs)
+    (λ c. search needs)
     cast-t33
-    same-length
-    same-length-2
+    (λ c. search needs)
+    (λ c. search needs)
     returns
     add-move-place
     add-move-place-2
@@ -103,6 +88,6 @@ evaluate-cells-spec =
     add-i
     loop-less
     loop-again
-    same-length-3
+    (λ c. search needs)
     same-length-4
     returns-2)

@@ -5,7 +5,7 @@ use lib.ListN.{length}
 use native.Mathlib.Omega.{arith}
 use borrow.Author.Needs.{needs}
 use Rattle.automaton.specs.Step.{marked}
-use Rattle.marked_cells.specs.Marked.{Placed}
+use Rattle.marked_cells.specs.Contracts.Marked.{Placed}
 use Rattle.semantics.specs.Stands.{Holds}
 use Rattle.stepping.proofs.StepLaws.{cell-small, moving}
 use Rattle.stepping.proofs.FillLaws.{Filling, fill-start, turning, fill-skip, fill-turn, fill-stop, fill-done}
@@ -46,22 +46,10 @@ evaluate-open-requires c κs =
     let t = c .before .before .before .before .loop-test .taken in
     (l .inv .2 t, turning _ _ _ _ (l .cell) (l .total) (l .new) (p .0) (l .inv .5) (l .inv .3) (l .inv .0) t)
 
-enum-known-turn : tie.Need-enum-known-turn Inv-loop μ-loop
-enum-known-turn c = search needs
-
-enum-known-turn-2 : tie.Need-enum-known-turn-2 Inv-loop μ-loop
-enum-known-turn-2 c = search needs
-
 cast-t33 : tie.Need-cast-t33 Inv-loop μ-loop
 cast-t33 c =
     let s = cell-small (c .before .before .before .before .before .before .before .before .before .before .before .before .before .before .before .before .before .before .before .before .pre .0) (c .before .before .before .before .before .before .before .before .before .before .loop .inv .1) in
     search needs
-
-same-length : tie.Need-same-length Inv-loop μ-loop
-same-length c = search needs
-
-same-length-2 : tie.Need-same-length-2 Inv-loop μ-loop
-same-length-2 c = search needs
 
 returns : tie.Need-returns Inv-loop μ-loop
 returns c =
@@ -70,9 +58,6 @@ returns c =
     let t = c .before .before .before .before .before .before .before .before .before .loop-test .taken in
     let e = c .before .before .before .before .evaluate-open .ensures in
     fill-stop _ _ _ _ (λ p h. h) (l .cell) (l .total) (l .new) _ (l .inv .0) (l .inv .2 t) e (c .before .turn2 .given .1) (omega (arith, p .marks-fit))
-
-add-next-marked : tie.Need-add-next-marked Inv-loop μ-loop
-add-next-marked c = search needs
 
 next-marked-requires-2 : tie.Need-next-marked-requires-2 Inv-loop μ-loop
 next-marked-requires-2 c κs = omega arith
@@ -94,9 +79,6 @@ loop-again c =
     let f = fill-turn _ _ _ _ (λ p h. h) (l .cell) (l .total) (l .new) _ (l .inv .0) (l .inv .2 t) e (c .before .before .before .before .before .before .turn .given .1) in
     (fill-skip _ _ _ _ (λ p h. h) _ _ _ _ f n, n .within, n .found, search needs, search needs, c .before .before .move-place .ensures)
 
-same-length-3 : tie.Need-same-length-3 Inv-loop μ-loop
-same-length-3 c = search needs
-
 same-length-4 : tie.Need-same-length-4 Inv-loop μ-loop
 same-length-4 c = c .before .loop .inv .3
 
@@ -117,17 +99,17 @@ evaluate-marked-spec =
     set-place-requires
     loop-holds
     evaluate-open-requires
-    enum-known-turn
-    enum-known-turn-2
+    (λ c. search needs)
+    (λ c. search needs)
     cast-t33
-    same-length
-    same-length-2
+    (λ c. search needs)
+    (λ c. search needs)
     returns
-    add-next-marked
+    (λ c. search needs)
     next-marked-requires-2
     move-place-requires
     loop-less
     loop-again
-    same-length-3
+    (λ c. search needs)
     same-length-4
     returns-2)

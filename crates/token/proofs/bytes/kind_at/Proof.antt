@@ -3,12 +3,6 @@ use Rattle.token.proofs.Heads.{head-inside, head-past}
 use Rattle.token.proofs.bytes.kind_at.Statement.{statement}
 use Rattle.token.proofs.bytes.kind_at.Tie as tie
 
-shared-slice-read-kind-of-byte : tie.Need-shared-slice-read-kind-of-byte
-shared-slice-read-kind-of-byte c = search needs
-
-kind-of-byte-requires : tie.Need-kind-of-byte-requires
-kind-of-byte-requires c κs = search needs
-
 returns : tie.Need-returns
 returns c = search head-inside
 
@@ -17,4 +11,4 @@ returns-2 c = search head-past
 
 pub kind-at-spec : {M : Type 1} → statement M
 kind-at-spec =
-    tie.close (tie.spec shared-slice-read-kind-of-byte kind-of-byte-requires returns returns-2)
+    tie.close (tie.spec (λ c. search needs) (λ c κs. search needs) returns returns-2)

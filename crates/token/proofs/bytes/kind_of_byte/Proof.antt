@@ -3,11 +3,8 @@ use borrow.Author.Needs.{needs}
 use Rattle.token.proofs.bytes.kind_of_byte.Statement.{statement}
 use Rattle.token.proofs.bytes.kind_of_byte.Tie as tie
 
-element-copy-out-result : tie.Need-element-copy-out-result
-element-copy-out-result c = search needs
-
 returns : tie.Need-returns
 returns c = c .before .pre .each (c .before .args .b) (search needs)
 
 pub kind-of-byte-spec : {M : Type 1} → statement M
-kind-of-byte-spec = tie.close (tie.spec element-copy-out-result returns)
+kind-of-byte-spec = tie.close (tie.spec (λ c. search needs) returns)

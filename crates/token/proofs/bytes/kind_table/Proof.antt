@@ -5,7 +5,7 @@ use Prim.Native.Nat.{ℕ}
 use lib.Dec.{T, eqb, eqb→eq}
 use lib.ListN.{getD}
 use Rattle.token.specs.Bytes.{kind-of, member}
-use Rattle.token.specs.Promises.{Sorts}
+use Rattle.token.specs.Contracts.Promises.{Sorts}
 use Rattle.token.proofs.Table.{all-below, below}
 use Rattle.token.proofs.bytes.kind_table.Statement.{statement}
 use Rattle.token.proofs.bytes.kind_table.Tie as tie

@@ -2,7 +2,7 @@
 use Prim.Native.Nat.{_-_}
 use lib.ListN.{length}
 use borrow.Author.Needs.{needs}
-use Rattle.token.specs.Promises.{Sorts}
+use Rattle.token.specs.Contracts.Promises.{Sorts}
 use Rattle.token.proofs.Blanks.{Passing, Passes}
 use Rattle.token.proofs.runs.blanks_end.Statement.{statement}
 use Rattle.token.proofs.runs.blanks_end.Tie as tie
@@ -16,23 +16,8 @@ abbrev μ-loop : tie.MeasureT-loop
 loop-holds : tie.Need-loop-holds Inv-loop μ-loop
 loop-holds c = search (needs, Passes)
 
-kind-at-requires : tie.Need-kind-at-requires Inv-loop μ-loop
-kind-at-requires c κs = search needs
-
-blank-turn-requires : tie.Need-blank-turn-requires Inv-loop μ-loop
-blank-turn-requires c κs = search needs
-
 returns : tie.Need-returns Inv-loop μ-loop
 returns c = search Passes
-
-add-comment-end : tie.Need-add-comment-end Inv-loop μ-loop
-add-comment-end c = search needs
-
-comment-end-requires : tie.Need-comment-end-requires Inv-loop μ-loop
-comment-end-requires c κs = search needs
-
-loop-less : tie.Need-loop-less Inv-loop μ-loop
-loop-less c = search needs
 
 loop-again : tie.Need-loop-again Inv-loop μ-loop
 loop-again c = search (needs, Passes)
@@ -47,11 +32,11 @@ blanks-end-spec =
     Inv-loop
     μ-loop
     loop-holds
-    kind-at-requires
-    blank-turn-requires
+    (λ c κs. search needs)
+    (λ c κs. search needs)
     returns
-    add-comment-end
-    comment-end-requires
-    loop-less
+    (λ c. search needs)
+    (λ c κs. search needs)
+    (λ c. search needs)
     loop-again
     returns-2)

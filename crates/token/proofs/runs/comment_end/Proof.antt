@@ -5,7 +5,7 @@ use mathlib.Core.Bool.{true}
 use lib.ListN.{length}
 use borrow.Author.Needs.{needs}
 use borrow.Author.Tests.{not-false}
-use Rattle.token.specs.Promises.{Sorts, Skips}
+use Rattle.token.specs.Contracts.Promises.{Sorts, Skips}
 use Rattle.token.proofs.Blanks.{Comments}
 use Rattle.token.proofs.runs.comment_end.Statement.{statement}
 use Rattle.token.proofs.runs.comment_end.Tie as tie
@@ -22,23 +22,8 @@ returns c = search Comments
 loop-holds : tie.Need-loop-holds Inv-loop μ-loop
 loop-holds c = search (needs, Comments, not-false)
 
-kind-at-requires : tie.Need-kind-at-requires Inv-loop μ-loop
-kind-at-requires c κs = search needs
-
-returns-2 : tie.Need-returns-2 Inv-loop μ-loop
-returns-2 c = search needs
-
-add-end : tie.Need-add-end Inv-loop μ-loop
-add-end c = search needs
-
-loop-less : tie.Need-loop-less Inv-loop μ-loop
-loop-less c = search needs
-
 loop-again : tie.Need-loop-again Inv-loop μ-loop
 loop-again c = search (needs, Comments)
-
-returns-3 : tie.Need-returns-3 Inv-loop μ-loop
-returns-3 c = search needs
 
 pub comment-end-spec : {M : Type 1} → statement M
 comment-end-spec =
@@ -48,9 +33,9 @@ comment-end-spec =
     μ-loop
     returns
     loop-holds
-    kind-at-requires
-    returns-2
-    add-end
-    loop-less
+    (λ c κs. search needs)
+    (λ c. search needs)
+    (λ c. search needs)
+    (λ c. search needs)
     loop-again
-    returns-3)
+    (λ c. search needs))

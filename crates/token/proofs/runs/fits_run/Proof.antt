@@ -4,9 +4,6 @@ use Rattle.token.proofs.Extents.{Tests}
 use Rattle.token.proofs.runs.fits_run.Statement.{statement}
 use Rattle.token.proofs.runs.fits_run.Tie as tie
 
-kind-at-requires : tie.Need-kind-at-requires
-kind-at-requires c κs = search needs
-
 returns : tie.Need-returns
 returns c = search Tests
 
@@ -17,4 +14,4 @@ returns-3 : tie.Need-returns-3
 returns-3 c = search Tests
 
 pub fits-run-spec : {M : Type 1} → statement M
-fits-run-spec = tie.close (tie.spec kind-at-requires returns returns-2 returns-3)
+fits-run-spec = tie.close (tie.spec (λ c κs. search needs) returns returns-2 returns-3)

@@ -4,20 +4,8 @@ use Rattle.token.proofs.Extents.{Members}
 use Rattle.token.proofs.runs.in_run.Statement.{statement}
 use Rattle.token.proofs.runs.in_run.Tie as tie
 
-fits-run-requires : tie.Need-fits-run-requires
-fits-run-requires c κs = search needs
-
 returns : tie.Need-returns
 returns c = search Members
-
-kind-at-requires : tie.Need-kind-at-requires
-kind-at-requires c κs = search needs
-
-add-fits-run : tie.Need-add-fits-run
-add-fits-run c = search needs
-
-fits-run-requires-2 : tie.Need-fits-run-requires-2
-fits-run-requires-2 c κs = search needs
 
 returns-2 : tie.Need-returns-2
 returns-2 c = search Members
@@ -29,10 +17,10 @@ pub in-run-spec : {M : Type 1} → statement M
 in-run-spec =
     tie.close
     (tie.spec
-    fits-run-requires
+    (λ c κs. search needs)
     returns
-    kind-at-requires
-    add-fits-run
-    fits-run-requires-2
+    (λ c κs. search needs)
+    (λ c. search needs)
+    (λ c κs. search needs)
     returns-2
     returns-3)

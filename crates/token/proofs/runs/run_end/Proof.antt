@@ -2,7 +2,7 @@
 use Prim.Native.Nat.{_-_}
 use lib.ListN.{length}
 use borrow.Author.Needs.{needs}
-use Rattle.token.specs.Promises.{Sorts, run-test}
+use Rattle.token.specs.Contracts.Promises.{Sorts, run-test}
 use Rattle.token.proofs.Extents.{Running, Walk}
 use Rattle.token.proofs.runs.run_end.Statement.{statement}
 use Rattle.token.proofs.runs.run_end.Tie as tie
@@ -15,15 +15,6 @@ abbrev μ-loop : tie.MeasureT-loop
 
 loop-holds : tie.Need-loop-holds Inv-loop μ-loop
 loop-holds c = search (needs, Walk)
-
-in-run-requires : tie.Need-in-run-requires Inv-loop μ-loop
-in-run-requires c κs = search needs
-
-add-end : tie.Need-add-end Inv-loop μ-loop
-add-end c = search needs
-
-loop-less : tie.Need-loop-less Inv-loop μ-loop
-loop-less c = search needs
 
 loop-again : tie.Need-loop-again Inv-loop μ-loop
 loop-again c = search (needs, Walk)
@@ -41,9 +32,9 @@ run-end-spec =
     Inv-loop
     μ-loop
     loop-holds
-    in-run-requires
-    add-end
-    loop-less
+    (λ c κs. search needs)
+    (λ c. search needs)
+    (λ c. search needs)
     loop-again
     returns
     returns-2)

@@ -7,15 +7,6 @@ use Rattle.token.proofs.runs.with_byte.Tie as tie
 returns : tie.Need-returns
 returns c = search Bytes
 
-mul-next : tie.Need-mul-next
-mul-next c = search needs
-
-digit-of-requires : tie.Need-digit-of-requires
-digit-of-requires c κs = search needs
-
-add-next : tie.Need-add-next
-add-next c = search needs
-
 returns-2 : tie.Need-returns-2
 returns-2 c = search Bytes
 
@@ -24,4 +15,4 @@ returns-3 c = search Bytes
 
 pub with-byte-spec : {M : Type 1} → statement M
 with-byte-spec =
-    tie.close (tie.spec returns mul-next digit-of-requires add-next returns-2 returns-3)
+    tie.close (tie.spec returns (λ c. search needs) (λ c κs. search needs) (λ c. search needs) returns-2 returns-3)

@@ -3,7 +3,7 @@ use Prim.Native.Nat.{_+_, _-_, _≤_}
 use mathlib.Core.Path.{_≡_}
 use lib.ListN.{length}
 use borrow.Author.Needs.{needs}
-use Rattle.token.specs.Promises.{all-rows}
+use Rattle.token.specs.Contracts.Promises.{all-rows}
 use Rattle.token.proofs.Words.{bytes-of, Seeking, Seeks}
 use Rattle.token.proofs.spelling.find_kind.Statement.{statement}
 use Rattle.token.proofs.spelling.find_kind.Tie as tie
@@ -17,20 +17,8 @@ abbrev μ-loop : tie.MeasureT-loop
 loop-holds : tie.Need-loop-holds Inv-loop μ-loop
 loop-holds c = search (needs, Seeks)
 
-fixed-at-requires : tie.Need-fixed-at-requires Inv-loop μ-loop
-fixed-at-requires c κs = search needs
-
-spells-requires : tie.Need-spells-requires Inv-loop μ-loop
-spells-requires c κs = search needs
-
 returns : tie.Need-returns Inv-loop μ-loop
 returns c = search Seeks
-
-add-i : tie.Need-add-i Inv-loop μ-loop
-add-i c = search needs
-
-loop-less : tie.Need-loop-less Inv-loop μ-loop
-loop-less c = search needs
 
 loop-again : tie.Need-loop-again Inv-loop μ-loop
 loop-again c = search (needs, Seeks)
@@ -45,10 +33,10 @@ find-kind-spec =
     Inv-loop
     μ-loop
     loop-holds
-    fixed-at-requires
-    spells-requires
+    (λ c κs. search needs)
+    (λ c κs. search needs)
     returns
-    add-i
-    loop-less
+    (λ c. search needs)
+    (λ c. search needs)
     loop-again
     returns-2)

@@ -10,11 +10,8 @@ returns c = search Folds
 returns-2 : tie.Need-returns-2
 returns-2 c = search Folds
 
-add-result : tie.Need-add-result
-add-result c = search needs
-
 returns-3 : tie.Need-returns-3
 returns-3 c = search Folds
 
 pub folded-spec : {M : Type 1} → statement M
-folded-spec = tie.close (tie.spec returns returns-2 add-result returns-3)
+folded-spec = tie.close (tie.spec returns returns-2 (λ c. search needs) returns-3)

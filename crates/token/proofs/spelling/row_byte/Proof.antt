@@ -3,11 +3,8 @@ use borrow.Author.Needs.{needs}
 use Rattle.token.proofs.spelling.row_byte.Statement.{statement}
 use Rattle.token.proofs.spelling.row_byte.Tie as tie
 
-element-copy-out-result : tie.Need-element-copy-out-result
-element-copy-out-result c = search needs
-
 returns : tie.Need-returns
 returns c = rw (c .before .pre .0)
 
 pub row-byte-spec : {M : Type 1} → statement M
-row-byte-spec = tie.close (tie.spec element-copy-out-result returns)
+row-byte-spec = tie.close (tie.spec (λ c. search needs) returns)

@@ -1,6 +1,6 @@
 -- `token::spelling::row_table` meets its contract: the rows are those of the spellings, as they compute.
 use mathlib.Core.Path.{refl}
-use Rattle.token.specs.Promises.{all-rows}
+use Rattle.token.specs.Contracts.Promises.{all-rows}
 use Rattle.token.proofs.spelling.row_table.Statement.{statement}
 use Rattle.token.proofs.spelling.row_table.Tie as tie
 

@@ -3,7 +3,7 @@ use Prim.Native.Nat.{_+_, _-_, _≤_}
 use mathlib.Core.Path.{_≡_}
 use lib.ListN.{length}
 use borrow.Author.Needs.{needs}
-use Rattle.token.specs.Promises.{all-rows}
+use Rattle.token.specs.Contracts.Promises.{all-rows}
 use Rattle.token.proofs.Words.{Comparing, Compares, compare-more}
 use Rattle.token.proofs.spelling.spells.Statement.{statement}
 use Rattle.token.proofs.spelling.spells.Tie as tie
@@ -20,29 +20,8 @@ returns c = search Compares
 loop-holds : tie.Need-loop-holds Inv-loop μ-loop
 loop-holds c = search (needs, Compares)
 
-add-folded : tie.Need-add-folded Inv-loop μ-loop
-add-folded c = search needs
-
-shared-slice-read-folded : tie.Need-shared-slice-read-folded Inv-loop μ-loop
-shared-slice-read-folded c = search needs
-
-folded-requires : tie.Need-folded-requires Inv-loop μ-loop
-folded-requires c κs = search needs
-
-add-row-byte : tie.Need-add-row-byte Inv-loop μ-loop
-add-row-byte c = search needs
-
-row-byte-requires : tie.Need-row-byte-requires Inv-loop μ-loop
-row-byte-requires c κs = search needs
-
 returns-2 : tie.Need-returns-2 Inv-loop μ-loop
 returns-2 c = search Compares
-
-add-k : tie.Need-add-k Inv-loop μ-loop
-add-k c = search needs
-
-loop-less : tie.Need-loop-less Inv-loop μ-loop
-loop-less c = search needs
 
 loop-again : tie.Need-loop-again Inv-loop μ-loop
 loop-again c =
@@ -65,13 +44,13 @@ spells-spec =
     μ-loop
     returns
     loop-holds
-    add-folded
-    shared-slice-read-folded
-    folded-requires
-    add-row-byte
-    row-byte-requires
+    (λ c. search needs)
+    (λ c. search needs)
+    (λ c κs. search needs)
+    (λ c. search needs)
+    (λ c κs. search needs)
     returns-2
-    add-k
-    loop-less
+    (λ c. search needs)
+    (λ c. search needs)
     loop-again
     returns-3)

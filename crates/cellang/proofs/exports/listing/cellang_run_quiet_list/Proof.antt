@@ -1,32 +1,8 @@
 use borrow.Author.Needs.{needs}
-use Rattle.runner.specs.Property3.{property-3}
+use Rattle.runner.proofs.Theorems.Property3.{property-3}
 use Rattle.cellang.proofs.Telling.{told-on, tells-ranges, told-plain}
 use Rattle.cellang.proofs.exports.listing.cellang_run_quiet_list.Statement.{statement}
 use Rattle.cellang.proofs.exports.listing.cellang_run_quiet_list.Tie as tie
-
-slice-aggregate-run-told : tie.Need-slice-aggregate-run-told
-slice-aggregate-run-told c = search needs
-
-run-told-requires : tie.Need-run-told-requires
-run-told-requires c κs = search needs
-
-same-length : tie.Need-same-length
-same-length c = search needs
-
-same-length-2 : tie.Need-same-length-2
-same-length-2 c = search needs
-
-same-length-3 : tie.Need-same-length-3
-same-length-3 c = search needs
-
-same-length-4 : tie.Need-same-length-4
-same-length-4 c = search needs
-
-same-length-5 : tie.Need-same-length-5
-same-length-5 c = search needs
-
-same-length-6 : tie.Need-same-length-6
-same-length-6 c = search needs
 
 returns : tie.Need-returns
 returns c =
@@ -39,12 +15,12 @@ pub cellang-run-quiet-list-spec : {M : Type 1} → statement M
 cellang-run-quiet-list-spec =
     tie.close
     (tie.spec
-    slice-aggregate-run-told
-    run-told-requires
-    same-length
-    same-length-2
-    same-length-3
-    same-length-4
-    same-length-5
-    same-length-6
+    (λ c. search needs)
+    (λ c κs. search needs)
+    (λ c. search needs)
+    (λ c. search needs)
+    (λ c. search needs)
+    (λ c. search needs)
+    (λ c. search needs)
+    (λ c. search needs)
     returns)

@@ -1,0 +1,3 @@
+-- What the functions promise, in the order of the code.
+pub mod Filling
+pub mod Shaping

@@ -1,0 +1,21 @@
+-- Theorems, and worked examples.
+pub mod Steps
+pub mod Runs
+pub mod Removing
+pub mod Naming
+pub mod Constants
+pub mod Tables
+pub mod Adding
+pub mod Decoding
+pub mod Fields
+pub mod Expressions
+pub mod Proper
+pub mod Assignments
+pub mod Choices
+pub mod Statements
+pub mod Source
+pub mod Scanning
+pub mod Timed
+pub mod Linking
+pub mod Accepted
+pub mod Numbering

@@ -1,0 +1,61 @@
+-- What the functions that read an index promise.
+use mathlib.Core.Path.{_≡_}
+use mathlib.Core.Bool.{Bool, true, false}
+use mathlib.Core.List.{List}
+use mathlib.Core.Option.{Option, some, none}
+use Prim.Native.Nat.{ℕ, _≤_, _<_}
+use lib.ListN.{length, drop}
+use Rattle.stepper.specs.Admission.{all-between}
+use Rattle.token.specs.Contracts.Promises.{too-large}
+use Rattle.lists.specs.Text.{Piece, literal, sign, with-piece, pieces}
+use Rattle.lists.specs.Walking.{Placed, wrong, placed, place-from}
+use Rattle.list_reader.specs.declared.places.Coordinate.{Coordinate}
+use Rattle.list_reader.specs.declared.places.Coordinate.the-variants as coordinate
+use Rattle.list_reader.specs.declared.places.Place.{Place}
+use Rattle.list_reader.specs.declared.places.Place.the-variants as place
+
+-- the sizes of a grid, as 20 leaves them
+pub record Dimensions (sizes : List ℕ) : Type 0 where
+  pub few : length sizes ≤ 3
+  pub each : all-between 1 4096 sizes ≡ true
+
+-- the walk over an index, also where the tokens of the line cannot be read
+abbrev pub place-in : List ℕ → Bool → ℕ → Option (List Piece) → Placed
+place-in sizes outside cell none = wrong
+place-in sizes outside cell (some ps) = place-from sizes outside cell ps
+
+-- a place that was read, with the tokens behind it
+abbrev pub placed-with : Bool → ℕ → Option (List Piece) → Placed
+placed-with outside cell none = wrong
+placed-with outside cell (some ps) = placed outside cell ps
+
+-- ---- one coordinate
+
+-- a literal and a byte lead the tokens from `at` on; or no index is read there
+abbrev pub Coordinates : List ℕ → ℕ → Coordinate → Type 0
+Coordinates line at coordinate.Wrong = (sizes : List ℕ) (outside : Bool) (cell : ℕ) → place-in sizes outside cell (pieces 0 (drop at line)) ≡ wrong
+Coordinates line at (coordinate.Read i b next) = pieces 0 (drop at line) ≡ with-piece (literal i) (with-piece (sign b) (pieces 0 (drop next line)))
+
+abbrev pub CoordinateOnward : List ℕ → ℕ → Coordinate → Type 0
+CoordinateOnward line at coordinate.Wrong = Unit {0}
+CoordinateOnward line at (coordinate.Read i b next) = (at < next) × (next ≤ length line) × (i < too-large)
+
+pub record ReadsCoordinate (line : List ℕ) (at : ℕ) (r : Coordinate) : Type 0 where
+  pub is : Coordinates line at r
+  pub onward : CoordinateOnward line at r
+
+-- ---- the index
+
+-- what the walk over an index gives
+abbrev pub placed-of : List ℕ → Place → Placed
+placed-of line place.Wrong = wrong
+placed-of line (place.At outside cell next) = placed-with outside cell (pieces 0 (drop next line))
+
+abbrev pub PlaceOnward : List ℕ → ℕ → Place → Type 0
+PlaceOnward line at place.Wrong = Unit {0}
+PlaceOnward line at (place.At outside cell next) = (at ≤ next) × (next ≤ length line) × (cell ≤ 72057594037927936)
+
+-- r is the index from `at` on
+pub record ReadsPlace (sizes line : List ℕ) (at : ℕ) (r : Place) : Type 0 where
+  pub is : place-in sizes false 0 (pieces 0 (drop at line)) ≡ placed-of line r
+  pub onward : PlaceOnward line at r

@@ -1,0 +1,3 @@
+-- What the functions promise, in the order of the code.
+pub mod Vectors
+pub mod Widening

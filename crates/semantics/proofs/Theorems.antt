@@ -1,0 +1,3 @@
+-- Theorems, and worked examples.
+pub mod Kept
+pub mod FaultLaws

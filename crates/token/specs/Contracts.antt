@@ -1,0 +1,2 @@
+-- What the functions promise, in the order of the code.
+pub mod Promises

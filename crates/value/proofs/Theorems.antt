@@ -1,0 +1,2 @@
+-- Theorems, and worked examples.
+pub mod Laws
