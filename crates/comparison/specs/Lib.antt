@@ -1,3 +1,3 @@
--- Two grids compared: the definitions, worked examples, and what the functions promise.
+-- Two grids compared: the definitions, and what the functions promise.
 pub mod Differences
 pub mod Contracts

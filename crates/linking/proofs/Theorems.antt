@@ -1,4 +1,4 @@
--- Theorems, and worked examples.
+-- That the tree which reading gives stands in the word table which reading leaves. Read in this order.
 pub mod Steps
 pub mod Runs
 pub mod Removing

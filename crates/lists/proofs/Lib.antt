@@ -1,2 +1,2 @@
--- What holds of lists for a source that moves a pixel once.
+-- The theorems on lists.
 pub mod Theorems

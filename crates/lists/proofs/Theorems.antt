@@ -1,4 +1,5 @@
--- Flags says that no block of a list that passes clears a flag.
+-- Flags says that no block of a list that passes clears a flag; RoundTrip and Sources that what is written reads back; Kept that blocks keep the ranges; Told that
+-- the flag as code tells it says the same. Cases and Examples are worked examples.
 pub mod Flags
 pub mod Cases
 pub mod Examples

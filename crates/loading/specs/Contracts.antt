@@ -1,2 +1,2 @@
--- What the functions promise, in the order of the code.
+-- What the promises of several calls rest on.
 pub mod Loaded

@@ -1,4 +1,4 @@
--- Runs of a source, and the marked examples. Read in this order.
+-- Runs of a source. Read in this order.
 pub mod Running
 pub mod Services
 pub mod Calls

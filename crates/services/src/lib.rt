@@ -1,1 +1,1 @@
-// The public calls: check a source; run a source on a grid.
+// What a run of a source gives and leaves: definitions and theorems only.

@@ -1,4 +1,5 @@
--- Theorems, and worked examples.
+-- Theorems on runs of a program on a grid: what a cell reads, the ranges, the reach and its places. Digits finds coordinates by division, Cutting is on products
+-- cut at 257.
 pub mod Locality
 pub mod Ranges
 pub mod Covering
