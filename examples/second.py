@@ -44,7 +44,7 @@ def second_run(root, case):
 
 
 def call_of(folder, words):
-    """What a call of run_rule asks for, as a case for the second program."""
+    """The request of a call of run_rule, as a case for the second program."""
     rule, shape, start, steps, _, grid = words[:6]
     values = (words[7:] + ["-"])[0]
     with open(os.path.join(folder, grid)) as file:
@@ -66,7 +66,7 @@ def report_of(text):
 
 
 def grid_left(folder, out, text):
-    """The grid that a call wrote, to a file or behind its report."""
+    """The grid that a call wrote, to a file or after its report."""
     if out == "-":
         return entries(re.sub(r"^(bands|pause|zeros): .*$", "", text.split("cells evaluated:")[1].split("\n", 1)[1], flags=re.M))
     with open(os.path.join(folder, out)) as file:
@@ -83,7 +83,7 @@ def zeros_said(rule, shape, field, grid):
 
 
 def without_options(words):
-    """The plain arguments of a call, and the options behind them by their names."""
+    """The plain arguments of a call, and the options after them by their names."""
     options = {}
     while words[-2] in ("--rows", "--zeros"):
         options[words[-2]] = words[-1]

@@ -1,14 +1,14 @@
 /*
  * Checking and running correction rules written in Cellang, setting and writing values by timed lists, pausing and resuming runs,
- * counting the zeros of rows, telling rules that move a pixel once, steps and runs by bands of rows, and comparing grids.
+ * counting the zeros of rows, recognizing rules that move a pixel once, steps and runs by bands of rows, and comparing grids.
  *
  * Link libcellang.a (x86-64 Linux). It needs memset and memcpy and nothing else, allocates nothing and keeps
  * nothing between calls; calls on different memory may run at the same time. A run, and the step of a band, takes
  * about 200 KB of stack.
  *
- * Lent memory passes as a pointer and then a number of elements. Pieces that a call writes must not
- * overlap each other or anything else that is lent to it. A pointer of length 0 is never followed.
- * No call asks anything else of its arguments: every wrong length or number has a reply.
+ * A buffer passes as a pointer and then a number of elements. Buffers that a call writes to must not
+ * overlap each other or anything else that is passed to it. A pointer of length 0 is never followed.
+ * The calls have no other precondition: every wrong length or number has a reply.
  */
 #ifndef CELLANG_H
 #define CELLANG_H
@@ -36,12 +36,12 @@ extern "C" {
 #define CELLANG_WORDS 16384     /* exact length of the word table: four words a token */
 #define CELLANG_NAME_WORDS 1024 /* exact length of the name list: four words a name */
 
-/* The words of a name record; record k has words 4k to 4k+3. Names stand in order of declaration; an index variable has no record
+/* The words of a name record; record k has words 4k to 4k+3. Names are in order of declaration; an index variable has no record
  * once its loop has ended, so that none is left. */
 enum cellang_name_word {
     CELLANG_NAME_START = 0,  /* the place of its first byte */
     CELLANG_NAME_LENGTH = 1, /* its length in bytes */
-    CELLANG_NAME_KIND = 2,   /* one of the kinds below; 0 behind the last name */
+    CELLANG_NAME_KIND = 2,   /* one of the kinds below; 0 after the last name */
     CELLANG_NAME_VALUE = 3,  /* its value, in two's complement */
     CELLANG_NAME_RECORD = 4  /* words a record */
 };
@@ -58,18 +58,18 @@ enum cellang_kind {
 
 /* ---- the built-in list */
 
-/* The predefined names. Every call that reads a source is lent this list beside it: exactly these bytes, without the 0 behind them. */
+/* The predefined names. Every call that reads a source takes this list beside it: exactly these bytes, without the 0 after them. */
 #define CELLANG_BUILT_IN "cell time random"
 #define CELLANG_BUILT_IN_LENGTH 16
 
 /* ---- replies */
 
 /*
- * What a call gives back. 1, then 2, are tried before any token; then the smallest place wins, then
- * the lowest number, where 40 to 45 stand between 9 and 12. 20 to 24 are tried in this order once the source is accepted, then 61
+ * What a call returns. 1, then 2, are tried before any token; then the smallest place wins, then
+ * the lowest number, where 40 to 45 rank between 9 and 12. 20 to 24 are tried in this order once the source is accepted, then 61
  * in a run with row counts, and then 50 to 56 and 58 on the lines of a value list: the lowest line wins, then the lowest number. In a run
  * under a plan 60 is tried last; the other calls on bands of rows say their own order. "At" says which byte of the source the place names,
- * where the end of the source stands at its length; where nothing is said the place is 0.
+ * where the end of the source is at its length; if it says nothing, the place is 0.
  */
 enum cellang_reply {
     CELLANG_DONE = 0, /* the source is accepted, or all steps are done */
@@ -130,7 +130,7 @@ enum cellang_reply {
 
     /* bands of rows */
     CELLANG_NO_PLAN = 59,  /* the planner has no plan: with the border rows not one row can be held */
-    CELLANG_BAD_PLAN = 60, /* the plan is not accepted, or the band could stand in no accepted plan */
+    CELLANG_BAD_PLAN = 60, /* the plan is not accepted, or the band could be part of no accepted plan */
 
     /* row counts: 61 in a run or in a question, 62 in a question */
     CELLANG_BAD_COUNTS = 61, /* in a run no such field, or counts not one a row; in a question reversed rows, rows outside the counts, or
@@ -139,7 +139,7 @@ enum cellang_reply {
 };
 
 /*
- * What the lent memory holds afterwards, by the reply:
+ * What the caller's memory holds afterwards, by the reply:
  *
  *             words and names         grid                      scratch and marks
  *   1, 2      as they were            as it was                 as they were
@@ -153,8 +153,8 @@ enum cellang_reply {
  *   30 to 33  the program, then zero  after the steps done      zero
  *   0         the program, then zero  after all steps           zero, even after 0 steps
  *
- * In a run with a value list the block of the faulting step's time is set too (30 to 33), or that of the time behind the last step (0).
- * cellang_run_pausing and cellang_run_resuming leave the same but for the marks at 0, which stand (see there).
+ * In a run with a value list the block of the faulting step's time is set too (30 to 33), or that of the time after the last step (0).
+ * cellang_run_pausing and cellang_run_resuming leave the same but for the marks at 0, which are left standing (see there).
  * Row counts are as they were after a refusal, and else those of the grid that is left (see there).
  * The writer leaves words and names as a run does; at 57 they hold the program. So do the calls on bands of rows, at 59 and 60 too.
  */
@@ -162,7 +162,7 @@ enum cellang_reply {
 /* ---- spellings */
 
 /*
- * A refusal that stands on a token of the source, 3 to 15 or 40 to 45, is told with the spelling of that token: a part of the
+ * A refusal that names a token of the source, 3 to 15 or 40 to 45, comes with the spelling of that token: a part of the
  * source, or of the built-in list. For `cell`, `time` and `random`, in any letter case, it is the name in the list; for 3 it is
  * the one byte at the place. At the end of the source, and with all other replies, there is none.
  */
@@ -174,17 +174,17 @@ enum cellang_spelling {
 
 /* ---- checking */
 
-/* The entries that tell a reply. Where fewer are lent, the first ones are told; any others stay. */
+/* The entries of a reply. If the buffer has fewer, the first ones are written; any others stay. */
 enum cellang_reply_entry {
     CELLANG_REPLY_NUMBER = 0,
     CELLANG_REPLY_PLACE = 1,
-    CELLANG_REPLY_SPELLING = 2,        /* where the spelling stands: a cellang_spelling */
+    CELLANG_REPLY_SPELLING = 2,        /* where the spelling is: a cellang_spelling */
     CELLANG_REPLY_SPELLING_START = 3,  /* its first byte */
     CELLANG_REPLY_SPELLING_LENGTH = 4, /* its length in bytes */
     CELLANG_REPLY_LENGTH = 5           /* entries in all */
 };
 
-/* Checks a source. Gives 0, or the number that refuses it. */
+/* Checks a source. Returns 0, or the number that refuses it. */
 uint32_t cellang_check(
     const uint8_t *source, size_t source_length,
     const uint8_t *list, size_t list_length,
@@ -204,7 +204,7 @@ uint32_t cellang_check(
  *
  * Then in every run a cell whose `moved` is 1 never changes in a later step and never faults, and after one completed step `moved` is 1 in every
  * cell and no later step changes anything; of cellang_run_resuming this is said where joined calls lead back to cellang_run_pausing. The blocks of
- * a value list may set other fields of any cell at any time, and `moved` to 1. A run of such a source refuses a list that gives `moved` 0, however
+ * a value list may set other fields of any cell at any time, and `moved` to 1. A run of such a source refuses a list that sets `moved` to 0, however
  * it is spelled, with 58; a missing value is none.
  */
 enum cellang_profile {
@@ -214,7 +214,7 @@ enum cellang_profile {
     CELLANG_MISSES_STATEMENT = 3    /* rule 3 is missed */
 };
 
-/* The entries that tell whether a source is in the profile. Where fewer are lent, the first ones are told; any others stay. */
+/* The entries that say whether a source is in the profile. If the buffer has fewer, the first ones are written; any others stay. */
 enum cellang_profile_entry {
     CELLANG_PROFILE_RULE = 0,   /* a cellang_profile: the first rule that is missed, or 0 */
     CELLANG_PROFILE_NUMBER = 1, /* where rule 1 is missed, the number that refuses the source; else 0 */
@@ -222,7 +222,7 @@ enum cellang_profile_entry {
     CELLANG_PROFILE_LENGTH = 3  /* entries in all */
 };
 
-/* Tells whether a source is in the profile. Gives 0, or the first rule that it misses. Words and names are left as cellang_check leaves them, also
+/* Checks whether a source is in the profile. Returns 0, or the first rule that it misses. Words and names are left as cellang_check leaves them, also
  * where rule 2 or 3 is missed. */
 uint32_t cellang_check_one_move(
     const uint8_t *source, size_t source_length,
@@ -233,14 +233,14 @@ uint32_t cellang_check_one_move(
 
 /* ---- running */
 
-/* The entries that tell a run. Where fewer are lent, the first ones are told; any others stay. */
+/* The entries of a report. If the buffer has fewer, the first ones are written; any others stay. */
 enum cellang_report_entry {
     CELLANG_REPORT_NUMBER = 0, /* the reply's number */
     CELLANG_REPORT_PLACE = 1,  /* its place */
     CELLANG_REPORT_CELL = 2,   /* the number of the faulting cell, at 30 to 33; else 0 */
     CELLANG_REPORT_STEPS = 3,  /* the steps done, at 0 and 30 to 33; else 0 */
     CELLANG_REPORT_COUNT = 4,  /* how many times a cell was evaluated, at 0 and 30 to 33; else 0 */
-    CELLANG_REPORT_SPELLING = 5,        /* where the spelling stands: a cellang_spelling */
+    CELLANG_REPORT_SPELLING = 5,        /* where the spelling is: a cellang_spelling */
     CELLANG_REPORT_SPELLING_START = 6,  /* its first byte */
     CELLANG_REPORT_SPELLING_LENGTH = 7, /* its length in bytes */
     CELLANG_REPORT_LINE = 8,            /* the refused line of the value list, from 1, at 50 to 56 and 58; else 0 */
@@ -248,7 +248,7 @@ enum cellang_report_entry {
 };
 
 /*
- * Runs a source on a grid: so many steps, the first at time start. Gives any of the replies up to 45.
+ * Runs a source on a grid: so many steps, the first at time start. Returns any of the replies up to 45.
  *
  * shape has the size of each dimension, in order. Cell [i,j,k] of sizes p,q,r has number (i*q+j)*r+k, and
  * likewise for fewer dimensions; its fields lie together in declared order. grid and scratch have cells times
@@ -256,7 +256,7 @@ enum cellang_report_entry {
  *
  * Each step of cellang_run_full evaluates every cell. Each step of cellang_run_quiet evaluates the open cells
  * alone: in the first step all, later those within whose reach a cell changed in the step before or by a block since, and where
- * `time` stands in the source always all. Reply, place, line, cell, steps and grid are the same; the count is at
+ * `time` occurs in the source always all. Reply, place, line, cell, steps and grid are the same; the count is at
  * most the full one.
  *
  * These two take no value list: no block is set, and the line is 0.
@@ -296,13 +296,13 @@ uint32_t cellang_run_quiet(
  *     41
  *
  * Every LF and every CR ends a line (so CR LF ends two, the second of them blank); the last line needs an end too, and no line is blank.
- * Space, tab, VT and FF may stand between numbers and signs. Numbers are written as in a source; a value may have one sign, a time or an
- * index none. There are no comments. A missing value, and a field behind the last value, is left as it is; const fields may be set.
+ * Space, tab, VT and FF may come between numbers and signs. Numbers are written as in a source; a value may have one sign, a time or an
+ * index none. There are no comments. A missing value, and a field after the last value, is left as it is; const fields may be set.
  * The list of 0 bytes has no line and passes.
  *
  * Both calls are as those without _list, and set the blocks of the list: each before the step at its time, or after the last step where it
- * is start plus steps; the lines of a block in order. The whole list is checked before the run begins, behind 20 to 24. A list that is refused, 50 to 56 or 58,
- * leaves grid, scratch and marks as they were, and is told with its line: CELLANG_REPORT_LINE, from 1.
+ * is start plus steps; the lines of a block in order. The whole list is checked before the run begins, after
+ * 20 to 24. A list that is refused, 50 to 56 or 58, leaves grid, scratch and marks as they were; CELLANG_REPORT_LINE is its line, from 1.
  */
 uint32_t cellang_run_full_list(
     const uint8_t *source, size_t source_length,
@@ -341,21 +341,21 @@ uint32_t cellang_run_quiet_list(
  *   cellang_run_resuming  not 0 for an open cell       standing   zero            as they were
  *
  * In the first step of cellang_run_pausing all cells are open. In the first step of cellang_run_resuming those are open whose mark is not 0,
- * those within whose reach the block of the start time changed a cell, and where `time` stands in the source all. The later steps are those of
+ * those within whose reach the block of the start time changed a cell, and where `time` occurs in the source all. The later steps are those of
  * every quiet run.
  *
  * Standing marks are 1 for a cell that would be open in one more step, else 0, also after 0 steps. They include what the block of the time
- * behind the last step opens.
+ * after the last step opens.
  *
  * Two calls are joined if
  *
- *   - the earlier is either of the two and gave 0, and the later is cellang_run_resuming and is admitted;
+ *   - the earlier is either of the two and returned 0, and the later is cellang_run_resuming and is admitted;
  *   - source and shape are the same, and grid and marks are as the earlier call left them;
  *   - the later start is the earlier start plus the earlier steps;
  *   - the times of the earlier value list, and then of the later one, rise strictly: a block of the time between them is in one of the lists.
  *
- * Joined calls of n and of m steps give what one call of n + m steps gives that begins as the earlier one, with the bytes of both lists, one
- * behind the other: the same reply, place, cell, grid and marks, where steps and count are the sums. So do more calls, each joined to the one
+ * Joined calls of n and of m steps return what one call of n + m steps returns that begins as the earlier one, with the bytes of both lists,
+ * one after the other: the same reply, place, cell, grid and marks, where steps and count are the sums. So do more calls, each joined to the one
  * before it. If the first is cellang_run_pausing, their reply, place, cell, steps and grid are those of the full run, and the count is at most the
  * full one.
  *
@@ -395,7 +395,7 @@ uint32_t cellang_run_resuming(
  * one dimension, each cell is a row. counts has one entry a row, in order, and field is the field's number, from 0, as the name list has it.
  *
  * The four functions are cellang_run_full_list, cellang_run_quiet_list, cellang_run_pausing and cellang_run_resuming with these two
- * arguments more. Report, grid, scratch and marks are the same, but that there is one refusal more: 61, with place 0, if there is no such field
+ * arguments more. Report, grid, scratch and marks are the same, except for one more refusal: 61, with place 0, if there is no such field
  * or counts is not one entry a row. It is tried after 24 and before the value list.
  *
  * What counts holds on entry does not matter, also where a run is resumed: it is filled from the grid when the run is admitted. After 0
@@ -462,7 +462,7 @@ uint32_t cellang_run_resuming_counts(
     uint32_t field,
     uint64_t *report, size_t report_length);
 
-/* The entries that answer a question about row counts. Where fewer are lent, the first ones are told; any others stay. */
+/* The entries of an answer about row counts. If the buffer has fewer, the first ones are written; any others stay. */
 enum cellang_rows_entry {
     CELLANG_ROWS_NUMBER = 0, /* the reply's number */
     CELLANG_ROWS_VALUE = 1,  /* how many, or the row, at 0; else 0 */
@@ -470,15 +470,15 @@ enum cellang_rows_entry {
 };
 
 /*
- * Two questions, answered from row counts alone, without a source or a grid. The answers are what looking through the whole grid gives, if
+ * Two questions, answered from row counts alone, without a source or a grid. The answers are those that the whole grid would have, if
  * counts is as a run left it and nothing else wrote the grid or counts since.
  *
- * cellang_zeros_in_rows: how many cells of the rows first to last, both included, have 0 in the field. Gives 0, or 61 if last is below first
+ * cellang_zeros_in_rows: how many cells of the rows first to last, both included, have 0 in the field. Returns 0, or 61 if last is below first
  * or is no row of counts.
  *
- * cellang_first_zero_row: the first row that has such a cell. Gives 0, or 62 if no row has one.
+ * cellang_first_zero_row: the first row that has such a cell. Returns 0, or 62 if no row has one.
  *
- * Both give 61 if counts has 0 or more than CELLANG_MOST_SIZE entries.
+ * Both return 61 if counts has 0 or more than CELLANG_MOST_SIZE entries.
  */
 uint32_t cellang_zeros_in_rows(
     const uint32_t *counts, size_t counts_length,
@@ -495,9 +495,9 @@ uint32_t cellang_first_zero_row(
  * A grid can be stepped by a caller who never holds it as a whole, but at most so many of its rows at a time: `held`. The rows are those of the
  * first dimension, numbered from 0; where there is one dimension, each cell is a row.
  *
- * A band is some rows in order, from its first to its last, both included. Its cells read other rows too: the border rows before it and behind it.
+ * A band is some rows in order, from its first to its last, both included. Its cells read other rows too: the border rows before it and after it.
  * How many there are on either side follows from the lowest and the highest value, in the first dimension, of the indices that are written anywhere in
- * the source; an index variable has all values of its range. The rows before row 0 are the last ones of the grid, and those behind the last row the
+ * the source; an index variable has all values of its range. The rows before row 0 are the last ones of the grid, and those after the last row the
  * first ones. A border row may be one of the band's own, and the same row may be a border row more than once; each counts, so that the band's rows with
  * borders are always before + own + behind.
  *
@@ -506,27 +506,27 @@ uint32_t cellang_first_zero_row(
  *
  * A step of the grid is a cellang_step_band for each band of an accepted plan, in order. It is the step that cellang_run_full makes at that time, if
  * it is admitted: the bands' next rows together are the grid that the run leaves, and their counts add up to its count. If a band faults, its fault is
- * the run's, with place and cell, and the counts up to it add up to the run's; the bands behind it play no part, and the old rows are the grid that is
- * left. Next rows must not be written over old rows that a later band is still to be lent.
+ * the run's, with place and cell, and the counts up to it add up to the run's; the bands after it play no part, and the old rows are the grid that is
+ * left. Next rows must not be written over old rows that a later band still reads.
  *
  * cellang_run_banded makes a run of such steps, for a caller who has the grid.
  *
  * shape is that of the whole grid. All these calls leave words and names as cellang_check does.
  */
 
-/* The entries that tell border rows. Where fewer are lent, the first ones are told; any others stay. */
+/* The entries of border rows. If the buffer has fewer, the first ones are written; any others stay. */
 enum cellang_border_entry {
     CELLANG_BORDER_NUMBER = 0,          /* the reply's number */
     CELLANG_BORDER_PLACE = 1,           /* its place */
-    CELLANG_BORDER_BEFORE = 2,          /* how many border rows stand before a band, at 0; else 0 */
-    CELLANG_BORDER_BEHIND = 3,          /* how many stand behind it, at 0; else 0 */
-    CELLANG_BORDER_SPELLING = 4,        /* where the spelling stands: a cellang_spelling */
+    CELLANG_BORDER_BEFORE = 2,          /* how many border rows there are before a band, at 0; else 0 */
+    CELLANG_BORDER_BEHIND = 3,          /* how many after it, at 0; else 0 */
+    CELLANG_BORDER_SPELLING = 4,        /* where the spelling is: a cellang_spelling */
     CELLANG_BORDER_SPELLING_START = 5,  /* its first byte */
     CELLANG_BORDER_SPELLING_LENGTH = 6, /* its length in bytes */
     CELLANG_BORDER_LENGTH = 7           /* entries in all */
 };
 
-/* Tells how many border rows a source has, on either side at most as many as the grid has rows. Gives 0, or the first of: the replies of
+/* Returns how many border rows a source has, on either side at most as many as the grid has rows. Returns 0, or the first of: the replies of
  * cellang_check, 20, 23. */
 uint32_t cellang_border_rows(
     const uint8_t *source, size_t source_length,
@@ -536,7 +536,7 @@ uint32_t cellang_border_rows(
     const uint32_t *shape, size_t shape_length,
     uint32_t *reply, size_t reply_length);
 
-/* Checks a plan. Gives 0 if it is accepted, or the first of: the replies of cellang_check, 20, 23, 60. The entries of the reply are those of
+/* Checks a plan. Returns 0 if it is accepted, or the first of: the replies of cellang_check, 20, 23, 60. The entries of the reply are those of
  * cellang_check. */
 uint32_t cellang_check_plan(
     const uint8_t *source, size_t source_length,
@@ -548,23 +548,23 @@ uint32_t cellang_check_plan(
     const uint32_t *plan, size_t plan_length,
     uint32_t *reply, size_t reply_length);
 
-/* The entries that tell a plan. Where fewer are lent, the first ones are told; any others stay. */
+/* The entries of a plan. If the buffer has fewer, the first ones are written; any others stay. */
 enum cellang_planned_entry {
     CELLANG_PLANNED_NUMBER = 0,          /* the reply's number */
     CELLANG_PLANNED_PLACE = 1,           /* its place */
     CELLANG_PLANNED_BANDS = 2,           /* how many bands the plan has, at 0; else 0 */
-    CELLANG_PLANNED_SPELLING = 3,        /* where the spelling stands: a cellang_spelling */
+    CELLANG_PLANNED_SPELLING = 3,        /* where the spelling is: a cellang_spelling */
     CELLANG_PLANNED_SPELLING_START = 4,  /* its first byte */
     CELLANG_PLANNED_SPELLING_LENGTH = 5, /* its length in bytes */
     CELLANG_PLANNED_LENGTH = 6           /* entries in all */
 };
 
 /*
- * The planner: writes the accepted plan whose bands, in turn, are as long as can be. Gives 0, or the first of: the replies of cellang_check, 20, 21,
+ * The planner: writes the accepted plan whose bands, in turn, are as long as can be. Returns 0, or the first of: the replies of cellang_check, 20, 21,
  * 23, 59.
  *
- * bands is a room for one band a row: exactly two entries a row, else 21. At 0 the plan stands at its front, and the rest stays. 59 is given exactly
- * if no plan is accepted, which is if held is at most before + behind. Every refusal leaves bands as it was.
+ * bands is a room for one band a row: exactly two entries a row, else 21. At 0 the plan is at its front, and the rest stays. The reply is 59
+ * exactly if no plan is accepted, which is if held is at most before + behind. Every refusal leaves bands as it was.
  */
 uint32_t cellang_plan_bands(
     const uint8_t *source, size_t source_length,
@@ -577,7 +577,7 @@ uint32_t cellang_plan_bands(
     uint32_t *reply, size_t reply_length);
 
 /*
- * Steps one band, from row first to row last, at a time. Gives 0, 30 to 33, or the first of: the replies of cellang_check; 20; 60, if the band is
+ * Steps one band, from row first to row last, at a time. Returns 0, 30 to 33, or the first of: the replies of cellang_check; 20; 60, if the band is
  * reversed, ends past the last row, or has with borders more rows than held; 21; 22, as a run of one step that starts at the time; 23; 24, where the
  * place is the number of the lowest entry of rows that is out of range.
  *
@@ -603,7 +603,7 @@ uint32_t cellang_step_band(
 
 /*
  * Runs a source on a grid under a plan, as cellang_run_full_list does, or as cellang_run_full_counts if counted is not 0; but each step is made band by
- * band. Gives the replies of that run, and 60.
+ * band. Returns the replies of that run, and 60.
  *
  * plan has two entries a band. room is for the old rows of one band with borders: exactly held rows, each with the fields of all its cells. A room of
  * another length is refused 21, as grid, scratch and marks are. A plan that is not accepted is refused 60, with place 0, after everything else and also
@@ -632,12 +632,12 @@ uint32_t cellang_run_banded(
 
 /* ---- writing a value list */
 
-/* The entries that tell a writing. Where fewer are lent, the first ones are told; any others stay. */
+/* The entries of a writing. If the buffer has fewer, the first ones are written; any others stay. */
 enum cellang_written_entry {
     CELLANG_WRITTEN_NUMBER = 0,          /* the reply's number */
     CELLANG_WRITTEN_PLACE = 1,           /* its place */
     CELLANG_WRITTEN_TEXT = 2,            /* the length of the text in bytes, at 0; else 0 */
-    CELLANG_WRITTEN_SPELLING = 3,        /* where the spelling stands: a cellang_spelling */
+    CELLANG_WRITTEN_SPELLING = 3,        /* where the spelling is: a cellang_spelling */
     CELLANG_WRITTEN_SPELLING_START = 4,  /* its first byte */
     CELLANG_WRITTEN_SPELLING_LENGTH = 5, /* its length in bytes */
     CELLANG_WRITTEN_LENGTH = 6           /* entries in all */
@@ -649,12 +649,12 @@ enum cellang_written_entry {
 
 /*
  * Writes the value list that leads from one grid to another: a line with the time, and then, in rising order, a line with all fields for
- * each cell whose fields differ. Gives 0, 1 to 15, 40 to 45, 20 to 24 or 57.
+ * each cell whose fields differ. Returns 0, 1 to 15, 40 to 45, 20 to 24 or 57.
  *
- * Both grids are checked as for a run of 0 steps that starts at the time; the lower number is given, and at 24 the lowest entry of the earlier
+ * Both grids are checked as for a run of 0 steps that starts at the time; the reply is the lower number, and at 24 the lowest entry of the earlier
  * grid that is out of range, else of the later. earlier and later may overlap.
  *
- * At 0 the text stands at the front of the room, without a 0 behind it, and the rest of the room stays. A room shorter than the text is refused,
+ * At 0 the text is at the front of the room, without a 0 after it, and the rest of the room stays. A room shorter than the text is refused,
  * 57; this and every other refusal leaves the room as it was. A room of CELLANG_MOST_TIME_LINE bytes and CELLANG_MOST_CELL_LINE for each cell that
  * differs is always long enough.
  *
@@ -678,7 +678,7 @@ uint32_t cellang_write_list(
 
 #define CELLANG_MOST_COMPARED 2147483647 /* entries of a grid to compare */
 
-/* The entries that tell a comparison. Where fewer are lent, the first ones are told; any others stay. */
+/* The entries of a comparison. If the buffer has fewer, the first ones are written; any others stay. */
 enum cellang_comparison_entry {
     CELLANG_COMPARISON_NUMBER = 0, /* the reply's number */
     CELLANG_COMPARISON_TOTAL = 1,  /* how many entries differ, at 0; else 0 */
@@ -694,11 +694,11 @@ enum cellang_difference_number {
 };
 
 /*
- * Compares two grids, without a source, and lists the entries in which they differ, in rising order. Gives 0 or
+ * Compares two grids, without a source, and lists the entries in which they differ, in rising order. Returns 0 or
  * CELLANG_LENT_LENGTH.
  *
  * The grids have equally many entries, at most 2147483647, of any value; the room has 3k numbers. At 0 the first
- * k differences stand in the room, or all where there are fewer; the remaining room stays, and the total counts
+ * k differences are in the room, or all where there are fewer; the remaining room stays, and the total counts
  * them all. k may be 0. Where the grids are of unlike length or have more entries, or the room has another
  * length, the reply is 21, the total 0, and nothing is written to the room. Swapping the grids swaps the two
  * values of each difference and nothing else. left and right may overlap.

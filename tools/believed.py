@@ -60,7 +60,7 @@ def items_of(lines):
 
 
 def split_at_where(item):
-    """The lines of an item up to the first that ends in `where`, and those behind it."""
+    """The lines of an item up to the first that ends in `where`, and those after it."""
     for k, (_, line) in enumerate(item):
         if re.search(r"(^|\s)where$", line.rstrip()):
             return item[: k + 1], item[k + 1 :]
@@ -285,7 +285,7 @@ class Library:
         return {name: code for name, code in found.items() if code}
 
     def follow(self, crate, inside, path):
-        """The file that has the function at the end of a `pub use` path, which stands in a folder of modules of a crate; None for a type."""
+        """The file that has the function at the end of a `pub use` path, which is in a folder of modules of a crate; None for a type."""
         module = f"{inside}.{path[0]}"
         if (crate, module) not in self.codes:
             crate, module = path[0], ".".join(["src", *path[1:-1]]) if path[1:-1] else "src.lib"

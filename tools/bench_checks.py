@@ -3,7 +3,7 @@
 
     bench_checks.py [TIMES]
 
-Needs `rt check check_vectors` to have been run, which leaves the checker's program in target/bin. Each program reads the same stream of
+Needs `rt check vectors` to have been run, which leaves the program in target/bin. Each program reads the same stream of
 one source TIMES times over (default 400) and writes a line for each; the best of five runs counts, divided by TIMES. Reading the stream
 and writing the lines are part of it for both.
 """
@@ -14,7 +14,7 @@ import sys
 import time
 
 ROOT = os.path.dirname(os.path.dirname(os.path.abspath(__file__)))
-CHECKER = [os.path.join(ROOT, "target/bin/check_vectors")]
+CHECKER = [os.path.join(ROOT, "target/bin/vectors")]
 REFERENCE = [os.path.join(ROOT, "reference/target/release/reference"), "answer"]
 
 
@@ -47,7 +47,7 @@ def best(command, data):
 def main():
     times = int(sys.argv[1]) if len(sys.argv) > 1 else 400
     text = limit_source()
-    data = (struct.pack("<I", len(text)) + text) * times
+    data = (struct.pack("<II", 3, len(text)) + text) * times
     checker, answers = best(CHECKER, data)
     reference, expected = best(REFERENCE, data)
     assert answers == expected, "the replies differ"

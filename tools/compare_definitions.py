@@ -7,10 +7,10 @@ A case is one line of JSON, as `reference cases` writes it:
   {"source": [bytes], "check": [number, place]}
   {"source": [bytes], "shape": [..], "grid": [..], "start": s, "steps": n,
    "full": {"number": .., "place": .., "line": .., "cell": .., "steps": .., "count": .., "grid": [..]}, "quiet_count": k}
-A run may also have "values", the bytes of its value list, and "words", "names", "scratch" and "marks", the lengths of what is lent, where they are
+A run may also have "values", the bytes of its value list, and "words", "names", "scratch" and "marks", the lengths of the buffers, where they are
 not the right ones.
 
-It copies the crates into target/definitions, adds to crate services a module with lists of N cases and for each list the claim that no
+It copies the crates into target/definitions, adds to crate run_calls a module with lists of N cases and for each list the claim that no
 case fails, and checks it. A list that is refused, for a failing case or for the step limit, is checked again case by case. It prints
 the failing cases' numbers (from 0), how many cases there were and the time; its exit status is 0 only if all hold.
 """
@@ -32,9 +32,9 @@ use mathlib.Core.List.{List, [], _∷_}
 use mathlib.Core.Option.{none}
 use Prim.Native.Nat.{ℕ}
 use lib.IntN.{ℤ, pos, negsuc}
-use Rattle.stepper.specs.Report.{Report}
-use Rattle.services.specs.Running.{Asked}
-use Rattle.services.proofs.Theorems.Cases.{Lent, Case, checks, runs, failing, holds}
+use Rattle.run_meaning.specs.Report.{Report}
+use Rattle.run_calls.specs.Running.{Asked}
+use Rattle.run_calls.proofs.Theorems.Cases.{Lent, Case, checks, runs, failing, holds}
 
 abbrev lent : List ℕ → ℕ → ℕ → Lent
 lent source words names = record { source = source; words = words; names = names }
@@ -94,10 +94,10 @@ def singles(cases, which):
 
 def check(text):
     """The numbers of the claims that are refused, and the seconds that it took."""
-    with open(os.path.join(SCRATCH, "crates/services/proofs/Theorems/Claims.antt"), "w") as f:
+    with open(os.path.join(SCRATCH, "crates/run_calls/proofs/Theorems/Claims.antt"), "w") as f:
         f.write(text)
     begun = time.time()
-    r = subprocess.run(["rt", "dev", "services"], cwd=SCRATCH, stdout=subprocess.PIPE, stderr=subprocess.STDOUT, text=True)
+    r = subprocess.run(["rt", "dev", "run_calls"], cwd=SCRATCH, stdout=subprocess.PIPE, stderr=subprocess.STDOUT, text=True)
     refused = sorted({int(n) for n in re.findall(r"`claim(\d+)`", r.stdout)})
     if r.returncode != 0 and not refused:
         sys.exit("the check failed otherwise:\n" + r.stdout[-3000:])
@@ -107,19 +107,21 @@ def check(text):
 def prepare():
     shutil.rmtree(os.path.join(SCRATCH, "crates"), ignore_errors=True)
     os.makedirs(SCRATCH, exist_ok=True)
-    listed = ["value", "automaton", "token", "names", "program", "grammar", "semantics", "linking", "stepper", "one_move", "lists", "services"]
+    listed = ["value", "automaton", "token", "names", "program", "grammar", "cell_meaning", "read_links", "run_meaning", "move_meaning", "list_meaning", "run_calls"]
     lines = [l for l in open(os.path.join(ROOT, "crates.txt")) if l.split(":")[0] in listed]
     with open(os.path.join(SCRATCH, "crates.txt"), "w") as f:
         f.writelines(lines)
     for name in listed:
         shutil.copytree(os.path.join(ROOT, "crates", name), os.path.join(SCRATCH, "crates", name))
-    lib = os.path.join(SCRATCH, "crates/services/proofs/Theorems.antt")
+    lib = os.path.join(SCRATCH, "crates/run_calls/proofs/Theorems.antt")
     text = re.sub(r"(pub )?mod Examples\n", "", open(lib).read()) + "pub mod Claims\n"
     open(lib, "w").write(text)
-    os.remove(os.path.join(SCRATCH, "crates/services/proofs/Theorems/Examples.antt"))
+    os.remove(os.path.join(SCRATCH, "crates/run_calls/proofs/Theorems/Examples.antt"))
 
 
 def main():
+    if len(sys.argv) < 2 or not os.path.isfile(sys.argv[1]):
+        sys.exit("usage: compare_definitions.py CASES [--chunk N], where CASES is a file that `reference cases` wrote")
     chunk = int(sys.argv[sys.argv.index("--chunk") + 1]) if "--chunk" in sys.argv else 50
     cases = [json.loads(line) for line in open(sys.argv[1]) if line.strip()]
     prepare()

@@ -76,7 +76,7 @@ def gen(spec):
     numbers = lambda text: text if len(sl) < n else ''                       # what is wanted where a parameter is no slice
     c, f, core = 'cellang', spec['fn'], spec['core']
     dash = lambda s: s.replace('_', '-')
-    store = 'Rattle.records.proofs.rows.store_first'
+    store = 'Rattle.api_records.proofs.rows.store_first'
     here = f'Rattle.{c}.proofs.{spec["module"]}'
     P(f'''-- A walk of the MIR, by hand, with two calls and no branch, written by tools/entry_walk.py.
 -- Each `&mut` slice goes to a callee for good, at its own lifetime, share and name; a `&` slice is Copy, and one copy of what it owns is kept for the exit.
@@ -363,7 +363,7 @@ unfolding code.routine tablesOf
     (tables 𝓤 H 𝓜 𝓡 code.env .C) (tables 𝓤 H 𝓜 𝓡 code.env .Λ) #f code.function (code.unfolded 𝓤 H 𝓜 𝓡)
     (meets 𝓤 H (𝓖 .A) (givenOf 𝓤 H 𝓜 𝓖) (𝓜 .mem) (𝓡 .run) (tablesOf 𝓤 H 𝓜 (tables 𝓤 H 𝓜 𝓡 code.env))
     (cited 𝓤 H (Ck 𝓤 H (𝓖 .A) (𝓜 .mem) (𝓡 .run)) 𝓜 𝓡 code.env #ck ck-def.routine code.calls-{c}·{spec["module"]}·{dash(core)} (ck-thm.met 𝓤 H 𝓜 𝓖 𝓡))
-    (cited 𝓤 H (Sf 𝓤 H (𝓖 .A) (𝓜 .mem) (𝓡 .run)) 𝓜 𝓡 code.env #sf sf-def.routine code.calls-records·rows·store-first (sf-thm.met 𝓤 H 𝓜 𝓖 𝓡)))''')
+    (cited 𝓤 H (Sf 𝓤 H (𝓖 .A) (𝓜 .mem) (𝓡 .run)) 𝓜 𝓡 code.env #sf sf-def.routine code.calls-api-records·rows·store-first (sf-thm.met 𝓤 H 𝓜 𝓖 𝓡)))''')
     return '\n'.join(o) + '\n'
 
 MEMORY = '(memory {0} {1} {2} {3} {4} {5})'
@@ -371,7 +371,7 @@ ENTRY = MEMORY.format('v2', '{0}', 'v5', 'v6', 'v7', 'v12')
 EXIT = MEMORY.format('z2', '{0}', 'z5', 'z6', 'z7', 'z12')
 LENT = '(lent v0 v1 v4 ' + ENTRY + ' v8 v9 v10 v13 v14)'
 
-WRITER = '(writer-lent v0 v1 (wanted v4 v5 v6 v7) v2 {0} v8)'
+WRITER = '(source-lent v0 v1 v2 {0}) (wanted v4 v5 v6 v7) v8'
 
 CALLS = [
     {
@@ -379,16 +379,21 @@ CALLS = [
         'params': [('shr', 'u8'), ('shr', 'u8'), ('mut', 'u32'), ('names', 'Row')],
         'vals': '', 'plains': '', 'signed': '', 'builtins': '', 'integers': '',
         'uses': '''
-use Rattle.records.specs.declared.Name.{Name}
+use Rattle.api_records.specs.declared.Name.{Name}
 use Rattle.cellang.specs.declared.checking.Answer.{Answer}
-use Rattle.cellang.specs.Left.{lent-rows-fit}
-use Rattle.cellang.specs.Contracts.Promises.{ChecksOver, ChecksRows}
+use Rattle.grammar.specs.Complaint.{complaint}
+use Rattle.grammar.specs.Checking.{check}
+use Rattle.run_calls.specs.Calls.{source-lent, source-left}
+use Rattle.cellang.specs.Left.{row-names}
+use Rattle.cellang.specs.Storing.{lent-rows-fit}
+use Rattle.cellang.specs.Contracts.Rows.{LeavesRows}
+use Rattle.cellang.specs.Contracts.Promises.{ChecksOver}
 use Rattle.cellang.proofs.checking.Answer.Laws as O′
-use Rattle.records.proofs.NameRow.{Row, vals, makes}
+use Rattle.api_records.proofs.NameRow.{Row, vals, makes}
 use Rattle.cellang.proofs.AnswerRow.{OutRow, ReplyRow, reply-mach, out-tells, rows-is, count-fits, reply-is, reply-makes, out-typed, reply-typed}''',
         'said': 'ChecksOver (lent-rows-fit v1 (length v2) (length v3)) v0 v2 (length v3) r z2',
-        'final': 'ChecksRows (lent-rows-fit v1 (length v2) (length v3)) v0 v2 v3 (r .reply) z2 ns',
-        'proof': 'record { reply = e .reply; words = e .words; names = h ∙ e .stores v3 refl }',
+        'final': 'LeavesRows (source-left row-names (source-lent v0 v1 v2 v3) check) (complaint (r .reply .number) (r .reply .place)) z2 ns',
+        'proof': 'record { is = λ i. record { answer = e .reply i; words = e .words i; names = (h ∙ e .stores v3 refl) i } }',
         'may': 'e .few',
     },
     {
@@ -396,16 +401,20 @@ use Rattle.cellang.proofs.AnswerRow.{OutRow, ReplyRow, reply-mach, out-
         'params': [('shr', 'u8'), ('shr', 'u8'), ('mut', 'u32'), ('names', 'Row')],
         'vals': '', 'plains': '', 'signed': '', 'builtins': '', 'integers': '',
         'uses': '''
-use Rattle.records.specs.declared.Name.{Name}
+use Rattle.api_records.specs.declared.Name.{Name}
 use Rattle.cellang.specs.declared.profiling.ProfileAnswer.{ProfileAnswer}
-use Rattle.cellang.specs.Left.{lent-rows-fit}
-use Rattle.cellang.specs.Contracts.Promises.{ProfilesOver, ProfilesRows}
+use Rattle.move_meaning.specs.Profile.{missed, one-move}
+use Rattle.run_calls.specs.Calls.{source-lent, source-left}
+use Rattle.cellang.specs.Left.{row-names}
+use Rattle.cellang.specs.Storing.{lent-rows-fit}
+use Rattle.cellang.specs.Contracts.Rows.{LeavesRows}
+use Rattle.cellang.specs.Contracts.Promises.{ProfilesOver}
 use Rattle.cellang.proofs.profiling.ProfileAnswer.Laws as O′
-use Rattle.records.proofs.NameRow.{Row, vals, makes}
+use Rattle.api_records.proofs.NameRow.{Row, vals, makes}
 use Rattle.cellang.proofs.ProfileAnswerRow.{OutRow, ProfileRow, profile-mach, out-tells, rows-is, count-fits, profile-is, profile-makes, out-typed, profile-typed}''',
         'said': 'ProfilesOver (lent-rows-fit v1 (length v2) (length v3)) v0 v2 (length v3) r z2',
-        'final': 'ProfilesRows (lent-rows-fit v1 (length v2) (length v3)) v0 v2 v3 (r .profile) z2 ns',
-        'proof': 'record { answer = e .answer; words = e .words; names = h ∙ e .stores v3 refl }',
+        'final': 'LeavesRows (source-left row-names (source-lent v0 v1 v2 v3) one-move) (missed (r .profile .rule) (r .profile .number) (r .profile .place)) z2 ns',
+        'proof': 'record { is = λ i. record { answer = e .answer i; words = e .words i; names = (h ∙ e .stores v3 refl) i } }',
         'may': 'e .few',
     },
     {
@@ -414,20 +423,20 @@ use Rattle.cellang.proofs.ProfileAnswerRow.{OutRow, ProfileRow, profile
         'vals': ', vbool, ofZ', 'plains': ', uint-vals, uint-tells, uint-lawful, bool-vals, bool-tells, bool-makes, bool-lawful', 'signed': 'use denote.Signed.{sint-vals, sint-tells, sint-makes, sint-lawful}\n',
         'builtins': 'i32, i64, bool, ', 'integers': 'use mathlib.Core.Bool.{Bool}\nuse lib.IntN.{ℤ}\n',
         'uses': '''
-use Rattle.stepper.specs.Report.{full}
-use Rattle.services.specs.Calls.{memory, lent, asked, read-lent, run-report}
-use Rattle.services.specs.RangesKept.{RangesKept}
-use Rattle.iteration.specs.declared.Manner.{Manner}
-use Rattle.iteration.specs.Contracts.Stepwise.{told}
-use Rattle.runner.specs.Contracts.Sourcewise.{manner-of, RunLeaves}
-use Rattle.runner.specs.Contracts.Agreement.{AgreesFresh}
-use Rattle.runner.proofs.RunLaws.{run-agrees, run-ranges}
-use Rattle.records.specs.declared.Name.{Name}
+use Rattle.run_meaning.specs.Report.{full}
+use Rattle.run_calls.specs.Calls.{memory, lent, asked, read-lent, run-report}
+use Rattle.run_calls.specs.RangesKept.{RangesKept}
+use Rattle.run_steps.specs.declared.Manner.{Manner}
+use Rattle.run_steps.specs.Told.{told}
+use Rattle.run_source.specs.Contracts.Public.{manner-of, RunLeaves}
+use Rattle.run_source.specs.Contracts.Agreement.{AgreesFresh}
+use Rattle.run_source.proofs.RunLaws.{run-agrees, run-ranges}
+use Rattle.api_records.specs.declared.Name.{Name}
 use Rattle.cellang.specs.declared.running.RunAnswer.{RunAnswer}
 use Rattle.cellang.specs.Left.{row-names}
 use Rattle.cellang.specs.Contracts.Promises.{RunsOver}
 use Rattle.cellang.proofs.running.RunAnswer.Laws as O′
-use Rattle.records.proofs.NameRow.{Row, vals, makes}
+use Rattle.api_records.proofs.NameRow.{Row, vals, makes}
 use Rattle.cellang.proofs.MannerRow.{MannerRow, manner-val, manner-vals, manner-tells, manner-makes, manner-lawful}
 use Rattle.cellang.proofs.RunAnswerRow.{OutRow, ReportRow, report-mach, out-tells, rows-is, count-fits, report-is, report-makes, out-typed, report-typed}''',
         'said': f'RunsOver (manner-of v11 v7) (length v3) (λ m. {LENT.format("m")}) r (λ m. {EXIT.format("m")})',
@@ -441,18 +450,20 @@ use Rattle.cellang.proofs.RunAnswerRow.{OutRow, ReportRow, report-mach,
         'vals': ', ofZ', 'plains': '', 'signed': 'use denote.Signed.{sint-vals, sint-tells, sint-makes, sint-lawful}\n',
         'builtins': 'i32, i64, ', 'integers': 'use lib.IntN.{ℤ}\n',
         'uses': '''
-use Rattle.list_writer.specs.WriterCalls.{wanted, writer-lent}
+use Rattle.run_calls.specs.Calls.{source-lent}
+use Rattle.list_writer.specs.WriterCalls.{wanted, writer-left, wrote-of}
 use Rattle.list_writer.specs.Contracts.Writing.{WriterLeaves}
-use Rattle.records.specs.declared.Name.{Name}
+use Rattle.api_records.specs.declared.Name.{Name}
 use Rattle.cellang.specs.declared.writing.WriteAnswer.{WriteAnswer}
 use Rattle.cellang.specs.Left.{row-names}
+use Rattle.cellang.specs.Contracts.Rows.{LeavesRows}
 use Rattle.cellang.specs.Contracts.Promises.{WritesOver}
 use Rattle.cellang.proofs.writing.WriteAnswer.Laws as O′
-use Rattle.records.proofs.NameRow.{Row, vals, makes}
+use Rattle.api_records.proofs.NameRow.{Row, vals, makes}
 use Rattle.cellang.proofs.WriteAnswerRow.{OutRow, WrittenRow, written-mach, out-tells, rows-is, count-fits, written-is, written-makes, out-typed, written-typed}''',
-        'said': f'WritesOver (length v3) (λ m. {WRITER.format("m")}) r z2 z8',
-        'final': f'WriterLeaves row-names {WRITER.format("v3")} (r .written) z2 ns z8',
-        'proof': f'subst (λ m. WriterLeaves row-names {WRITER.format("v3")} (r .written) z2 m z8) (sym h) (e .stores v3 refl)',
+        'said': 'WritesOver (length v3) (source-lent v0 v1 v2) (wanted v4 v5 v6 v7) v8 r z2 z8',
+        'final': f'LeavesRows (writer-left row-names {WRITER.format("v3")}) (wrote-of (r .written) z8) z2 ns',
+        'proof': f'record {{ is = subst (λ m. WriterLeaves row-names {WRITER.format("v3")} (r .written) z2 m z8) (sym h) (e .stores v3 refl) .is }}',
         'may': 'e .few',
     },
 ]

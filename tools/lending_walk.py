@@ -1,12 +1,12 @@
 #!/usr/bin/env python3
-"""Writes the proofs by hand of the calls that lend a row of records (crate `naming`):
+"""Writes the long proofs of the calls that pass a row of records by reference (crate `api_naming`):
 
     pub fn F(p0, .., rows: [Name; 256], .., pn) -> R {
         let mut names = rows;
         cellang::F(p0, .., &mut names, .., pn)
     }
 
-or, where the row is given back, with `let report = cellang::F(..); Ran { report: report, rows: names }` for the last line. As in tools/entry_walk.py, the positions
+or, where the row is returned, with `let report = cellang::F(..); Ran { report: report, rows: names }` for the last line. As in tools/entry_walk.py, the positions
 of the walk's context are computed. After a change of a signature, change CALLS below and run it, then `rt fmt`. A parameter is (kind, row), as there, and
 ("rows", "Row") is the row of records by value.
 """
@@ -55,7 +55,7 @@ def gen(spec):
     Answer, wraps, f, callee = spec['answer'], spec['wraps'], spec['fn'], spec['callee']
     row_of = f'{Answer}Row'; ok = f'{Answer.lower()}-ok'
     dash = lambda s: s.replace('_', '-')
-    here = f'Rattle.naming.proofs.{f}'; there = f'Rattle.cellang.proofs.{callee}'
+    here = f'Rattle.api_naming.proofs.{f}'; there = f'Rattle.cellang.proofs.{callee}'
     nd = 'stay-none, goes-none, '
     o = []; P = o.append
     P(f'''-- A walk of the MIR, by hand, written by tools/lending_walk.py: a local array of records is lent as a `&mut [Name]` to `cellang::{callee}`, for a lifetime that the
@@ -108,9 +108,9 @@ use denote.Triple.Clauses.{{ensured, lasts}}
 use denote.Triple.Walked.{{says, Stays, stay-none, stay-none-slice, gave-slice, walkOf, goes-none, goes-none-slice, goes-gave-slice, Walks, ends-at, walked, walk-meets}}
 use denote.Exit.{{yes}}
 {spec['uses'].strip()}
-use Rattle.records.specs.declared.Name.{{Name}}
-use Rattle.records.proofs.NameRow.{{Row, vals, tells, makes, ArrayTy, array-ok, array-mach, cell-row, row-cell, row-room}}
-use Rattle.naming.proofs.RanRow.{{RanRow, ran-mach, ran-is, ran-makes, ran-ok, reply-ok, report-ok}}
+use Rattle.api_records.specs.declared.Name.{{Name}}
+use Rattle.api_records.proofs.NameRow.{{Row, vals, tells, makes, ArrayTy, array-ok, array-mach, cell-row, row-cell, row-room}}
+use Rattle.api_naming.proofs.RanRow.{{RanRow, ran-mach, ran-is, ran-makes, ran-ok, reply-ok, report-ok}}
 use {there} as g
 use {there}.Symbol as g-def
 use {there}.Symbol.{{name as #g}}
@@ -365,31 +365,34 @@ CALLS = [
         'uses': '''
 use Rattle.grammar.specs.Checking.{check, words-after}
 use Rattle.names.specs.Names.{most-names}
-use Rattle.checker.specs.declared.checking.Reply.{Reply}
-use Rattle.cellang.specs.Left.{lent-rows-fit}
-use Rattle.cellang.specs.Contracts.Promises.{ChecksRows}
+use Rattle.read_source.specs.declared.checking.Reply.{Reply}
+use Rattle.grammar.specs.Complaint.{complaint}
+use Rattle.run_calls.specs.Calls.{source-lent, source-left}
+use Rattle.cellang.specs.Left.{row-names}
+use Rattle.cellang.specs.Storing.{lent-rows-fit}
+use Rattle.cellang.specs.Contracts.Rows.{LeavesRows}
 use Rattle.cellang.proofs.AnswerRow.{ReplyRow}
-use Rattle.naming.specs.Contracts.Promises.{ChecksSource}''',
-        'said': 'ChecksRows (lent-rows-fit v1 (length v2) (length v3)) v0 v2 v3 r z2 ns',
+use Rattle.api_naming.specs.Contracts.Promises.{ChecksSource}''',
+        'said': 'LeavesRows (source-left row-names (source-lent v0 v1 v2 v3) check) (complaint (r .number) (r .place)) z2 ns',
         'final': 'ChecksSource (lent-rows-fit v1 (length v2) most-names) v0 v2 r z2',
-        'proof': 'record { reply = e .reply ∙ ap (λ (n : ℕ). check (lent-rows-fit v1 (length v2) n) v0) long; words = e .words ∙ ap (λ (n : ℕ). words-after (lent-rows-fit v1 (length v2) n) v0 v2) long }',
+        'proof': 'record { reply = ap (λ x. x .answer) (e .is) ∙ ap (λ (n : ℕ). check (lent-rows-fit v1 (length v2) n) v0) long; words = ap (λ x. x .words) (e .is) ∙ ap (λ (n : ℕ). words-after (lent-rows-fit v1 (length v2) n) v0 v2) long }',
     },
     {
         'fn': 'run', 'callee': 'run', 'answer': 'Report', 'wraps': True,
         'params': [('shr', 'u8'), ('shr', 'u8'), ('mut', 'u32'), ('rows', 'Row'), ('shr', 'u32'), ('mut', 'i32'), ('mut', 'i32'), ('mut', 'u8'), ('shr', 'u8'), ('sint', 'w64'), ('sint', 'w64'), ('enum', 'Manner'), ('mut', 'u32'), ('bool', ''), ('uint', 'w32')],
         'uses': '''
-use Rattle.stepper.specs.Report.{full}
-use Rattle.services.specs.Calls.{memory, lent, asked, read-lent, run-report}
-use Rattle.services.specs.RangesKept.{RangesKept}
-use Rattle.iteration.specs.declared.Report.{Report}
-use Rattle.iteration.specs.declared.Manner.{Manner}
-use Rattle.iteration.specs.Contracts.Stepwise.{told}
-use Rattle.runner.specs.Contracts.Sourcewise.{manner-of, RunLeaves}
-use Rattle.runner.specs.Contracts.Agreement.{AgreesFresh}
+use Rattle.run_meaning.specs.Report.{full}
+use Rattle.run_calls.specs.Calls.{memory, lent, asked, read-lent, run-report}
+use Rattle.run_calls.specs.RangesKept.{RangesKept}
+use Rattle.run_steps.specs.declared.Report.{Report}
+use Rattle.run_steps.specs.declared.Manner.{Manner}
+use Rattle.run_steps.specs.Told.{told}
+use Rattle.run_source.specs.Contracts.Public.{manner-of, RunLeaves}
+use Rattle.run_source.specs.Contracts.Agreement.{AgreesFresh}
 use Rattle.cellang.specs.Left.{row-names}
 use Rattle.cellang.proofs.MannerRow.{MannerRow, manner-val, manner-vals, manner-tells, manner-makes, manner-lawful}
 use Rattle.cellang.proofs.RunAnswerRow.{ReportRow}
-use Rattle.naming.specs.declared.Ran.{Ran}''',
+use Rattle.api_naming.specs.declared.Ran.{Ran}''',
         'said': f'RunLeaves row-names (manner-of v11 v7) {LENT.format("v3")} r {EXIT.format("ns")} × AgreesFresh v11 (told r z5) (run-report row-names full {LENT.format("v3")}) × RangesKept v0 (read-lent row-names {LENT.format("v3")}) (asked {LENT.format("v3")}) z5',
         'final': f'RunLeaves row-names (manner-of v11 v7) {LENT.format("v3")} r {EXIT.format("ns")}',
         'proof': 'e .0',
@@ -399,7 +402,7 @@ use Rattle.naming.specs.declared.Ran.{Ran}''',
 if __name__ == '__main__':
     root = os.path.dirname(os.path.dirname(os.path.abspath(__file__)))
     for call in CALLS:
-        path = os.path.join(root, 'crates/naming/proofs', call['fn'], 'Proof.antt')
+        path = os.path.join(root, 'crates/api_naming/proofs', call['fn'], 'Proof.antt')
         os.makedirs(os.path.dirname(path), exist_ok=True)
         with open(path, 'w') as out:
             out.write(gen(call))

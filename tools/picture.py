@@ -232,7 +232,7 @@ def write(name, data):
 
 
 def made(asked):
-    """What is asked for."""
+    """The output that the arguments request."""
     if asked.way == "grid":
         return grid_of(read(asked.input), asked.fields)
     if asked.way == "image":

@@ -1,5 +1,5 @@
 #!/usr/bin/env python3
-"""Writes into crates/services/proofs/Theorems/Cases.antt the names of all definitions that a worked case computes with.
+"""Writes into crates/run_calls/proofs/Theorems/Cases.antt the names of all definitions that a worked case computes with.
 
 Run it after a definition was added, renamed or removed. It rewrites the `use` lines of whole modules and the `unfolding` line of `holds`.
 """
@@ -8,18 +8,18 @@ import re
 import textwrap
 
 ROOT = os.path.dirname(os.path.dirname(os.path.abspath(__file__)))
-CASES = os.path.join(ROOT, "crates/services/proofs/Theorems/Cases.antt")
+CASES = os.path.join(ROOT, "crates/run_calls/proofs/Theorems/Cases.antt")
 # the modules of definitions, in reading order
 DEFINITIONS = [
     ("automaton", ["Listed", "Step", "Shape", "Grid", "Rows"]),
     ("token", ["Bytes", "Kind", "Lexeme", "Scanning"]),
     ("names", ["Names"]),
-    ("grammar", ["Complaint", "Reader", "Constants", "Expressions", "Statements", "Source", "Checking"]),
-    ("semantics", ["Operators", "Evaluation", "Written", "Places", "Stands"]),
-    ("stepper", ["Reach", "Admission", "Report"]),
-    ("one_move", ["Profile"]),
-    ("lists", ["Text", "Lines", "ListChecking", "Setting"]),
-    ("services", ["Running", "Services"]),
+    ("grammar", ["Ranking", "Reader", "Constants", "Expressions", "Statements", "Source", "Checking"]),
+    ("cell_meaning", ["Operators", "Evaluation", "Written", "Places", "Links"]),
+    ("run_meaning", ["Reach", "Admission", "Report"]),
+    ("move_meaning", ["Profile"]),
+    ("list_meaning", ["Text", "Lines", "ListChecking", "Setting"]),
+    ("run_calls", ["Running", "Services"]),
 ]
 
 
@@ -34,7 +34,7 @@ def modules():
 def main():
     uses, opened = [], ["same-report"]
     for crate, module, names in modules():
-        path = "Rattle.services.specs" if crate == "services" else "Rattle.%s.specs" % crate
+        path = "Rattle.run_calls.specs" if crate == "run_calls" else "Rattle.%s.specs" % crate
         uses.append("use %s.%s" % (path, module))
         opened += ["%s.%s" % (module, name) for name in names]
     text = open(CASES).read()

@@ -14,7 +14,7 @@ struct Planned {
     held: Held<'static, 'static>,
     border: Border,
     bands: Vec<Band>,
-    /// The plan as it is lent.
+    /// The plan as it is passed.
     entries: Vec<u32>,
     /// For the rows that are held.
     room: Vec<i32>,
@@ -169,7 +169,7 @@ fn tables() -> u64 {
     64 * 1_024 + 4 * 1_024 + 131_104 + LIFE.len() as u64
 }
 
-/// The memory that one band's step touches, beside that of a full run of one step and of the same run under the plan: by what is lent and the table that
+/// The memory that one band's step touches, beside that of a full run of one step and of the same run under the plan: by what is passed and the table that
 /// a call makes, and as measured in pages, which has code and the rest of the stack besides.
 pub fn memory() {
     let grid = random_life();

@@ -107,7 +107,7 @@ fn rules() -> Vec<Rule> {
     ]
 }
 
-/// The seconds that this thread has run, where the system tells them, so that other work on the machine counts little.
+/// The seconds that this thread has run, where the system reports it, so that other work on the machine counts little.
 fn seconds(begun: Instant) -> f64 {
     let told = fs::read_to_string("/proc/thread-self/schedstat").unwrap_or_default();
     match told
@@ -398,14 +398,14 @@ fn on_list(lines: usize, times: usize) -> [f64; 2] {
     };
     let second = || run_second_with(SOURCE, &SIZES, &grid, 0, &list);
     assert!(proved() == second(), "{lines} lines: the programs differ");
-    // Short runs are made several times, since the system tells the time in coarse steps.
+    // Short runs are made several times, since the system reports the time in coarse steps.
     let again = (1_000_000 / lines).min(20);
     let mut proved = || (0..again).for_each(|_| drop(proved()));
     let mut second = || (0..again).for_each(|_| drop(second()));
     best_each(times, [&mut proved, &mut second]).map(|t| t / again as f64)
 }
 
-/// Value lists of one block: how the time grows with the lines. What a run takes with the time's line alone is told first, and left out of the
+/// Value lists of one block: how the time grows with the lines. What a run takes with the time's line alone is printed first, and left out of the
 /// time a line.
 fn lists(times: usize) {
     println!(

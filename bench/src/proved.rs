@@ -4,7 +4,7 @@ use cellang::{
     run_in, BandedLent, BandedRun, CountingLent, Done, Held, Lent, Mode, Run, NAME_WORDS, WORDS,
 };
 
-/// The memory that a run is lent, beside the grid.
+/// The memory that a run is passed, beside the grid.
 pub struct Rooms {
     words: Vec<u32>,
     names: Vec<u32>,

@@ -1,5 +1,5 @@
 /* Calls the library from C: the marked examples M1 to M13, spellings, value lists and their writer, runs that are paused and resumed,
- * row counts, rules that move a pixel once, bands of rows, comparisons of grids, and what the lent memory holds afterwards. */
+ * row counts, rules that move a pixel once, bands of rows, comparisons of grids, and what the caller's memory holds afterwards. */
 #ifndef _DEFAULT_SOURCE
 #define _DEFAULT_SOURCE /* for mmap of memory without a file */
 #endif
@@ -67,7 +67,7 @@ typedef uint32_t list_run_call(const uint8_t *, size_t, const uint8_t *, size_t,
                                const uint32_t *, size_t, int32_t *, size_t, int32_t *, size_t, uint8_t *, size_t, const uint8_t *,
                                size_t, int64_t, int64_t, uint64_t *, size_t);
 
-/* The runs that take a value list. The last two leave their marks standing, and the last one begins from lent marks. */
+/* The runs that take a value list. The last two leave their marks standing, and the last one begins from the caller's marks. */
 #define LIST_RUNS 4
 static list_run_call *const list_runs[LIST_RUNS] = {cellang_run_full_list, cellang_run_quiet_list, cellang_run_pausing,
                                                     cellang_run_resuming};
@@ -416,7 +416,7 @@ static void blocks(void) {
     expect_block("a fault behind a block", "6\n[0] = 2\n[1] = 9\n7\n[0] = 7\n", 4, fault, 2, 9);
 }
 
-/* Fewer entries than there are: the first ones are told, and the others stay. */
+/* Fewer entries than there are: the first ones are written, and the others stay. */
 static void report_lengths(void) {
     const char *list = "0\n[1] = 1\n";
     const uint32_t shape[] = {1};
@@ -514,7 +514,7 @@ static const struct slice slices[] = {
      {CELLANG_LIST_TIME_BEFORE_START, 0, 0, 0, 0, 0, 0, 0, 1}, {1, 0, 0, 0, 0}, {0, 1, 2, 3, 255}},
 };
 
-/* Runs on the row and the marks as they stand. */
+/* Runs on the current row and marks. */
 static uint32_t run_slice(list_run_call *run, const char *source, uint32_t cells, uint32_t marks_length, const char *list,
                           int64_t start, int64_t steps, uint64_t *report) {
     memset(scratch, UNTOUCHED, sizeof scratch);
@@ -635,7 +635,7 @@ static void expect_joined(const char *source, uint64_t number, list_run_call *ru
     begin_chain(&at_once, row, lent);
     add_call(&at_once, run, source, 0, JOINED_BLOCKS, start, JOINED_STEPS);
     expect(at_once.report[0] == number, source);
-    /* parted behind each number of steps, with a block of that time in either list */
+    /* divided after each number of steps, with a block of that time in either list */
     for (int64_t steps = 0; steps <= JOINED_STEPS; steps++) {
         for (size_t parted = 0; parted <= JOINED_BLOCKS; parted++) {
             if ((parted == 0 || joined_times[parted - 1] <= start + steps)
@@ -819,7 +819,7 @@ static void counts_of_slices(void) {
     expect(memcmp(counts, later, sizeof counts) == 0, "the counts of a later slice");
 }
 
-/* Asks how many zeros there are in rows; a reply of any length is told. */
+/* Asks how many zeros there are in rows, by replies of any length. */
 static void expect_zeros(const uint32_t *counts, size_t length, uint32_t first, uint32_t last, uint32_t number, uint64_t value) {
     const uint64_t told[CELLANG_ROWS_LENGTH] = {number, value};
     for (size_t lent = 0; lent <= CELLANG_ROWS_LENGTH + 1; lent++) {
@@ -879,7 +879,7 @@ static void row_counts(void) {
 #define MOST_PLAN 24
 #define STRIP 16
 
-/* What cellang_check tells of a source and leaves. */
+/* What cellang_check returns of a source and leaves. */
 static uint32_t checked[CELLANG_REPLY_LENGTH], checked_words[CELLANG_WORDS], checked_names[CELLANG_NAME_WORDS];
 
 /* Checks a source, and makes words and names ready for a call that is to leave them so. */
@@ -896,7 +896,7 @@ static int left_as_checked(void) {
     return memcmp(words, checked_words, sizeof words) == 0 && memcmp(names, checked_names, sizeof names) == 0;
 }
 
-/* Whether of a reply, which held UNTOUCHED and of which so many entries were lent, the first ones are told and the others stayed. */
+/* Whether of a reply, which held UNTOUCHED and of which so many entries were passed, the first ones are written and the others stayed. */
 static int told_first(const uint32_t *reply, size_t lent, const uint32_t *told, size_t length) {
     for (size_t i = 0; i <= length; i++) {
         if (reply[i] != (i < lent && i < length ? told[i] : UNTOUCHED)) {
@@ -962,7 +962,7 @@ static void expect_plan(const char *what, const char *source, const uint32_t *sh
     }
 }
 
-/* Plans in a room of which so many entries are lent, by replies of any length; the plan is to stand at its front, and the rest is to stay. */
+/* Plans in a room of which so many entries are passed, by replies of any length; the plan is to be at its front, and the rest is to stay. */
 static void expect_planned(const char *what, const char *source, const uint32_t *shape, size_t dimensions, uint32_t held, size_t length,
                            uint32_t number, uint32_t place, uint32_t bands, const uint32_t *plan) {
     for (size_t lent = 0; lent <= CELLANG_PLANNED_LENGTH + 1; lent++) {
@@ -1040,7 +1040,7 @@ static void plans(void) {
     expect_plan("and can be held", TENS "cell := [5]", five, 1, 10, whole, 2, CELLANG_DONE, 0);
 }
 
-/* One band's call, and what it is to tell and leave. */
+/* One band's call, and what it is to return and leave. */
 struct band_call {
     const char *what;
     const char *source;
@@ -1129,7 +1129,7 @@ static void expect_band(const struct band_call *c) {
     }
 }
 
-/* Steps each band of a plan by its old rows, until one faults, and puts the next rows together. Tells the last report, with the sum of the counts. */
+/* Steps each band of a plan by its old rows, until one faults, and puts the next rows together. Returns the last report, with the sum of the counts. */
 static void step_by_bands(const char *source, const uint32_t *shape, size_t dimensions, size_t row, uint32_t held, const uint32_t *plan,
                           uint32_t bands, const uint32_t *border, const int32_t *old, int32_t *next, int64_t time, uint64_t *told) {
     uint64_t count = 0;
@@ -1148,7 +1148,7 @@ static void step_by_bands(const char *source, const uint32_t *shape, size_t dime
     told[CELLANG_REPORT_COUNT] = count;
 }
 
-/* A run under a plan, and what it is to tell and leave. counts_after is of a run that began and counts; where counted is 0 the counts are to be as
+/* A run under a plan, and what it is to return and leave. counts_after is of a run that began and counts; where counted is 0 the counts are to be as
  * they were. */
 struct banded_run {
     const char *what;
@@ -1384,7 +1384,7 @@ static void bands_of_rows(void) {
 
 static const uint32_t no_shape[1] = {0};
 
-/* Writes into the front of a room, of which `length` bytes are lent; the text is to stand there, and the rest of the room is to stay. */
+/* Writes into the front of a room, of which `length` bytes are passed; the text is to be there, and the rest of the room is to stay. */
 static void expect_written(const char *what, const char *source, const uint32_t *shape, size_t dimensions, const int32_t *earlier,
                            size_t earlier_length, const int32_t *later, size_t later_length, int64_t time, size_t length,
                            uint32_t number, uint64_t place, const char *text) {
@@ -1481,7 +1481,7 @@ static void writings(void) {
 #define MOVING MOVING_FIELDS "if cell.moved = 0 then cell.c := [0,1].c cell.moved := 1 end"
 #define MOVING_ENTRIES 12
 
-/* Tells whether a source is in the profile, into any number of entries; words and names are left as a check leaves them. */
+/* Checks whether a source is in the profile, with any number of entries; words and names are left as a check leaves them. */
 static void expect_profile(const char *source, uint32_t rule, uint32_t number, uint32_t place) {
     static uint32_t words_of_check[CELLANG_WORDS], names_of_check[CELLANG_NAME_WORDS];
     const uint32_t told[CELLANG_PROFILE_LENGTH] = {rule, number, place};

@@ -1,5 +1,5 @@
 #!/bin/sh
-# Builds the C test with the static library, as C11 and as C++11, and runs both.
+# Builds the C test with the static library, as C11 and as C++11, and runs both; then the example, whose output is compared.
 set -eu
 cd "$(dirname "$0")/../.."
 library=target/staticlib/libcellang.a
@@ -14,3 +14,5 @@ flags='-Wall -Wextra -Wpedantic -Werror -O2 -Iinclude'
 "${CXX:-c++}" -std=c++11 $flags -x c++ bindings/c/test.c -x none "$library" -o "$folder/test_cpp"
 "$folder/test_c"
 "$folder/test_cpp"
+"${CC:-cc}" -std=c11 $flags bindings/c/life.c "$library" -o "$folder/life"
+"$folder/life" | diff bindings/c/life.stdout -

@@ -41,7 +41,7 @@ impl From<Refusal> for Report {
     }
 }
 
-/// A source with what is lent beside it in every call that reads one: the
+/// A source with what is passed beside it in every call that reads one: the
 /// built-in list, and the lengths of the word table and the name list.
 #[derive(Clone, Copy)]
 pub struct Read<'a> {
@@ -52,7 +52,7 @@ pub struct Read<'a> {
 }
 
 impl Read<'_> {
-    /// A source, with all that is lent beside it as it has to be.
+    /// A source, with all that is passed beside it as it has to be.
     pub fn of(source: &[u8]) -> Read<'_> {
         Read {
             source,
@@ -157,7 +157,7 @@ pub fn admit_grid(program: &Program, asked: &Asked) -> Result<(), Refusal> {
     admit_entries(program, asked.grid)
 }
 
-/// What is lent to a run beside the memory it writes.
+/// What is passed to a run beside the memory it writes.
 #[derive(Clone, Copy)]
 pub struct Lent<'a> {
     pub source: &'a [u8],
@@ -172,7 +172,7 @@ pub struct Lent<'a> {
     pub steps: i64,
 }
 
-/// What a run is asked to count: the zeros of a field, into so many counts.
+/// What a run is to count: the zeros of a field, into so many counts.
 #[derive(Clone, Copy, PartialEq, Eq, Debug)]
 pub struct Counted {
     pub field: u32,
@@ -188,7 +188,7 @@ pub struct Under<'a> {
     pub room: usize,
 }
 
-/// What a run is asked beside its steps.
+/// The request of a run beside its steps.
 #[derive(Clone, Copy, PartialEq, Eq, Debug, Default)]
 pub struct Beside<'a> {
     pub counted: Option<Counted>,
@@ -222,8 +222,8 @@ pub fn admit(
     admit_beside(lent, grid, scratch, marks, Beside::default())
 }
 
-/// The same of a run that is asked more: 61 stands behind 24 and before the
-/// list, 60 is tried last.
+/// The same of a run with a longer request: 61 is tried after 24 and before
+/// the list, 60 last.
 pub fn admit_beside(
     lent: &Lent,
     grid: &[i32],

@@ -11,12 +11,12 @@
 //! - the number of sizes, and the sizes;
 //! - the number of rows that can be held.
 //!
-//! Behind it stands
+//! Then follows
 //!
 //! - of a plan check: the number of the plan's numbers, and these;
 //! - of a planner call: the length of the room;
 //! - of a band call: the first row, the last row, the length of the room; the
-//!   time, eight bytes; the length of the rows lent, and their entries;
+//!   time, eight bytes; the length of the rows passed, and their entries;
 //! - of border rows: nothing. The number of rows that can be held plays no part.
 //!
 //! A run under a plan is written as a run in a manner (`call_case`), with 3 in
@@ -47,7 +47,7 @@
 //! number place line cell steps count : r0 r1 ..
 //! ```
 //!
-//! and a run as a run in a manner, with a word for the room behind that for
+//! and a run as a run in a manner, with a word for the room after that for
 //! scratch:
 //!
 //! ```text
@@ -69,7 +69,7 @@ pub const MOST_NUMBERS: usize = 8_200;
 /// No room of a run under a plan is longer.
 pub const MOST_HELD: usize = 16_400;
 
-/// What the calls without a grid are lent alike.
+/// What the calls without a grid are passed alike.
 #[derive(Clone, Debug)]
 pub struct Asked {
     pub source: Vec<u8>,
@@ -173,7 +173,7 @@ impl Planned {
     }
 }
 
-/// What stands in a planner's room on entry.
+/// What is in a planner's room on entry.
 pub fn numbers_on_entry(length: usize) -> Vec<u32> {
     let row = scratch_on_entry(length).into_iter();
     row.map(|entry| entry as u32).collect()
@@ -241,7 +241,7 @@ pub fn band_line(report: &Report, room: &[i32]) -> String {
     format!("{} :{}\n", report_text(report), row_text(room))
 }
 
-/// A run under a plan: what is lent to the full run, and what is lent beside it.
+/// A run under a plan: what is passed to the full run, and what is passed beside it.
 #[derive(Clone, Debug)]
 pub struct BandedCase {
     pub call: Call,
@@ -311,7 +311,7 @@ pub struct BorderCase {
     pub asked: Asked,
 }
 
-/// What is told of border rows.
+/// What is returned of border rows.
 #[derive(Clone, Copy, Debug, PartialEq, Eq)]
 pub struct Bordered {
     pub number: u32,

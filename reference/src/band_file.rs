@@ -79,13 +79,13 @@ impl Reader<'_> {
         (0..count).map(|_| self.number()).collect()
     }
 
-    /// Entries behind their number.
+    /// Entries after their number.
     fn entries(&mut self) -> Option<Vec<i32>> {
         let length = self.length()?;
         (0..length).map(|_| Some(self.number()? as i32)).collect()
     }
 
-    /// Bytes behind their number.
+    /// Bytes after their number.
     fn text(&mut self) -> Option<Vec<u8>> {
         let length = self.length()?;
         Some(self.bytes(length)?.to_vec())
@@ -139,7 +139,7 @@ impl Reader<'_> {
         })
     }
 
-    /// What is asked of the full run.
+    /// The request of the full run.
     fn full(&mut self) -> Option<RunCase> {
         Some(RunCase {
             source: self.text()?,

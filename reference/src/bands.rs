@@ -1,7 +1,7 @@
 //! Bands of rows: the border rows, the check of a plan, the planner, and one
 //! band's call.
 //!
-//! A row is a row of the first dimension. A plan is lent as numbers, two for
+//! A row is a row of the first dimension. A plan is passed as numbers, two for
 //! each band: its first and its last row.
 
 use crate::admission::{admit_entries, admit_indices, admit_sizes, admit_times};
@@ -10,7 +10,7 @@ use crate::interpret::step_rows;
 use crate::places::{reach, Reach};
 use crate::tree::Program;
 
-/// How many border rows a band has before it and behind it: how far the lowest
+/// How many border rows a band has before it and after it: how far the lowest
 /// index of the reach lies below 0 in the first dimension, and the highest
 /// above.
 #[derive(Clone, Copy, PartialEq, Eq, Debug)]
@@ -74,13 +74,13 @@ pub fn bands_of(plan: &[u32]) -> Option<Vec<Band>> {
     Some(pairs.map(|pair| Band::new(pair[0], pair[1])).collect())
 }
 
-/// A plan as it is lent.
+/// A plan as it is passed.
 pub fn numbers_of(bands: &[Band]) -> Vec<u32> {
     let pairs = bands.iter().map(|band| [band.first, band.last]);
     pairs.flatten().collect()
 }
 
-/// Whether a plan for so many rows is accepted: no band is empty, one behind
+/// Whether a plan for so many rows is accepted: no band is empty, one after
 /// the other they have the rows from 0 to the last, each once and in order, and
 /// each can be held with its border rows.
 pub fn accepted(rows: u32, border: Border, held: u32, plan: &[u32]) -> bool {
@@ -106,7 +106,7 @@ pub fn longest(rows: u32, border: Border, held: u32) -> Option<Vec<Band>> {
     Some(bands)
 }
 
-/// What is lent to these calls: the source, the sizes, and how many rows can be
+/// What is passed to these calls: the source, the sizes, and how many rows can be
 /// held.
 #[derive(Clone, Copy)]
 pub struct Held<'a> {
@@ -115,7 +115,7 @@ pub struct Held<'a> {
     pub held: u32,
 }
 
-/// The border rows, as a call tells them. How many rows can be held plays no part.
+/// The border rows, as a call returns them. How many rows can be held plays no part.
 pub fn border_rows(lent: &Held) -> Result<Border, Refusal> {
     let program = program_of(&lent.read)?;
     admit_sizes(&program, lent.shape)?;
@@ -138,7 +138,7 @@ fn refused<T>(number: u32) -> Result<T, Refusal> {
     Err(Refusal { number, place: 0 })
 }
 
-/// The planner. The number of bands, whose numbers stand at the front of the
+/// The planner. The number of bands, whose numbers are at the front of the
 /// room; the rest stays, and all of it where it is refused.
 pub fn plan_bands(lent: &Held, room: &mut [u32]) -> Result<u32, Refusal> {
     let program = program_of(&lent.read)?;
@@ -158,7 +158,8 @@ pub fn plan_bands(lent: &Held, room: &mut [u32]) -> Result<u32, Refusal> {
 
 /// The entries of a row.
 pub fn row_entries(program: &Program, shape: &[u32]) -> usize {
-    shape[1..].iter().product::<u32>() as usize * program.fields.len()
+    let cells: usize = shape[1..].iter().map(|&size| size as usize).product();
+    cells * program.fields.len()
 }
 
 /// The old rows of a band with its border rows, from a grid whose rows have so

@@ -1,5 +1,5 @@
 //! Lines for the lists of runs. They are made beside the steps of the run, so
-//! that a block can set what stands there, and what stood there before a step.
+//! that a block can set what is there, and what was there before a step.
 
 use crate::case::RunCase;
 use crate::interpret::step;
@@ -18,7 +18,7 @@ struct Maker<'a> {
     random: &'a mut Random,
     program: &'a Program,
     shape: &'a [u32],
-    /// The field that no line may give 0.
+    /// The field that no line may set to 0.
     flag: Option<usize>,
     lines: Vec<Line>,
     /// The grid before the last step, and now.
@@ -110,9 +110,9 @@ impl Maker<'_> {
         let now = self.own(&self.grid, cell);
         let values = self.new_values();
         match self.random.below(10) {
-            // What stands there.
+            // What is there.
             0 => self.put(cell, now),
-            // What stood there before the step.
+            // What was there before the step.
             1 | 2 => {
                 let old = self.own(&self.before, cell);
                 self.put(cell, old);

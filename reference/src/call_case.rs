@@ -2,7 +2,7 @@
 //!
 //! The binary form. Every number has its lowest byte first, four bytes where
 //! nothing else is said. A case is a run's, with 2 in place of the 0 that it
-//! begins with, and a tail behind it:
+//! begins with, and a tail after it:
 //!
 //! - 2;
 //! - the length of the source, and the source;
@@ -17,8 +17,8 @@
 //! - the marks, one byte each, as many as their length says;
 //! - the counts, as many as their number says.
 //!
-//! Marks and counts are lent in every manner, also where nothing is counted, and
-//! are what stands there on entry. On entry scratch holds what it does in a
+//! Marks and counts are passed in every manner, also where nothing is counted, and
+//! are what is there on entry. On entry scratch holds what it does in a
 //! run's case. Grid, scratch, marks and counts have at most 4,100 entries each,
 //! the list at most 4,096 bytes.
 //!
@@ -28,10 +28,10 @@
 //! number place line cell steps count SCRATCH : g0 g1 .. : m0m1.. : c0 c1 ..
 //! ```
 //!
-//! SCRATCH is `zero`, `same` or `other`, as in a run's line. Behind it stand the
+//! SCRATCH is `zero`, `same` or `other`, as in a run's line. Then follow the
 //! grid, the marks, and the counts as they are left: of the grid and of the
-//! counts each number behind a space, of the marks two hexadecimal digits each,
-//! the first behind a space. So a line without counts ends with a colon.
+//! counts each number after a space, of the marks two hexadecimal digits each,
+//! the first after a space. So a line without counts ends with a colon.
 
 use crate::admission::Report;
 use crate::case::{began, put_asked, put_u32, report_text, row_text, scratch_on_entry, word};
@@ -42,7 +42,7 @@ use crate::rows::run_counted;
 /// No rooms of a case are longer.
 pub const MOST_ENTRIES: usize = 4_100;
 
-/// A run, its manner, the marks that are lent, and what it is to count.
+/// A run, its manner, the marks that are passed, and what it is to count.
 #[derive(Clone, Debug)]
 pub struct Call {
     pub run: RunCase,
@@ -110,7 +110,7 @@ impl Call {
         }
     }
 
-    /// A call that begins afresh; what stands in its marks is not read.
+    /// A call that begins afresh; what is in its marks is not read.
     pub fn pausing(run: RunCase) -> Call {
         let marks = marks_on_entry(run.marks.min(MOST_ENTRIES));
         Call::new(run, Manner::Pausing, marks)

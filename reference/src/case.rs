@@ -8,7 +8,7 @@ use crate::open::run_quiet;
 use crate::parse::{check, Reply};
 use crate::spelling::{spelling, BUILT_IN};
 
-/// One run: the source, what is lent, the times, and the value list.
+/// One run: the source, what is passed, the times, and the value list.
 #[derive(Clone, Debug)]
 pub struct RunCase {
     pub source: Vec<u8>,
@@ -23,7 +23,7 @@ pub struct RunCase {
     pub values: Vec<u8>,
 }
 
-/// What a run gave: the report, the grid, and the words for scratch and marks.
+/// What a run returned: the report, the grid, and the words for scratch and marks.
 #[derive(Clone, Debug, PartialEq, Eq)]
 pub struct Outcome {
     pub report: Report,
@@ -33,7 +33,7 @@ pub struct Outcome {
 }
 
 impl RunCase {
-    /// A case in which all that is lent has the right length for `shape` and
+    /// A case in which all that is passed has the right length for `shape` and
     /// `grid`, with an empty list.
     pub fn new(source: Vec<u8>, shape: &[u32], grid: Vec<i32>, start: i64, steps: i64) -> RunCase {
         RunCase {
@@ -158,7 +158,7 @@ pub fn report_text(report: &Report) -> String {
     )
 }
 
-/// Numbers, each behind a space.
+/// Numbers, each after a space.
 pub fn row_text<T: ToString>(row: &[T]) -> String {
     row.iter()
         .map(|value| format!(" {}", value.to_string()))
@@ -171,7 +171,7 @@ fn run_line(outcome: &Outcome) -> String {
     format!("{report} {} {} :{grid}\n", outcome.scratch, outcome.marks)
 }
 
-/// The line of a reply: behind the number and place of a refusal stand the
+/// The line of a reply: after the number and place of a refusal come the
 /// numbers of its spelling.
 fn check_reply(source: &[u8]) -> String {
     let reply = check(source).reply;
@@ -204,7 +204,7 @@ fn sums(source: &[u8]) -> [u64; 2] {
 }
 
 /// The answer to a check: the line of the reply, and a line with the sums of
-/// what is left in memory, and with the numbers that tell whether the source is
+/// what is left in memory, and with the numbers that say whether the source is
 /// in the profile of 6/13.
 pub fn check_answer(source: &[u8]) -> String {
     let line = check_reply(source);
@@ -221,15 +221,24 @@ pub fn put_u32(out: &mut Vec<u8>, value: u32) {
     out.extend_from_slice(&value.to_le_bytes());
 }
 
-/// The binary form of a check.
-pub fn put_check(out: &mut Vec<u8>, source: &[u8]) {
-    put_u32(out, source.len() as u32);
-    out.extend_from_slice(source);
+/// Bytes behind their length.
+fn put_bytes(out: &mut Vec<u8>, bytes: &[u8]) {
+    put_u32(out, bytes.len() as u32);
+    out.extend_from_slice(bytes);
 }
 
-/// The binary form of a source and what is lent beside it, and of the sizes.
+/// The number with which the binary form of a check begins.
+pub const CHECK: u32 = 3;
+
+/// The binary form of a check.
+pub fn put_check(out: &mut Vec<u8>, source: &[u8]) {
+    put_u32(out, CHECK);
+    put_bytes(out, source);
+}
+
+/// The binary form of a source and what is passed beside it, and of the sizes.
 pub fn put_read(out: &mut Vec<u8>, source: &[u8], words: usize, names: usize, shape: &[u32]) {
-    put_check(out, source);
+    put_bytes(out, source);
     put_u32(out, words as u32);
     put_u32(out, names as u32);
     put_u32(out, shape.len() as u32);
@@ -247,13 +256,13 @@ pub fn put_grid(out: &mut Vec<u8>, grid: &[i32]) {
 }
 
 /// The binary form of a run, which begins with 0 (of a writing, with 1; of a
-/// run in a manner, with 2).
+/// run in a manner, with 2; of a check, with 3).
 pub fn put_run(out: &mut Vec<u8>, case: &RunCase) {
     put_u32(out, 0);
     put_asked(out, case);
 }
 
-/// The binary form of what is asked of a run.
+/// The binary form of the request of a run.
 pub fn put_asked(out: &mut Vec<u8>, case: &RunCase) {
     put_read(out, &case.source, case.words, case.names, &case.shape);
     put_grid(out, &case.grid);
@@ -261,5 +270,5 @@ pub fn put_asked(out: &mut Vec<u8>, case: &RunCase) {
     put_u32(out, case.marks as u32);
     out.extend_from_slice(&case.start.to_le_bytes());
     out.extend_from_slice(&case.steps.to_le_bytes());
-    put_check(out, &case.values);
+    put_bytes(out, &case.values);
 }

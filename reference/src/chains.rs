@@ -38,7 +38,7 @@ impl Chain {
         sum
     }
 
-    /// Whether the calls give what the run at once gives, where that is claimed.
+    /// Whether the calls return what the run at once returns, where that is claimed.
     pub fn joins(&self) -> bool {
         !self.claimed() || self.together() == self.whole_left
     }
@@ -127,7 +127,7 @@ fn parts(random: &mut Random, case: &RunCase, cuts: &[i64]) -> Vec<Vec<u8>> {
     parts
 }
 
-/// A chain of 2 to 5 calls. It ends with a call that faults, or one behind it.
+/// A chain of 2 to 5 calls. It ends with a call that faults, or one after it.
 pub fn any(random: &mut Random, small: bool) -> Chain {
     let case = base(random, small);
     let cuts = cuts(random, &case);

@@ -52,7 +52,7 @@ fn of_rule(random: &mut Random) -> RunCase {
     RunCase::new(source, &shape, grid, random.between(0, 3), steps)
 }
 
-/// What stands in a count on entry.
+/// What is in a count on entry.
 fn any_count(random: &mut Random) -> u32 {
     *random.pick(&[0, 0, 1, 2, 9, 1_048_576, u32::MAX])
 }
@@ -81,7 +81,7 @@ fn length(random: &mut Random, case: &RunCase, part: usize) -> usize {
     rows
 }
 
-/// A run that counts, in any manner; in few cases one that is lent counts and
+/// A run that counts, in any manner; in few cases one that is passed counts and
 /// does not count.
 pub fn any(random: &mut Random, small: bool) -> Call {
     let mut case = if random.chance(65) {

@@ -40,7 +40,7 @@ impl Seen {
     }
 }
 
-/// Runs a case full and quiet, and gives the number.
+/// Runs a case full and quiet, and returns the number.
 fn see_run(case: &RunCase, seen: &mut Seen) -> u32 {
     let outcome = run_case(case, false);
     let (full, quiet) = (outcome.report, run_case(case, true).report);

@@ -202,7 +202,7 @@ impl<'a> Cell<'a> {
         }
     }
 
-    /// Evaluates this cell and those behind it, as many as `new` has room for,
+    /// Evaluates this cell and those after it, as many as `new` has room for,
     /// or up to the first fault, whose cell is counted from this one.
     fn evaluate(
         mut self,
@@ -239,7 +239,7 @@ pub fn step(
 }
 
 /// One step in which only the open cells are evaluated; every other cell keeps
-/// its fields and gives no fault.
+/// its fields and has no fault.
 pub fn step_open(
     program: &Program,
     shape: &[u32],
@@ -252,10 +252,10 @@ pub fn step_open(
 }
 
 /// One step of a band: `old` has its rows with the border rows around them, the
-/// first own row behind `before` others. The next own rows go to `new`. A fault's
+/// first own row after `before` others. The next own rows go to `new`. A fault's
 /// cell is counted from the band's first.
 ///
-/// In the first dimension no index wraps: a row that is not lent is read nowhere.
+/// In the first dimension no index wraps: a row that is not passed is read nowhere.
 pub fn step_rows(
     program: &Program,
     shape: &[u32],

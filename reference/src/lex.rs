@@ -1,7 +1,7 @@
 //! Tokens of a source.
 //!
 //! The token row always ends with one `Stop`. A stop is whatever ends the
-//! token sequence: bytes that give no token (3), a literal that is too large
+//! token sequence: bytes that are no token (3), a literal that is too large
 //! (4), the 4,097th token (5), a form refused anywhere (6), or the end of the
 //! source (7).
 
@@ -205,7 +205,7 @@ fn literal_kind(source: &[u8], at: usize, end: usize) -> Kind {
     Kind::Literal(value as i32)
 }
 
-/// The place behind the separators and comments that stand at `at`.
+/// The place after the separators and comments at `at`.
 fn past_separators(source: &[u8], mut at: usize) -> usize {
     while at < source.len() {
         if is_separator(source[at]) {
@@ -221,7 +221,7 @@ fn past_separators(source: &[u8], mut at: usize) -> usize {
     at
 }
 
-/// The kind of the token behind another, however many there are before it.
+/// The kind of the token after another, however many there are before it.
 pub fn kind_behind(source: &[u8], token: Token) -> Option<Kind> {
     let at = past_separators(source, (token.start + token.length) as usize);
     (at < source.len()).then(|| read_token(source, at).0)

@@ -137,7 +137,7 @@ pub fn up_to_of(count: usize, last: usize) -> String {
     format!("{signed} 1 dimensions of ")
 }
 
-/// A name behind the declaration's `of` and what stands behind it, about the greatest number of tokens: how many constants there are, the
+/// A name after the declaration's `of` and what follows it, about the greatest number of tokens: how many constants there are, the
 /// number of `of`, and the rest.
 const AFTER_OF: [(usize, usize, &str); 25] = [
     (0, MAX_TOKENS - 1, "q..1"),

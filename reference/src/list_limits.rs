@@ -17,7 +17,7 @@ pub struct Around<'a> {
 
 type Cell<'a> = (&'a mut Vec<i64>, &'a mut Vec<Option<i64>>);
 
-/// A cell's line; one is added, behind a time, if there is none.
+/// A cell's line; one is added, after a time, if there is none.
 fn some_cell<'a>(random: &mut Random, lines: &'a mut Vec<Line>, around: &Around) -> Cell<'a> {
     let is_cell = |line: &Line| matches!(line, Line::Cell(..));
     if !lines.iter().any(is_cell) {

@@ -177,7 +177,7 @@ fn line_of(random: &mut Random, row: &[String], style: Style) -> Vec<u8> {
     out
 }
 
-/// A letter or an underscore right behind some digit.
+/// A letter or an underscore right after some digit.
 fn put_behind_digit(random: &mut Random, line: &mut Vec<u8>) {
     let digits: Vec<usize> = (0..line.len())
         .filter(|&at| line[at].is_ascii_digit())

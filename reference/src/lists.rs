@@ -161,7 +161,7 @@ fn refuse_time(time: i64, before: Option<&Block>, limits: &Limits) -> Option<u32
     }
 }
 
-/// The number that a cell's line is refused with, if it stands behind a time.
+/// The number that a cell's line is refused with, if it follows a time.
 fn refuse_cell(index: &[u32], values: &[Option<i32>], limits: &Limits) -> Option<u32> {
     let outside = |(place, field): (&Option<i32>, &Field)| {
         place.is_some_and(|value| value < field.low || value > field.high)
@@ -253,7 +253,7 @@ impl Waiting {
         Waiting { blocks }
     }
 
-    /// The block of a time, if there is one; no time is asked for twice.
+    /// The block of a time, if there is one; no time is looked up twice.
     pub fn due(&mut self, time: i64) -> Option<Block> {
         self.blocks.next_if(|block| block.time == time)
     }

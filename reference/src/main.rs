@@ -2,7 +2,7 @@
 
 use reference::call_case::{call_line, put_call, Call};
 use reference::case::{check_answer, check_line, profile_line, put_check, put_run};
-use reference::case::{run_case, run_lines, RunCase};
+use reference::case::{run_case, run_lines, RunCase, CHECK};
 use reference::coverage::coverage;
 use reference::one_move::profile;
 use reference::write_case::{put_writing, writing_line, WriteCase};
@@ -15,7 +15,7 @@ const USAGE: &str = "\
 usage: reference check                        one source on standard input
        reference profile                      one source on standard input
        reference names                        one source on standard input
-       reference answer                       sources on standard input, as in the vectors of checks
+       reference answer                       checks on standard input, as in the vectors
        reference run FILE                     one run, as JSON
        reference cases checks|runs|lists SEED COUNT [--small]
        reference stream KIND SEED COUNT [--small] [--replies]
@@ -102,13 +102,17 @@ fn profile_input() -> io::Result<ExitCode> {
     Ok(ExitCode::SUCCESS)
 }
 
-/// The answer to each source on standard input, which stands behind its length.
+/// The answer to each check on standard input.
 fn answer_input() -> io::Result<ExitCode> {
     let mut input = io::stdin().lock();
     let mut out = BufWriter::new(io::stdout().lock());
-    let mut head = [0; 4];
-    while input.read_exact(&mut head).is_ok() {
-        let mut source = vec![0; u32::from_le_bytes(head) as usize];
+    let mut word = [0; 4];
+    while input.read_exact(&mut word).is_ok() {
+        if u32::from_le_bytes(word) != CHECK {
+            return Err(io::Error::other("not a check"));
+        }
+        input.read_exact(&mut word)?;
+        let mut source = vec![0; u32::from_le_bytes(word) as usize];
         input.read_exact(&mut source)?;
         out.write_all(check_answer(&source).as_bytes())?;
     }
@@ -162,7 +166,7 @@ fn runs_of(what: &str, seed: u64, count: usize, small: bool) -> Box<dyn Iterator
     }
 }
 
-/// Generated runs in a manner; those of `counted` are lent counts, those of
+/// Generated runs in a manner; those of `counted` are passed counts, those of
 /// `moving` are of rules that move a pixel once.
 fn calls_of(what: &str, seed: u64, count: usize, small: bool) -> Box<dyn Iterator<Item = Call>> {
     match what {
@@ -285,10 +289,8 @@ fn write_vectors(folder: &Path) -> io::Result<ExitCode> {
     std::fs::create_dir_all(folder)?;
     let files = vectors::files();
     let contents = [
-        ("check.stdin", &files.check_in),
-        ("check.stdout", &files.check_out),
-        ("run.stdin", &files.run_in),
-        ("run.stdout", &files.run_out),
+        ("stdin", &files.input),
+        ("stdout", &files.output),
         ("bands.cases", &files.bands_in),
         ("bands.answers", &files.bands_out),
     ];
@@ -303,13 +305,11 @@ fn write_vectors(folder: &Path) -> io::Result<ExitCode> {
     Ok(ExitCode::SUCCESS)
 }
 
-/// Where each file of vectors stands, and what the second program gives.
-fn stored(files: &vectors::Files) -> [(&'static str, &[u8]); 6] {
+/// Where each file of vectors is, and what the second program returns.
+fn stored(files: &vectors::Files) -> [(&'static str, &[u8]); 4] {
     [
-        ("crates/check_vectors/stdin", &files.check_in),
-        ("crates/check_vectors/stdout", &files.check_out),
-        ("crates/run_vectors/stdin", &files.run_in),
-        ("crates/run_vectors/stdout", &files.run_out),
+        ("crates/vectors/stdin", &files.input),
+        ("crates/vectors/stdout", &files.output),
         ("bindings/rust/tests/stored/bands.cases", &files.bands_in),
         ("bindings/rust/tests/stored/bands.answers", &files.bands_out),
     ]

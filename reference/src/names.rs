@@ -11,7 +11,7 @@ pub const VARIABLE: u32 = 4;
 pub const INDEX: u32 = 5;
 pub const CONST_FIELD: u32 = 6;
 
-/// One record as it is lent: start, length, kind and value.
+/// One record as it is passed: start, length, kind and value.
 #[derive(Clone, Copy, PartialEq, Eq, Debug)]
 pub struct Record {
     pub start: u32,
@@ -66,7 +66,7 @@ impl Names {
         self.entries.len() == MAX_NAMES
     }
 
-    /// Adds a record, not yet visible, and gives its number.
+    /// Adds a record, not yet visible, and returns its number.
     pub fn add(&mut self, record: Record, spelling: Vec<u8>, slot: usize) -> usize {
         self.entries.push(Entry {
             record,
@@ -80,7 +80,7 @@ impl Names {
         self.entries.len() - 1
     }
 
-    /// Takes out the record of a loop that ends; those behind it move down.
+    /// Takes out the record of a loop that ends; those after it move down.
     pub fn remove(&mut self, number: usize) {
         self.entries.remove(number);
     }

@@ -102,7 +102,7 @@ const BESIDE: [&str; 10] = [
     "exit",
 ];
 
-/// More branches, and what may stand behind the last statement.
+/// More branches, and what may follow the last statement.
 const BEHIND: [&str; 9] = [
     "else",
     "else q_6 := 1",

@@ -10,8 +10,8 @@
 //! | "(the same tokens, letter case aside)" | `spelled` |
 //!
 //! Rule 3 is read off the tokens of a source that is accepted. There a `:=`
-//! behind a condition goes on with a chain, whose last expression has `when` or
-//! `otherwise` behind it; so `cell . moved := 1 end` ends with a statement.
+//! after a condition goes on with a chain, whose last expression has `when` or
+//! `otherwise` after it; so `cell . moved := 1 end` ends with a statement.
 
 use crate::admission::{program_of, Read};
 use crate::lex::lex;
@@ -137,7 +137,7 @@ pub fn check_one_move(read: &Read) -> Profile {
     }
 }
 
-/// The answer where all that is lent beside the source is right.
+/// The answer where all that is passed beside the source is right.
 pub fn profile(source: &[u8]) -> Profile {
     check_one_move(&Read::of(source))
 }

@@ -63,7 +63,7 @@ impl Reply {
     }
 }
 
-/// What a check gives: the reply, and the program exactly if it is 0.
+/// What a check returns: the reply, and the program exactly if it is 0.
 pub struct Checked {
     pub reply: Reply,
     pub program: Option<Program>,
@@ -381,7 +381,7 @@ impl Reader<'_> {
         Ok(value)
     }
 
-    /// Goes past a sign, if one stands here, and tells whether it was `-`.
+    /// Goes past a sign, if one is here, and says whether it was `-`.
     fn sign(&mut self) -> Option<bool> {
         if self.is_symbol(Symbol::Minus) {
             self.advance();
@@ -626,7 +626,7 @@ impl Reader<'_> {
                     continue;
                 }
             } else if choices.is_empty() {
-                // A lone expression; `otherwise` behind it begins no
+                // A lone expression; `otherwise` after it begins no
                 // statement and is refused 7 there.
                 choices.push(choice);
                 self.put(assign, 0, self.at as u32);

@@ -17,7 +17,7 @@ pub enum Manner {
     Quiet,
     /// A quiet run that leaves its marks standing.
     Pausing,
-    /// One that also begins from the marks that are lent.
+    /// One that also begins from the marks that are passed.
     Resuming,
 }
 

@@ -10,7 +10,7 @@ use crate::random::Random;
 use crate::runs::{self, entries};
 use crate::tree::Program;
 
-/// What a cell does. L reads a row before its own, U a row behind, and N the row
+/// What a cell does. L reads a row before its own, U a row after, and N the row
 /// at `i`; C is the cell; `#` and `$` are how far L and U lie.
 const BODIES: [&str; 23] = [
     "C := L",
@@ -46,7 +46,7 @@ const WIDE: [&str; 3] = [
      s := s + [i,j,k] end end end cell := s > 9",
 ];
 
-/// A rule that reads rows before its own and behind.
+/// A rule that reads rows before its own and after.
 fn rule(random: &mut Random) -> Vec<u8> {
     if random.chance(4) {
         return random.pick(&WIDE).as_bytes().to_vec();
@@ -90,7 +90,7 @@ fn rule(random: &mut Random) -> Vec<u8> {
     text.into_bytes()
 }
 
-/// Sizes that a rule asks for, in most cases; often as few rows as can be, so
+/// Sizes that a rule needs, in most cases; often as few rows as can be, so
 /// that the border rows are more than the grid has.
 fn sizes(random: &mut Random, program: &Program) -> Vec<u32> {
     let bounds = program.bounds().into_iter();
@@ -129,7 +129,7 @@ fn lonely(random: &mut Random, program: &Program, cells: usize) -> Vec<i32> {
     grid
 }
 
-/// A run of a rule that reads rows before its own and behind, or of any other.
+/// A run of a rule that reads rows before its own and after, or of any other.
 pub fn ground(random: &mut Random) -> RunCase {
     if random.chance(30) {
         return runs::any(random, true, 24);
@@ -258,7 +258,7 @@ pub fn damage(random: &mut Random, plan: &mut Vec<u32>, rows: u32) {
             plan.pop();
         }
         10 => plan.push(*random.pick(&[rows, 0, rows - 1])),
-        // A band behind the last, or one twice.
+        // A band after the last, or one twice.
         11 => plan.extend([rows, rows + random.below(2) as u32]),
         12 => {
             let twice = [plan[band], plan[band + 1]];

@@ -1,5 +1,5 @@
 //! Row counts: for each row of the first dimension, how many cells have 0 in
-//! one chosen field; the run that keeps them, and what is asked of them.
+//! one chosen field; the run that keeps them, and questions about them.
 
 use crate::admission::{admit_beside, Beside, Counted, Lent, Report, MAX_SIZE};
 use crate::pausing::{run, Manner};
@@ -12,7 +12,7 @@ pub fn row_counts(shape: &[u32], fields: usize, field: usize, grid: &[i32]) -> V
     rows.map(|row| zeros(row) as u32).collect()
 }
 
-/// A run in a manner that is asked to count the zeros of a field. It is
+/// A run in a manner that is to count the zeros of a field. It is
 /// admitted only if the counts are right too. The counts are filled when it is
 /// admitted and follow every block and every completed step; a faulting step
 /// leaves them. So they are in the end those of the grid that is left.

@@ -188,7 +188,7 @@ fn reading(random: &mut Random, dimensions: usize, open: usize, far: i64) -> Str
     }
 }
 
-/// A rule that reads some places, with the sizes that it asks for. About one
+/// A rule that reads some places, with the sizes that it needs. About one
 /// in eight has close to 256 places, or more.
 fn reader(random: &mut Random) -> (String, Vec<u32>) {
     let dimensions = 1 + random.below(3);

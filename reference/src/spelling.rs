@@ -1,4 +1,4 @@
-//! The spelling that is handed back with a refusal (document 02, 3/13).
+//! The spelling that is returned with a refusal (document 02, 3/13).
 //!
 //! | Sentence | Where below |
 //! |----------|-------------|
@@ -13,7 +13,7 @@
 use crate::lex::lex;
 use crate::parse::{check, Reply};
 
-/// The built-in list, which is lent beside the source.
+/// The built-in list, which is passed beside the source.
 pub const BUILT_IN: &[u8] = b"cell time random";
 
 /// The part of the source or of the built-in list that a spelling is.
@@ -33,7 +33,7 @@ impl Spelling {
         }
     }
 
-    /// Where it stands (0 nowhere, 1 source, 2 list), its first byte and its
+    /// Where it is (0 nowhere, 1 source, 2 list), its first byte and its
     /// length.
     pub fn numbers(self) -> [u32; 3] {
         match self {
@@ -49,7 +49,7 @@ fn names_token(number: u32) -> bool {
     matches!(number, 3..=15 | 40..=45)
 }
 
-/// Where a word stands in the built-in list, whatever its letter case.
+/// Where a word is in the built-in list, whatever its letter case.
 fn listed(word: &[u8]) -> Option<usize> {
     let mut start = 0;
     for name in BUILT_IN.split(|&byte| byte == b' ') {
@@ -81,7 +81,7 @@ pub fn spelling(source: &[u8], reply: Reply) -> Spelling {
     }
 }
 
-/// The reply to a source beside which a list is lent.
+/// The reply to a source beside which a list is passed.
 pub fn check_lent(source: &[u8], list: &[u8]) -> Reply {
     if list == BUILT_IN {
         check(source).reply

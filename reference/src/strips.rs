@@ -32,8 +32,8 @@ fn disturb_band(random: &mut Random, case: &mut BandCase, row: usize) {
         0 => case.band = Band::new(last.wrapping_add(1), last),
         1 => case.band = Band::new(last.max(1), first.min(last.max(1) - 1)),
         2 => case.band = Band::new(first, rows),
-        3 => case.band.last = *random.pick(&[u32::MAX, 1 << 31, rows, last + 1]),
-        4 => case.band.first = *random.pick(&[u32::MAX, rows, first + 1, 0]),
+        3 => case.band.last = *random.pick(&[u32::MAX, 1 << 31, rows, last.wrapping_add(1)]),
+        4 => case.band.first = *random.pick(&[u32::MAX, rows, first.wrapping_add(1), 0]),
         5 | 6 => case.asked.held = case.asked.held.saturating_sub(1),
         7 => case.asked.held = *random.pick(&[0, 1, u32::MAX]),
         8 => {

@@ -66,7 +66,7 @@ pub struct Choice {
 #[derive(Clone, Debug)]
 pub enum Statement {
     Assign(Target, Vec<Choice>),
-    /// The branches with conditions, then the statements behind `else`.
+    /// The branches with conditions, then the statements after `else`.
     If(Vec<(Expression, Vec<Statement>)>, Vec<Statement>),
     Forall(usize, i32, i32, Vec<Statement>),
     Exit,

@@ -311,7 +311,7 @@ pub fn stored_writings() -> Vec<WriteCase> {
 struct Stored {
     /// Runs that are paused and resumed.
     calls: bool,
-    /// Runs that count, which are of the same kind with counts lent.
+    /// Runs that count, which are of the same kind with counts passed.
     counted: bool,
     /// Runs of rules that move a pixel once, also of this kind.
     moving: bool,
@@ -400,10 +400,8 @@ pub fn stored_bands() -> Vec<AnyCase> {
 
 /// The files of vectors.
 pub struct Files {
-    pub check_in: Vec<u8>,
-    pub check_out: Vec<u8>,
-    pub run_in: Vec<u8>,
-    pub run_out: Vec<u8>,
+    pub input: Vec<u8>,
+    pub output: Vec<u8>,
     pub bands_in: Vec<u8>,
     pub bands_out: Vec<u8>,
     pub checks: usize,
@@ -429,10 +427,8 @@ pub fn files() -> Files {
     }
     let bands = stored_bands();
     let mut files = Files {
-        check_in: Vec::new(),
-        check_out: Vec::new(),
-        run_in: Vec::new(),
-        run_out: Vec::new(),
+        input: Vec::new(),
+        output: Vec::new(),
         bands_in: Vec::new(),
         bands_out: Vec::new(),
         checks: checks.len(),
@@ -442,20 +438,20 @@ pub fn files() -> Files {
         bands: bands.len(),
     };
     for source in &checks {
-        put_check(&mut files.check_in, source);
-        files.check_out.extend(check_answer(source).bytes());
+        put_check(&mut files.input, source);
+        files.output.extend(check_answer(source).bytes());
     }
     for case in &runs {
-        put_run(&mut files.run_in, case);
-        files.run_out.extend(run_lines(case).bytes());
+        put_run(&mut files.input, case);
+        files.output.extend(run_lines(case).bytes());
     }
     for case in &writings {
-        put_writing(&mut files.run_in, case);
-        files.run_out.extend(writing_line(case).bytes());
+        put_writing(&mut files.input, case);
+        files.output.extend(writing_line(case).bytes());
     }
     for call in &calls {
-        put_call(&mut files.run_in, call);
-        files.run_out.extend(call_line(&call.made()).bytes());
+        put_call(&mut files.input, call);
+        files.output.extend(call_line(&call.made()).bytes());
     }
     for case in &bands {
         case.put(&mut files.bands_in);

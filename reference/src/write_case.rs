@@ -8,7 +8,7 @@ use crate::parse::check;
 use crate::spelling::BUILT_IN;
 use crate::writing::{write_list, Wanted, Written};
 
-/// One writing: the source, what is lent, the two grids, the time, and the
+/// One writing: the source, what is passed, the two grids, the time, and the
 /// length of the room.
 #[derive(Clone, Debug)]
 pub struct WriteCase {
@@ -72,12 +72,12 @@ impl WriteCase {
     }
 }
 
-/// What stands in the room on entry.
+/// What is in the room on entry.
 pub fn room_on_entry(length: usize) -> Vec<u8> {
     (0..length).map(|i| ((i * 3 + 5) % 256) as u8).collect()
 }
 
-/// What a writing gave, and the room it left.
+/// What a writing returned, and the room it left.
 pub fn write_case(case: &WriteCase) -> (Written, Vec<u8>) {
     let mut room = room_on_entry(case.room);
     let written = write_list(&case.wanted(), &mut room);

@@ -4,7 +4,7 @@ use crate::admission::{admit_grid, program_of, Asked, Read, Refusal};
 use crate::one_move::flag;
 use crate::tree::Program;
 
-/// What the writer is lent beside its room.
+/// What the writer is passed beside its room.
 #[derive(Clone, Copy)]
 pub struct Wanted<'a> {
     pub read: Read<'a>,
@@ -36,7 +36,7 @@ fn admit_one(program: &Program, wanted: &Wanted, grid: &[i32]) -> Result<(), Ref
     admit_grid(program, &asked)
 }
 
-/// Both grids: the lowest number is given, under each number the earlier's.
+/// Both grids: the reply is the lowest number, and of equal ones the earlier grid's.
 fn admit_both(program: &Program, wanted: &Wanted) -> Result<(), Refusal> {
     let earlier = admit_one(program, wanted, wanted.earlier).err();
     let later = admit_one(program, wanted, wanted.later).err();

@@ -9,10 +9,10 @@ use crate::pausing::Manner;
 /// One border row before.
 const BEFORE: &str = "1 dimensions of 0..9 cell := [-1]";
 
-/// One before and one behind.
+/// One before and one after.
 const BOTH: &str = "1 dimensions of 0..9 cell := [-1] when [1] > 4";
 
-/// Three before and three behind.
+/// Three before and three after.
 const THREE: &str = "1 dimensions of 0..9 cell := [-3] when [3] > 4";
 
 fn asked(source: &str, shape: &[u32], held: u32) -> Asked {
@@ -265,7 +265,7 @@ pub fn bands() -> Vec<BandCase> {
     add(&|case| case.rows[0] = 10);
     add(&|case| case.rows[3] = -1);
     add(&|case| case.rows.fill(i32::MIN));
-    // 23 behind 21 and 22, before 24.
+    // 23 after 21 and 22, before 24.
     let far = |rows: &[i32], time: i64| BandCase {
         time,
         ..band_of(THREE, 2, 9, [0, 0], rows)

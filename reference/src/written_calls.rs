@@ -77,7 +77,7 @@ fn decided() -> Vec<Call> {
     };
     let still = [0, 1, 2, 3, 4];
     let none = [0; 5];
-    // Blocks, before the first step and behind the last, alone and with marks.
+    // Blocks, before the first step and after the last, alone and with marks.
     for list in [
         "",
         "2\n[1] = 7\n",

@@ -10,7 +10,7 @@ use crate::pausing::Manner;
 use crate::tree::Program;
 
 /// Rules with their sizes: from no border row to more border rows than the grid
-/// has rows, so that rows are lent more than once; in one to three dimensions.
+/// has rows, so that rows are passed more than once; in one to three dimensions.
 const RULES: [(&str, &[u32]); 14] = [
     ("1 dimensions of 0..9 cell := (cell + 3) % 10", &[4]),
     ("1 dimensions of 0..9 cell := [-1]", &[1]),

@@ -29,7 +29,7 @@ pub const IN_PROFILE: [&str; 44] = [
     "const moved[] for 2 := 1, 2 1 dimensions of moved of 0..1 end if cell.moved = 0 then cell.moved := 1 end",
     "1 dimensions of moved of 0..1 end if cell.moved = 0 then moved := 2 cell.moved := 1 end",
     "1 dimensions of moved of 0..1 end if cell.moved = 0 then forall moved : 0..1 end cell.moved := 1 end",
-    // Constants before, between and behind.
+    // Constants before, between and after.
     "const k := 1 const t[] for 2 := -1, +k 1 dimensions of moved of 0..1 end if cell.moved = 0 then cell.moved := 1 end",
     "1 dimensions of moved of 0..1 end const k := 1 if cell.moved = 0 then cell.moved := 1 end",
     "1 dimensions of moved of 0..1 end const t[] for 3 := 1, -2, +3 if cell.moved = 0 then cell.moved := 1 end",

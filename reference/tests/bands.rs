@@ -67,7 +67,7 @@ fn worked_bands() {
     for (case, line) in cases.iter().zip(lines) {
         assert_eq!(case.line().trim_end(), line);
     }
-    // The rows that are lent are those of the grid.
+    // The rows that are passed are those of the grid.
     let lent = |source: &str, band: [u32; 2], grid: &[i32]| {
         let border = border(&program(source));
         let band = Band::new(band[0], band[1]);
@@ -295,7 +295,7 @@ fn part_of_whole(case: &BandCase, grid: &[i32]) -> (u32, u32, u32, Vec<i32>) {
 }
 
 /// Every band of every generated run's grid gives what its cells give in the
-/// whole grid, from the rows lent alone.
+/// whole grid, from the rows passed alone.
 #[test]
 fn bands_of_whole_grids() {
     let (mut faults, mut repeated, mut wrapped) = (0, 0, 0);
@@ -336,8 +336,11 @@ fn bands_of_whole_grids() {
                 assert_eq!((report.cell, &room), (cell, &next));
                 let cells = (row / program.fields.len()) as u64;
                 let own = u64::from(last - first + 1) * cells;
-                let up_to = u64::from(cell) + 1 - u64::from(first) * cells.min(u64::from(cell) + 1);
-                let count = if number == 0 { own } else { up_to };
+                let count = if number == 0 {
+                    own
+                } else {
+                    u64::from(cell) + 1 - u64::from(first) * cells
+                };
                 assert_eq!((report.count, report.steps), (count, (number == 0).into()));
                 faults += usize::from(number != 0);
                 let with = border.rows_with(band);

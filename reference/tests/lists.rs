@@ -198,7 +198,7 @@ fn refused_lists_leave_everything() {
             assert_eq!((outcome.scratch, outcome.marks), ("same", "same"));
         }
     }
-    // The list is tried behind everything else.
+    // The list is tried after everything else.
     let number = |source: &str, grid: &[i32], start: i64| {
         run(source, grid, start, 1, "x", 2).0.report.number
     };
@@ -245,7 +245,7 @@ fn what_a_block_opens() {
     assert_eq!(own("1\n[1] = 7\n"), 6);
     assert_eq!(own("1\n[1] = 7\n2\n[1] = 6\n3\n[2] = 9\n"), 8);
     assert_eq!(own("1\n[1] = 7\n[3] = 7\n"), 7);
-    // All cells are open in the first step; behind the last none is.
+    // All cells are open in the first step; after the last none is.
     assert_eq!(own("0\n[1] = 7\n"), 5);
     assert_eq!(own("4\n[1] = 7\n"), 5);
     // No change: the value that stands there, none, twice and back.
@@ -341,7 +341,7 @@ fn generated() {
     assert!(began > 3_000 && faulted > 300, "{began} {faulted}");
 }
 
-/// The list without the blocks behind a time.
+/// The list without the blocks after a time.
 fn up_to(list: &[u8], time: i64) -> Vec<u8> {
     let mut left = Vec::new();
     for line in list.split_inclusive(|byte| matches!(byte, b'\n' | b'\r')) {

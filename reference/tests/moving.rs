@@ -61,7 +61,7 @@ fn read(call: &Call, program: &Program, flag: Option<usize>) -> Result<Vec<Block
 
 /// A run, step by step: nothing happens to a cell whose flag is 1, and after one
 /// completed step nothing happens at all. How many steps there were in which a
-/// cell with a flag of 1 stood beside one with 0, and how many behind a
+/// cell with a flag of 1 stood beside one with 0, and how many after a
 /// completed one.
 fn settles(call: &Call, program: &Program, flag: usize, blocks: &[Block]) -> (usize, usize) {
     let (run, fields) = (&call.run, program.fields.len());

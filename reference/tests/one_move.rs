@@ -86,7 +86,7 @@ fn lists() {
         for near in near_three() {
             assert!(matches!(profile(near.as_bytes()).rule, 2 | 3), "{near}");
             let report = run_case(&on_three(&near, list), false).report;
-            // What stands behind the line then decides.
+            // What follows the line then decides.
             let passed = number == 58 && (report.number == 0 || report.line > line);
             // A range that is another may take the value.
             let taken = number == 53 && near.contains("-1..1") && list.contains("-1");

@@ -189,7 +189,7 @@ fn standing_marks_are_the_next_open_cells() {
     assert!(seen > 500, "{seen}");
 }
 
-/// Chains give what the run at once gives.
+/// Chains give what the run at once returns.
 #[test]
 fn chains_join() {
     let (mut claimed, mut quieter, mut faulted) = (0, 0, 0);

@@ -100,7 +100,7 @@ fn stops() {
     expect(3, &format!("{tokens}^1_"));
 }
 
-/// A name behind `of`, and `..` or another token as the 4,097th.
+/// A name after `of`, and `..` or another token as the 4,097th.
 #[test]
 fn last_tokens_after_of() {
     let expect_of = |number, count, last, rest: &str| {

@@ -23,7 +23,7 @@ const HEIGHT: usize = 70;
 const SHAPE: [u32; 2] = [HEIGHT as u32, WIDTH as u32];
 const STEPS: i64 = 3;
 
-/// What stands in a PGM file before the pixels, of one byte each.
+/// What is in a PGM file before the pixels, of one byte each.
 fn head() -> String {
     format!("P5\n{WIDTH} {HEIGHT}\n255\n")
 }
@@ -59,7 +59,7 @@ fn whole(image: &[u8]) -> Result<Vec<u8>, Box<dyn Error>> {
     Ok([head, &to_bytes(&grid)].concat())
 }
 
-/// Reads one row of an image, and puts its pixels behind others.
+/// Reads one row of an image, and puts its pixels after others.
 fn read_row(image: &mut File, row: u32, pixels: &mut Vec<i32>) -> io::Result<()> {
     let mut line = [0; WIDTH];
     let at = head().len() + row as usize * WIDTH;

@@ -7,7 +7,7 @@ use crate::foreign;
 use crate::replies::{run_answer, Outcome};
 use crate::rooms::Rooms;
 
-/// A full run under a plan, which can be given a value list and can keep row
+/// A full run under a plan, which can have a value list and can keep row
 /// counts. [`Held::run_banded`] makes one without either.
 ///
 /// Each step is made of the steps of the plan's bands, each of them from its old
@@ -43,11 +43,11 @@ pub struct BandedRun<'a, 'l> {
     values: &'l [u8],
 }
 
-/// The memory that a run under a plan is lent beside its grid. What the room and
+/// The memory that a run under a plan is passed beside its grid. What the room and
 /// the counts hold on entry does not matter.
 #[derive(Debug)]
 pub struct BandedLent<'a> {
-    /// What every run is lent.
+    /// What every run is passed.
     pub lent: Lent<'a>,
     /// The plan, two entries a band: its first and its last row.
     pub plan: &'a [u32],
@@ -96,7 +96,7 @@ impl<'a, 'l> BandedRun<'a, 'l> {
         })
     }
 
-    /// Makes the run on a grid, in memory of the caller's. After a run that began,
+    /// Makes the run on a grid, in the caller's buffers. After a run that began,
     /// even with 0 steps, scratch, marks and the room are zero; else they are as they
     /// were. A room of another length is refused with scratch and marks, 21.
     pub fn on_in(&self, grid: &mut [i32], lent: BandedLent<'_>) -> Outcome<'a> {
@@ -137,7 +137,7 @@ impl<'a, 'l> BandedRun<'a, 'l> {
         BandedRun { held, ..*self }.on_in(grid, lent)
     }
 
-    /// Makes the run where a built-in list is lent beside the source.
+    /// Makes the run where a built-in list is passed beside the source.
     fn lent(&self, list: &'a [u8], grid: &mut [i32], lent: BandedLent<'_>) -> Outcome<'a> {
         let BandedLent {
             lent,

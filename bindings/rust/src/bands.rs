@@ -25,18 +25,18 @@ impl Band {
     }
 }
 
-/// How many border rows the cells of a band read beside its own: so many as the
+/// How many border rows the cells of a band read beside its own: as many as the
 /// lowest and the highest index of the rule in the first dimension say.
 #[derive(Clone, Copy, PartialEq, Eq, Hash, Debug, Default)]
 pub struct Border {
-    /// How many stand before the band.
+    /// How many there are before the band.
     pub before: u32,
-    /// How many stand behind it.
+    /// How many there are after it.
     pub behind: u32,
 }
 
 impl Border {
-    /// How many rows a band has with borders: what it is lent. None if it has no
+    /// How many rows a band has with borders: what it is passed. None if it has no
     /// row of its own.
     pub fn rows_with(self, band: Band) -> usize {
         match band.rows().count() {
@@ -45,9 +45,9 @@ impl Border {
         }
     }
 
-    /// The numbers of the rows that a band of a grid of so many rows is lent, in
-    /// order: the border rows before it, its own, and the border rows behind it.
-    /// The rows before row 0 are the last ones, and those behind the last row the
+    /// The numbers of the rows that a band of a grid of so many rows is passed, in
+    /// order: the border rows before it, its own, and the border rows after it.
+    /// The rows before row 0 are the last ones, and those after the last row the
     /// first ones, so that a row may be there more than once.
     ///
     /// ```
@@ -72,8 +72,8 @@ impl Border {
 ///
 /// A step of the grid is made of the steps of bands, by a plan: bands that run
 /// from row 0 to the last without gap or overlap, and have with their border rows
-/// at most as many rows as are held. [`plan`](Held::plan) gives one.
-/// [`step`](Held::step) is lent the old rows of a band, with borders, and gives
+/// at most as many rows as are held. [`plan`](Held::plan) returns one.
+/// [`step`](Held::step) is passed the old rows of a band, with borders, and writes
 /// its next rows.
 ///
 /// Together these are the grid after the step of a run in
@@ -132,7 +132,7 @@ impl<'a, 'l> Held<'a, 'l> {
         self.border_in(&mut rooms.words, &mut rooms.names)
     }
 
-    /// How many border rows there are, in memory of the caller's.
+    /// How many border rows there are, in the caller's buffers.
     pub fn border_in(
         &self,
         words: &mut [u32],
@@ -199,8 +199,8 @@ impl<'a, 'l> Held<'a, 'l> {
         Ok(plan.collect())
     }
 
-    /// Plans as [`plan`](Held::plan) does, in memory of the caller's. Returns how
-    /// many bands there are. They stand at the front of `bands`, which has to have
+    /// Plans as [`plan`](Held::plan) does, in the caller's buffers. Returns how
+    /// many bands there are. They are at the front of `bands`, which has to have
     /// two entries a row of the grid; the rest stays, and all of it if there is a
     /// refusal.
     pub fn plan_in(
@@ -254,7 +254,7 @@ impl<'a, 'l> Held<'a, 'l> {
         self.step_in(band, rows, next, time, &mut rooms.words, &mut rooms.names)
     }
 
-    /// Steps one band as [`step`](Held::step) does, in memory of the caller's.
+    /// Steps one band as [`step`](Held::step) does, in the caller's buffers.
     pub fn step_in(
         &self,
         band: Band,
@@ -303,7 +303,7 @@ impl<'a, 'l> Held<'a, 'l> {
         BandedRun::new(*self, start, steps).on(plan, grid, rooms)
     }
 
-    /// Tells the border rows where a built-in list is lent beside the source.
+    /// Returns the border rows where a built-in list is passed beside the source.
     fn border_lent(
         &self,
         list: &'a [u8],
@@ -334,7 +334,7 @@ impl<'a, 'l> Held<'a, 'l> {
         Ok(Border { before, behind })
     }
 
-    /// Checks a plan where a built-in list is lent beside the source.
+    /// Checks a plan where a built-in list is passed beside the source.
     fn check_plan_lent(
         &self,
         list: &'a [u8],
@@ -368,7 +368,7 @@ impl<'a, 'l> Held<'a, 'l> {
         plan_answer(self.source, list, [number, place], spelling)
     }
 
-    /// Plans where a built-in list is lent beside the source.
+    /// Plans where a built-in list is passed beside the source.
     fn plan_lent(
         &self,
         list: &'a [u8],
@@ -403,7 +403,7 @@ impl<'a, 'l> Held<'a, 'l> {
         Ok(count)
     }
 
-    /// Steps a band where a built-in list is lent beside the source.
+    /// Steps a band where a built-in list is passed beside the source.
     fn step_lent(
         &self,
         list: &'a [u8],
@@ -443,13 +443,13 @@ impl<'a, 'l> Held<'a, 'l> {
     }
 }
 
-/// A plan as it is lent: two entries a band.
+/// A plan as it is passed: two entries a band.
 pub(crate) fn entries_of(plan: &[Band]) -> Vec<u32> {
     let entries = plan.iter().flat_map(|band| [band.first, band.last]);
     entries.collect()
 }
 
-/// What the step of a band is lent beside the source, the word table and the name
+/// What the step of a band is passed beside the source, the word table and the name
 /// list.
 struct BandLent<'a> {
     rows: &'a [i32],

@@ -17,12 +17,12 @@ pub enum Mode {
     Full,
     /// Every step evaluates the open cells alone: in the first step all, later
     /// those within whose reach a cell changed in the step before or by a block
-    /// since, and where `time` stands in the source always all. The count is at
+    /// since, and where `time` occurs in the source always all. The count is at
     /// most the full one. [`Paused`](crate::Paused) makes such a run in slices.
     Quiet,
 }
 
-/// The memory that a run is lent beside its grid. What it holds on entry does
+/// The memory that a run is passed beside its grid. What it holds on entry does
 /// not matter, but for the marks of [`run_resuming_in`](crate::run_resuming_in).
 #[derive(Debug)]
 pub struct Lent<'a> {
@@ -42,7 +42,7 @@ pub fn check<'a>(source: &'a [u8], rooms: &mut Rooms) -> Result<(), Refusal<'a>>
     check_in(source, &mut rooms.words, &mut rooms.names)
 }
 
-/// Checks a source as [`check`] does, in memory of the caller's.
+/// Checks a source as [`check`] does, in the caller's buffers.
 pub fn check_in<'a>(
     source: &'a [u8],
     words: &mut [u32],
@@ -51,7 +51,7 @@ pub fn check_in<'a>(
     check_lent(source, BUILT_IN, words, names)
 }
 
-/// Checks a source beside which a list is lent.
+/// Checks a source beside which a list is passed.
 fn check_lent<'a>(
     source: &'a [u8],
     list: &'a [u8],
@@ -99,7 +99,7 @@ pub fn run<'a>(
     Run::new(source, shape, start, steps, mode).on(grid, rooms)
 }
 
-/// Runs a source as [`run`] does, in memory of the caller's. After a run that
+/// Runs a source as [`run`] does, in the caller's buffers. After a run that
 /// began, even with 0 steps, scratch and marks are zero; else they are as they
 /// were.
 pub fn run_in<'a>(
@@ -114,7 +114,7 @@ pub fn run_in<'a>(
     Run::new(source, shape, start, steps, mode).on_in(grid, lent)
 }
 
-/// A run of a source that can be given a value list, and can keep row counts:
+/// A run of a source that can have a value list, and can keep row counts:
 /// [`on_counting`](Run::on_counting).
 ///
 /// A value list sets cells at chosen times. Each line is a time, which begins a
@@ -192,12 +192,12 @@ impl<'a, 'l> Run<'a, 'l> {
         self.on_in(grid, lent)
     }
 
-    /// Makes the run on a grid, in memory of the caller's, as [`run_in`] does.
+    /// Makes the run on a grid, in the caller's buffers, as [`run_in`] does.
     pub fn on_in(&self, grid: &mut [i32], lent: Lent<'_>) -> Outcome<'a> {
         self.lent(BUILT_IN, grid, lent)
     }
 
-    /// Makes the run where a built-in list is lent beside the source.
+    /// Makes the run where a built-in list is passed beside the source.
     fn lent(&self, list: &'a [u8], grid: &mut [i32], lent: Lent<'_>) -> Outcome<'a> {
         if self.values.is_none() {
             return self.without_list(list, grid, lent);
@@ -350,8 +350,8 @@ mod tests {
         }
     }
 
-    /// Makes a run in memory that is told from any other, and holds it to what
-    /// the list asks.
+    /// Makes a run in memory filled with a known value, and compares it with
+    /// what the list demands.
     fn run_beside(
         list: &[u8],
         run: impl for<'a> Fn(&'a [u8], &mut [i32], Lent<'_>) -> Outcome<'a>,

@@ -1,4 +1,4 @@
-//! Runs that keep row counts, and what is asked of these.
+//! Runs that keep row counts, and questions about these.
 
 use crate::calls::{cells_of, Lent, Mode, Run, BUILT_IN};
 use crate::foreign::{self, CountingRunCall};
@@ -15,8 +15,8 @@ const MOST_SIZE: u32 = 4_096;
 ///
 /// [`Run::on_counting`] and [`Paused::resume_counting`] fill them. After a run
 /// that began, they are those of the grid that it left, also at a fault; a
-/// refusal leaves them as they were. What is asked of them equals what the whole
-/// grid gives, as long as nothing else writes the grid.
+/// refusal leaves them as they were. Answers from them equal those from the
+/// whole grid, as long as nothing else writes to the grid.
 ///
 /// ```
 /// use cellang::{Counts, Mode, Rooms, Run, Stop};
@@ -48,7 +48,7 @@ pub struct Counts {
 }
 
 impl Counts {
-    /// Counts of the zeros of a field, which is given by its number from 0, as
+    /// Counts of the zeros of a field, which is named by its number from 0, as
     /// in [`Names`](crate::Names). There is no row until a run fills them.
     pub fn of_field(field: u32) -> Counts {
         let rows = Vec::new();
@@ -99,11 +99,11 @@ pub(crate) fn rows_of(shape: &[u32]) -> usize {
     rows.map_or(0, |&rows| rows as usize)
 }
 
-/// The memory that a run with row counts is lent beside its grid. What the
+/// The memory that a run with row counts is passed beside its grid. What the
 /// counts hold on entry does not matter.
 #[derive(Debug)]
 pub struct CountingLent<'a> {
-    /// What every run is lent.
+    /// What every run is passed.
     pub lent: Lent<'a>,
     /// The number of the field whose zeros are counted.
     pub field: u32,

@@ -1,39 +1,38 @@
 //! The library's functions as `include/cellang.h` declares them.
 
-/// How many entries tell a reply: number, place, and the spelling: where it
-/// stands, its first byte and its length.
+/// How many entries a reply has: number, place, and the spelling: where it is,
+/// its first byte and its length.
 pub const REPLY: usize = 5;
 
-/// How many entries tell whether a source is in the profile: rule, number and
-/// place.
+/// How many entries the answer about the profile has: rule, number and place.
 pub const PROFILE: usize = 3;
 
-/// How many entries tell a run: number, place, cell, steps, count, the
+/// How many entries a report has: number, place, cell, steps, count, the
 /// spelling's three, and the line of a value list.
 pub const REPORT: usize = 9;
 
-/// How many entries tell a writing: number, place, the length of the text, and
+/// How many entries a writing has: number, place, the length of the text, and
 /// the spelling's three.
 pub const WRITTEN: usize = 6;
 
 /// How many entries answer a question about row counts: number and value.
 pub const ROWS: usize = 2;
 
-/// How many entries tell border rows: number, place, how many there are before
-/// and behind a band, and the spelling's three.
+/// How many entries border rows have: number, place, how many there are before
+/// and after a band, and the spelling's three.
 pub const BORDER: usize = 7;
 
-/// How many entries tell a plan: number, place, how many bands there are, and
+/// How many entries a plan has: number, place, how many bands there are, and
 /// the spelling's three.
 pub const PLANNED: usize = 6;
 
-/// The spelling stands in the source.
+/// The spelling is in the source.
 pub const IN_SOURCE: u32 = 1;
 
-/// The spelling stands in the built-in list.
+/// The spelling is in the built-in list.
 pub const IN_LIST: u32 = 2;
 
-/// How many entries tell a comparison: number and total.
+/// How many entries a comparison has: number and total.
 pub const COMPARISON: usize = 2;
 
 /// A function that runs a source.

@@ -1,7 +1,7 @@
 //! Checks sources written in Cellang, a small language for cellular automata,
 //! runs them on grids, also with timed value lists, in slices, with row counts and
 //! band by band, writes such lists, steps grids of which a few rows are held at a
-//! time, tells rules that move a pixel once, and compares grids, by a library that
+//! time, recognizes rules that move a pixel once, and compares grids, by a library that
 //! is proved to do what the rules say.
 //!
 //! ```

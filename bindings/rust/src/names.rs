@@ -4,7 +4,7 @@ use crate::replies::Place;
 use std::iter::FusedIterator;
 use std::slice::ChunksExact;
 
-/// What a name stands for.
+/// What a name denotes.
 #[derive(Clone, Copy, PartialEq, Eq, Hash, Debug)]
 pub enum Kind {
     /// A constant; the name's value is its value.
@@ -43,7 +43,7 @@ pub struct Name<'a> {
     pub text: &'a str,
     /// Where it is declared.
     pub place: Place,
-    /// What it stands for.
+    /// What it denotes.
     pub kind: Kind,
     /// A number that goes with the kind.
     pub value: i32,

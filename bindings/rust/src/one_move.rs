@@ -11,7 +11,7 @@ use std::fmt;
 /// it misses.
 #[derive(Clone, Copy, PartialEq, Eq, Hash, Debug)]
 pub enum Missed {
-    /// Rule 1: the source is refused. [`check`](crate::check) tells the spelling
+    /// Rule 1: the source is refused. [`check`](crate::check) returns the spelling
     /// of the token at the place too.
     Refused {
         /// Why.
@@ -55,8 +55,8 @@ impl fmt::Display for Missed {
 
 impl Error for Missed {}
 
-/// Tells whether a source is a rule that moves a pixel once, or else which of
-/// three rules it misses first:
+/// Checks whether a source is a rule that moves a pixel once. If it is not, the
+/// error names which of three rules it misses first:
 ///
 /// 1. It is accepted.
 /// 2. It has a named field `moved` that is not const and whose range is 0..1.
@@ -69,7 +69,7 @@ impl Error for Missed {}
 /// never faults, and after one completed step `moved` is 1 in every cell and no
 /// later step changes anything; of a run that is resumed this is said where the
 /// calls are joined, as those of [`Paused`](crate::Paused) are. A run of such a
-/// rule refuses a value list that gives `moved` 0:
+/// rule refuses a value list that sets `moved` to 0:
 /// [`ListReason::MovedZero`](crate::ListReason::MovedZero).
 ///
 /// The rooms are left as [`check`](crate::check) leaves them, also where rule 2
@@ -100,7 +100,7 @@ pub fn check_one_move(source: &[u8], rooms: &mut Rooms) -> Result<(), Missed> {
     check_one_move_in(source, &mut rooms.words, &mut rooms.names)
 }
 
-/// Tells what [`check_one_move`] does, in memory of the caller's.
+/// As [`check_one_move`], in the caller's buffers.
 pub fn check_one_move_in(
     source: &[u8],
     words: &mut [u32],
@@ -109,7 +109,7 @@ pub fn check_one_move_in(
     check_lent(source, BUILT_IN, words, names)
 }
 
-/// Tells it where a built-in list is lent beside the source.
+/// The same where a built-in list is passed beside the source.
 fn check_lent(
     source: &[u8],
     list: &[u8],

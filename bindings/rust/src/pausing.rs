@@ -18,8 +18,8 @@ const TIME_REPEATED: Stop<'static> = Stop::ListRefused(ListRefusal {
 });
 
 /// Runs a source in [`Mode::Quiet`] with a value list, where one of 0 bytes is
-/// as none, in memory of the caller's, and leaves the marks standing. All else
-/// is as [`Run::on_in`] gives and leaves it.
+/// as none, in the caller's buffers, and leaves the marks standing. All else is
+/// as [`Run::on_in`] returns and leaves it.
 ///
 /// After success a mark is 1 for a cell that would be open in one more step,
 /// else 0, also after 0 steps. After a fault the marks are zero, and if the run
@@ -38,16 +38,16 @@ pub fn run_pausing_in<'a>(
     run.by(foreign::cellang_run_pausing, BUILT_IN, grid, lent)
 }
 
-/// Runs a source as [`run_pausing_in`] does, from the marks that are lent. In
+/// Runs a source as [`run_pausing_in`] does, from the marks that are passed. In
 /// the first step those cells are open whose mark is not 0, those within whose
-/// reach the block of the start time changed a cell, and where `time` stands in
+/// reach the block of the start time changed a cell, and where `time` occurs in
 /// the source all.
 ///
 /// It is joined to an earlier call of these two functions that succeeded if
 /// source and shape are the same, grid and marks are as that call left them,
 /// `start` has moved on by its steps, and the times of its list and then of
-/// this one rise strictly. Joined calls give what one call of all their steps
-/// gives, begun as the first of them, with their lists one behind the other;
+/// this one rise strictly. Joined calls return what one call of all their steps
+/// returns, begun as the first of them, with their lists one after the other;
 /// steps and count are the sums. [`Paused`] joins its calls so.
 ///
 /// The marks may be any. If they don't come from joined calls that begin with
@@ -70,7 +70,7 @@ pub fn run_pausing_in<'a>(
 /// let done = run_resuming_in(source, &[5], &mut grid, lent, 0, 1, b"")?;
 /// assert_eq!((done.steps, done.count), (1, 1));
 /// assert_eq!(grid, [1, 1, 0, 0, 0]);
-/// // It changed, and stands in the reach of itself and of its right neighbour.
+/// // It changed, and is in the reach of itself and of its right neighbour.
 /// assert_eq!(marks, [0, 1, 1, 0, 0]);
 /// # Ok::<(), Stop>(())
 /// ```
@@ -87,13 +87,13 @@ pub fn run_resuming_in<'a>(
     run.by(foreign::cellang_run_resuming, BUILT_IN, grid, lent)
 }
 
-/// A quiet run that stands between two steps, or before its first one, and can
-/// be resumed. It owns the grid and the marks, and knows its source, its shape
+/// A quiet run that is paused between two steps, or before its first one, and
+/// can be resumed. It owns the grid and the marks, and knows its source, its shape
 /// and its time, so that they always belong together.
 ///
-/// However a run is sliced, it stands where one quiet run of all the steps
-/// would stand, with the lists of the slices one behind the other: with the
-/// same grid, steps and count, and the grid is that of the full run.
+/// However a run is sliced, it has the grid, steps and count of one quiet run
+/// of all the steps, with the lists of the slices one after the other, and the
+/// grid is that of the full run.
 ///
 /// ```
 /// use cellang::{Paused, Rooms, Stop};
@@ -121,12 +121,12 @@ pub struct Paused<'a> {
     start: i64,
     steps: u32,
     count: u64,
-    /// Whether a list had the time at which the run stands.
+    /// Whether a list had the current time of the run.
     listed: bool,
 }
 
 impl<'a> Paused<'a> {
-    /// A run of a source on a grid that stands before its first step, at time
+    /// A run of a source on a grid, paused before its first step, at time
     /// `start`. `shape` and the grid are as for [`run`](crate::run), and the
     /// same is refused as of a run of 0 steps.
     pub fn begin(
@@ -155,14 +155,14 @@ impl<'a> Paused<'a> {
         }
     }
 
-    /// Goes on for `steps` steps from where the run stands, with a value list
+    /// Goes on for `steps` steps from the current time, with a value list
     /// for them, where one of 0 bytes is as none. Its times lie from
     /// [`time`](Paused::time) to that plus the steps. The block of the time at
     /// which a slice ends may be in its list or in the list of the next one. If
     /// it is in both, the next list is refused: its first time does not rise,
     /// 54.
     ///
-    /// A refusal gives the run back as it was, and it can be resumed. A fault
+    /// A refusal returns the run as it was, and it can be resumed. A fault
     /// ends it.
     ///
     /// ```
@@ -201,7 +201,7 @@ impl<'a> Paused<'a> {
     }
 
     /// Goes on as [`resume`](Paused::resume) does, and fills row counts with
-    /// those of the grid as it stands then, also at a fault. It is refused too,
+    /// those of the grid that is left, also at a fault. It is refused too,
     /// before the list, if there is no such field: 61. A refusal leaves the
     /// counts as they were.
     ///
@@ -241,7 +241,7 @@ impl<'a> Paused<'a> {
         (0..=GREATEST_TIME - self.time()).contains(&steps)
     }
 
-    /// The run after a slice that gave this outcome.
+    /// The run after a slice that returned this outcome.
     fn resumed(
         mut self,
         steps: i64,
@@ -330,7 +330,7 @@ impl<'a> Paused<'a> {
     }
 
     /// Whether a list begins with a time that a list before it had: the time at
-    /// which the run stands. For 0 steps no other line is a list that passes,
+    /// which the run is paused. For 0 steps no other line is a list that passes,
     /// and this one changes nothing.
     fn repeats_time(&mut self, list: &[u8], rooms: &mut Rooms) -> bool {
         let Some(end) = list.iter().position(ends_line) else {
@@ -351,7 +351,7 @@ impl<'a> Paused<'a> {
         &self.shape
     }
 
-    /// The grid as it stands.
+    /// The current grid.
     pub fn grid(&self) -> &[i32] {
         &self.grid
     }
@@ -366,7 +366,7 @@ impl<'a> Paused<'a> {
         self.start
     }
 
-    /// The time at which the run stands, and at which its next step would be.
+    /// The current time, at which its next step would be.
     pub fn time(&self) -> i64 {
         self.start + i64::from(self.steps)
     }
@@ -381,7 +381,7 @@ impl<'a> Paused<'a> {
         self.count
     }
 
-    /// Ends the run, and gives the grid.
+    /// Ends the run, and returns the grid.
     pub fn into_grid(self) -> Vec<i32> {
         self.grid
     }
@@ -393,7 +393,7 @@ fn ends_line(byte: &u8) -> bool {
 
 /// The last time of a list that passes.
 fn last_time(list: &[u8]) -> Option<i64> {
-    // Nothing stands behind the end of the last line.
+    // Nothing follows the end of the last line.
     let mut lines = list.rsplit(ends_line).skip(1);
     let line = lines.find(|line| !line.contains(&b'['))?;
     let digits = line.iter().filter(|byte| byte.is_ascii_digit());
@@ -405,7 +405,7 @@ fn last_time(list: &[u8]) -> Option<i64> {
 pub struct NotBegun<'a> {
     /// Why: the source is refused, or the run is not admitted.
     pub stop: Stop<'a>,
-    /// The grid as it was given.
+    /// The grid as it was passed.
     pub grid: Vec<i32>,
 }
 
@@ -426,7 +426,7 @@ impl<'a> From<NotBegun<'a>> for Stop<'a> {
 /// A paused run did not do the steps that it was resumed for.
 #[derive(Clone, PartialEq, Eq, Hash, Debug)]
 pub enum NotResumed<'a> {
-    /// The steps or the list are refused, and the run stands where it stood.
+    /// The steps or the list are refused, and the run is as it was.
     Refused {
         /// Why: the run is not admitted, since steps is negative or leads past
         /// time 2147483647, or there is no field to be counted; or the list is
@@ -437,7 +437,7 @@ pub enum NotResumed<'a> {
     },
     /// A cell faulted, and the run is at its end.
     Faulted {
-        /// The fault, as the run at once gives it: with the steps done and the
+        /// The fault, as the run at once returns it: with the steps done and the
         /// cells evaluated in all slices.
         fault: Fault,
         /// The grid after the steps done, with the block of the faulting step's
@@ -455,7 +455,7 @@ impl NotResumed<'_> {
         }
     }
 
-    /// The grid as it stands.
+    /// The current grid.
     pub fn grid(&self) -> &[i32] {
         match self {
             NotResumed::Refused { paused, .. } => paused.grid(),

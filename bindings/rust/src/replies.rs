@@ -5,7 +5,7 @@ use std::error::Error;
 use std::fmt;
 
 /// A place in a source: the number of a byte, from 0. The end of the source
-/// stands at its length.
+/// is at its length.
 #[derive(Clone, Copy, PartialEq, Eq, PartialOrd, Ord, Hash, Debug)]
 pub struct Place(pub u32);
 
@@ -178,7 +178,7 @@ pub struct Refusal<'a> {
     /// Where: the first byte of the token that is named, or 0 where the
     /// reason is [`Reason::RoomLength`].
     pub place: Place,
-    /// The token at the place: a part of the source that was lent, or, for
+    /// The token at the place: a part of the source that was passed, or, for
     /// `cell`, `time` and `random`, of [`BUILT_IN`](crate::BUILT_IN), in lower
     /// case. Where no token can be read it is the one byte at the place. It is
     /// empty at the end of the source, and for [`Reason::RoomLength`] and
@@ -215,7 +215,7 @@ pub enum Objection {
     BadShape,
     /// 21: grid or scratch is not cells times fields long, or marks not one
     /// byte a cell. Of [`Held`](crate::Held): the planner's room does not have two
-    /// entries a row, the rows lent are not the band's with borders, or the room
+    /// entries a row, the rows passed are not the band's with borders, or the room
     /// for the next ones is not as long as the band. Of
     /// [`BandedRun`](crate::BandedRun): the room does not have as many rows as can be
     /// held.
@@ -226,9 +226,9 @@ pub enum Objection {
     /// than its dimension; the first one in the source.
     IndexTooFar(Place),
     /// 24: a field is out of range on entry; the lowest one in the grid, or in
-    /// the rows that a band is lent.
+    /// the rows that a band is passed.
     EntryOutOfRange(Entry),
-    /// 60: the plan is not accepted, or the band could stand in no accepted plan.
+    /// 60: the plan is not accepted, or the band could be part of no accepted plan.
     BadPlan,
     /// 61: there is no field with the number whose zeros are to be counted, or
     /// counts are not one a row.
@@ -505,13 +505,13 @@ impl Error for Stop<'_> {}
 /// All steps of a run are done.
 #[derive(Clone, Copy, PartialEq, Eq, Hash, Debug)]
 pub struct Done {
-    /// The steps, all those asked.
+    /// The steps, all those requested.
     pub steps: u32,
     /// How many times a cell was evaluated.
     pub count: u64,
 }
 
-/// What a run gives.
+/// What a run returns.
 pub type Outcome<'a> = Result<Done, Stop<'a>>;
 
 /// A value list is not written.
@@ -565,7 +565,7 @@ impl fmt::Display for NotWritten<'_> {
 
 impl Error for NotWritten<'_> {}
 
-/// A call of [`Held`](crate::Held) that plans, or checks a plan, does not give
+/// A call of [`Held`](crate::Held) that plans, or checks a plan, does not return
 /// one or accept it.
 #[derive(Clone, PartialEq, Eq, Hash, Debug)]
 pub enum NotPlanned<'a> {
@@ -618,7 +618,7 @@ impl fmt::Display for NotPlanned<'_> {
 
 impl Error for NotPlanned<'_> {}
 
-/// The answer that the entries of a check tell.
+/// The answer that the entries of a check hold.
 pub(crate) fn check_answer<'a>(
     source: &'a [u8],
     list: &'a [u8],
@@ -634,7 +634,7 @@ pub(crate) fn check_answer<'a>(
     }
 }
 
-/// The part of the source or of the built-in list that three entries tell.
+/// The part of the source or of the built-in list that three entries hold.
 fn part_of<'a>(source: &'a [u8], list: &'a [u8], stands: u32, start: u32, length: u32) -> &'a [u8] {
     let whole = match stands {
         foreign::IN_SOURCE => source,
@@ -652,7 +652,7 @@ fn refusal_of(number: u32, place: u32, spelling: &[u8]) -> Option<Refusal<'_>> {
     })
 }
 
-/// The answer that the entries of a run tell.
+/// The answer that the entries of a run hold.
 pub(crate) fn run_answer<'a>(
     source: &'a [u8],
     list: &'a [u8],
@@ -687,7 +687,7 @@ pub(crate) fn run_answer<'a>(
     }))
 }
 
-/// The answer that the entries of a writing tell: the length of the text.
+/// The answer that the entries of a writing hold: the length of the text.
 pub(crate) fn written_answer<'a>(
     source: &'a [u8],
     list: &'a [u8],
@@ -711,7 +711,7 @@ pub(crate) fn written_answer<'a>(
     }
 }
 
-/// The answer that number, place and spelling tell of a plan or of border rows.
+/// The answer that number, place and spelling hold of a plan or of border rows.
 pub(crate) fn plan_answer<'a>(
     source: &'a [u8],
     list: &'a [u8],

@@ -5,7 +5,7 @@ use crate::foreign;
 use crate::replies::{written_answer, NotWritten};
 use crate::rooms::Rooms;
 
-/// The memory that the writer is lent beside the grids.
+/// The memory that the writer is passed beside the grids.
 #[derive(Debug)]
 pub struct WriterLent<'a> {
     /// The word table, [`WORDS`](crate::WORDS) long.
@@ -64,8 +64,8 @@ pub fn write_list<'a>(
     Ok(text)
 }
 
-/// Writes a value list as [`write_list`] does, in memory of the caller's.
-/// Returns the length of the text, which stands at the front of the room. The
+/// Writes a value list as [`write_list`] does, in the caller's buffers.
+/// Returns the length of the text, which is at the front of the room. The
 /// remaining room stays, and all of it where nothing is written.
 pub fn write_list_in<'a>(
     source: &'a [u8],
@@ -108,7 +108,7 @@ pub fn write_list_in<'a>(
 const MOST_TIME_LINE: usize = 11;
 
 /// The most bytes that a cell's line has: four digits an index, a sign and ten
-/// digits a value, and what stands between and around them.
+/// digits a value, and what is between and around them.
 fn most_cell_line(dimensions: usize, fields: usize) -> usize {
     6 * dimensions + 13 * fields + 2
 }

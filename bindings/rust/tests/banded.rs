@@ -24,14 +24,14 @@ const PAIRS: &[u8] = b"2 dimensions of a, b of 0..9 end cell.a := [-1,1].b cell.
 
 const FIVE: [i32; 5] = [5, 6, 7, 8, 9];
 
-/// What a run under a plan is asked beside its source, its sizes and its grid.
+/// The request of a run under a plan beside its source, its sizes and its grid.
 #[derive(Clone, Copy, Debug)]
 struct Under<'l> {
     plan: &'l [u32],
     room: usize,
     times: (i64, i64),
     list: &'l [u8],
-    /// The field that is counted, and how many counts are lent.
+    /// The field that is counted, and how many counts are passed.
     counted: Option<(u32, usize)>,
 }
 
@@ -45,7 +45,7 @@ fn under(plan: &[u32], room: usize, steps: i64) -> Under<'_> {
     }
 }
 
-/// What a run told, the grid, and the counts, which held 9s.
+/// What a run returned, the grid, and the counts, which held 9s.
 type Left<'a> = (Outcome<'a>, Vec<i32>, Vec<u32>);
 
 /// Makes a run under a plan. Scratch, marks and the room, which hold 9s, are to be
@@ -392,7 +392,7 @@ fn run_refusals() {
 fn runs_in_memory_of_the_crate() {
     let mut rooms = Rooms::new();
     let plan = [band(0, 1), band(2, 4)];
-    // However many rows can be held, the room is no longer than the grid asks for.
+    // However many rows can be held, the room is no longer than the grid needs.
     for rows in [4, 5, 6, 15, 16, u32::MAX] {
         let held = Held::new(SHIFT, &[5], rows);
         let mut grid = FIVE;

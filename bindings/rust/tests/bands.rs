@@ -249,7 +249,7 @@ fn plan_checks() {
         &[1, 2, 3, 4],
         &[2, 3, 0, 1, 4, 4],
         &[0, 1, 0, 1, 2, 3, 4, 4],
-        // A band more, behind the last row.
+        // A band more, after the last row.
         &[0, 1, 2, 3, 4, 4, 5, 5],
     ] {
         assert_eq!(checked(SHIFT, &[5], 3, plan), 60, "{plan:?}");
@@ -268,7 +268,7 @@ fn plan_checks() {
     assert_eq!((BAD_PLAN.number(), BAD_PLAN.place()), (60, None));
 }
 
-/// Steps a band into a room of 9s; what is told, and the room.
+/// Steps a band into a room of 9s; what is returned, and the room.
 fn step<'a>(
     held: Held<'a, '_>,
     source: &[u8],
@@ -597,7 +597,7 @@ fn rooms_of_wrong_length_are_not_touched() {
     }
 }
 
-/// Steps a grid band by band, and gives what the run of one step gives.
+/// Steps a grid band by band, and returns what the run of one step returns.
 fn by_bands<'a>(
     held: Held<'a, '_>,
     (border, plan, rows): (Border, &[Band], u32),

@@ -76,7 +76,7 @@ fn compare_names(source: &[u8], names: &[u32], records: &[Record]) {
 }
 
 /// Place and length of every token, and the ranges of the fields; zero
-/// behind the last token.
+/// after the last token.
 fn compare_words(source: &[u8], words: &[u32], program: &Program) {
     let mut tokens = lex(source);
     tokens.pop();

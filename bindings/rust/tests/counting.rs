@@ -194,7 +194,7 @@ fn rows_of_more_cells_and_fields() {
         let outcome = plane.run(manner, b"2 dimensions of 0..1", &[5, 2], 0, "");
         assert_eq!(outcome, Ok(Done { steps: 0, count: 0 }));
         assert_eq!(plane.counts, [2, 0, 1, 1, 0]);
-        // A block of the start time is counted, and one behind the last step.
+        // A block of the start time is counted, and one after the last step.
         let list = "0\n[1, 1] = 0\n1\n[0, 0] = 1\n";
         let mut plane = row(&grid, 0, &[9; 5]);
         let outcome = plane.run(manner, b"2 dimensions of 0..1", &[5, 2], 1, list);
@@ -259,7 +259,7 @@ fn refused_counts_and_their_order() {
         ] {
             assert_eq!(number(source, wrong(grid), steps, "x"), expected);
         }
-        // The list is refused behind it.
+        // The list is refused after it.
         for list in ["", "x", "\n", "0\n[5] = 1\n", "0\n0\n", "9\n"] {
             assert_eq!(number(SHIFT, wrong(&FIRST), 1, list), 61, "{list:?}");
         }
@@ -417,7 +417,7 @@ fn worked_questions() {
 
 // ---- beside the second program
 
-/// Makes a call, and holds what it gives and leaves to the second program's.
+/// Makes a call, and holds what it returns and leaves to the second program's.
 fn compare_call(call: &Call) -> u32 {
     let expected = call.made();
     let RunCase { source, shape, .. } = &call.run;

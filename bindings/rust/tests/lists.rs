@@ -1,5 +1,5 @@
 //! Runs with value lists and the writer: each reply once, with its message, and
-//! what the lent memory holds after it.
+//! what the caller's memory holds after it.
 
 use cellang::{
     check, write_list, write_list_in, Done, Entry, Lent, Line, ListReason, ListRefusal, Mode,

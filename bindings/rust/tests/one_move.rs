@@ -165,7 +165,7 @@ fn made<'a>(call: &'a Call, grid: &mut [i32], lent: Lent<'_>, counts: &mut [u32]
     }
 }
 
-/// Makes a call, and holds what it gives and leaves to the second program's.
+/// Makes a call, and holds what it returns and leaves to the second program's.
 fn compare_call(call: &Call) -> u32 {
     let expected = call.made();
     let mut grid = call.run.grid.clone();

@@ -27,7 +27,7 @@ const SHIFT: &[u8] = b"1 dimensions of 0..1 cell := [-1]";
 const COUNT_TO_3: &[u8] = b"1 dimensions of 0..3 cell := cell + 1";
 const COUNT_TO_9: &[u8] = b"1 dimensions of 0..9 cell := cell + 1";
 
-/// One of the two calls in memory of the caller's.
+/// One of the two calls in the caller's buffers.
 type Call = for<'a> fn(&'a [u8], &[u32], &mut [i32], Lent<'_>, i64, i64, &[u8]) -> Outcome<'a>;
 
 /// A row of cells of one field, with its marks.
@@ -172,7 +172,7 @@ fn worked_resuming() {
         let given = row.call(run_resuming_in, SHIFT, (start, steps), list);
         assert_eq!((given, row), (outcome, after), "{start} {steps} {list:?}");
     }
-    // Where `time` stands in the source, all cells are open.
+    // Where `time` occurs in the source, all cells are open.
     let timed = b"1 dimensions of 0..9 cell := time";
     let mut zero = row(&[0, 0], &[0, 0]);
     assert_eq!(zero.call(run_resuming_in, timed, (1, 2), ""), done(2, 4));
@@ -229,13 +229,13 @@ fn marks_after_a_refusal() {
     }
 }
 
-/// A run that stands before its first step.
+/// A run that is paused before its first step.
 fn begun<'a>(source: &'a [u8], grid: &[i32], start: i64) -> Paused<'a> {
     let shape = [grid.len() as u32];
     Paused::begin(source, &shape, grid.to_vec(), start, &mut Rooms::new()).expect("admitted")
 }
 
-/// The run that is given back by a refusal, and why.
+/// The run that a refusal returns, and why.
 fn refused<'a>(answer: Result<Paused<'a>, NotResumed<'a>>) -> (Stop<'a>, Paused<'a>) {
     match answer {
         Err(NotResumed::Refused { stop, paused }) => (stop, *paused),
@@ -291,7 +291,7 @@ fn a_block_between_two_slices() {
 fn a_time_in_two_lists() {
     let mut rooms = Rooms::new();
     let not_rising = list_refused(ListReason::TimeNotRising, 1);
-    // The last list has time 1, at which the run stands.
+    // The last list has time 1, at which the run is paused.
     let mut stands = Vec::new();
     for list in [&b"1\n"[..], b"0\n[1] = 1\n 0_1\r[3] = 1\r[4] = 1\r"] {
         let paused = begun(SHIFT, &[1, 0, 0, 0, 0], 0);
@@ -533,7 +533,7 @@ fn slices_of(random: &mut Random, case: &RunCase) -> Vec<(i64, Vec<u8>)> {
     slices
 }
 
-/// Makes a run in slices, and holds what it gives to the run at once: the
+/// Makes a run in slices, and holds what it returns to the run at once: the
 /// second program's, and this library's for the marks.
 fn compare_chain(random: &mut Random, case: &RunCase, mut paused: Paused, rooms: &mut Rooms) {
     let expected = run_case(case, true);
@@ -574,7 +574,7 @@ fn chains() {
     let mut rooms = Rooms::new();
     let mut seen = [0; 63];
     for case in cases(20_006, CHAINS) {
-        // All that is lent beside the grid has the right length.
+        // All that is passed beside the grid has the right length.
         let RunCase { source, shape, .. } = &case;
         let plain = RunCase::new(source.clone(), shape, case.grid.clone(), case.start, 0);
         let steps = case.steps;
@@ -618,7 +618,7 @@ fn chains() {
     }
 }
 
-/// What a call is lent for a case.
+/// What a call is passed for a case.
 struct Lending {
     words: Vec<u32>,
     names: Vec<u32>,
@@ -692,7 +692,7 @@ impl<'a> Step<'a> {
     }
 
     /// The next fields of one cell. No rule reads where a cell stands, so
-    /// behind a fault the grid is turned until this cell stands first.
+    /// after a fault the grid is turned until this cell stands first.
     fn cell(&self, cell: usize) -> Result<Vec<i32>, CellFault> {
         let fields = self.program.fields.len();
         if cell < self.known {
@@ -716,7 +716,7 @@ fn differing(fields: usize, old: &[i32], new: &[i32]) -> Vec<bool> {
     both.map(|(old, new)| old != new).collect()
 }
 
-/// What a run gives and leaves that begins with these cells open, as the rules
+/// What a run returns and leaves that begins with these cells open, as the rules
 /// say it: only the open cells are evaluated.
 fn by_the_rules(case: &RunCase, marks: &[u8], mut open: Vec<bool>) -> (Report, Vec<i32>, Vec<u8>) {
     let RunCase { shape, .. } = case;

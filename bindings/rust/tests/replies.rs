@@ -1,4 +1,4 @@
-//! Each reply once, with its message, and what the lent memory holds after it.
+//! Each reply once, with its message, and what the caller's memory holds after it.
 
 use cellang::{check, check_in, run, run_in, Kind, Lent, Mode, Rooms, NAME_WORDS, WORDS};
 

@@ -1,5 +1,5 @@
 //! The stored cases on bands of rows, each made by the library: every number that
-//! it tells and every entry that it leaves is held to the stored answer.
+//! it returns and every entry that it leaves is held to the stored answer.
 
 use banding::{bordered, checked, planned, ran, stepped};
 use reference::band_case::{band_line, banded_line, plan_line};
@@ -21,7 +21,7 @@ const KINDS: [&str; 5] = [
     "border rows",
 ];
 
-/// The number of a case's kind, and the line of what the library gives.
+/// The number of a case's kind, and the line of what the library returns.
 fn made(case: &AnyCase) -> (usize, String) {
     match case {
         AnyCase::Plan(case) => (0, plan_line(checked(case))),

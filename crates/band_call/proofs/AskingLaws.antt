@@ -12,11 +12,11 @@ use borrow.Author.Tests.{le-leb, lt-leb, leb-true, leb-false, lt-ltb, le-ltb, lt
 use Rattle.value.proofs.Theorems.Laws.{and-both}
 use Rattle.automaton.specs.Shape.{product, Bound}
 use Rattle.automaton.specs.Bands.{Band, rows-in, rows-with}
-use Rattle.stepper.specs.Admission.{all-between, good-times}
-use Rattle.admission.specs.Contracts.Admitting.{cells-of}
-use Rattle.admission.proofs.RequestLaws.{cells-in}
+use Rattle.run_meaning.specs.Admission.{all-between, good-times}
+use Rattle.run_admission.specs.Contracts.Admitting.{cells-of}
+use Rattle.run_admission.proofs.RequestLaws.{cells-in}
 use Rattle.band_call.specs.BandCall.{row-cells, band-right, band-rooms}
-use Rattle.band_call.specs.Contracts.Asking.{Divisible, band-number, RefusesBand}
+use Rattle.band_call.specs.Contracts.Asking.{RowsDivide, band-number, RefusesBand}
 
 -- ---- a row
 
@@ -25,17 +25,17 @@ unfolding all-between
 first-some [] l e = absurd (omega arith)
 first-some (n ∷ ns) l e = leb-true 1 n (and-both (leb 1 n) _ (and-both (leb 1 n && leb n 4096) (all-between 1 4096 ns) e .0) .0)
 
-pub divided : {sizes : List ℕ} {n : ℕ} → Divisible sizes → n ≡ cells-of sizes → n / getD sizes 0 0 ≡ row-cells sizes
+pub divided : {sizes : List ℕ} {n : ℕ} → RowsDivide sizes → n ≡ cells-of sizes → n / getD sizes 0 0 ≡ row-cells sizes
 divided {sizes} {n} x e = by sizes (x .some-dims) (first-some sizes (x .some-dims) (x .each-size)) (e ∙ cells-in sizes (x .each-size) (x .few-cells))
   where
     by : (ss : List ℕ) → 0 < length ss → 0 < getD ss 0 0 → n ≡ product ss → n / getD ss 0 0 ≡ row-cells ss
     by [] l f q = absurd (omega arith)
     by (m ∷ ns) l f q = ap (λ (x : ℕ). x / m) q ∙ mul-div-cancel-left (product ns) f
 
-pub some-rows : {sizes : List ℕ} → Divisible sizes → 0 < getD sizes 0 0
+pub some-rows : {sizes : List ℕ} → RowsDivide sizes → 0 < getD sizes 0 0
 some-rows {sizes} x = first-some sizes (x .some-dims) (x .each-size)
 
-pub cells-small : {sizes : List ℕ} {n : ℕ} → Divisible sizes → n ≡ cells-of sizes → n ≤ 1048576
+pub cells-small : {sizes : List ℕ} {n : ℕ} → RowsDivide sizes → n ≡ cells-of sizes → n ≤ 1048576
 cells-small {sizes} x e = omega (arith, e, cells-in sizes (x .each-size) (x .few-cells), x .few-cells)
 
 -- ---- 60

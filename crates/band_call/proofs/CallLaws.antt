@@ -12,42 +12,45 @@ use mir.Syntax.{w64}
 use mir.Val.{SFits, toZ, ofZ}
 use mir.Facts.{toZ-ofZ}
 use borrow.Author.Tests.{eq-eqb, ne-eqb, not-true, not-false}
+use Rattle.value.specs.Choice.{if_then_else_}
 use Rattle.automaton.specs.Step as automaton
 use Rattle.automaton.specs.Step.{Fault, no-fault, fault-at}
 use Rattle.automaton.specs.Shape.{product, Bound}
-use Rattle.automaton.specs.ShapeLaws.{Positive, product-pos}
+use Rattle.automaton.specs.Contracts.ShapeLaws.{Positive, product-pos}
 use Rattle.automaton.specs.Bands.{Band, rows-in, rows-with, reached, band-step}
 use Rattle.token.specs.Lexeme.{is-built-in}
 use Rattle.program.specs.Syntax.{Range, Program}
-use Rattle.grammar.specs.Checking.{rooms-fit, read-source, words-after, names-after}
-use Rattle.semantics.specs.declared.Rule.{Rule}
-use Rattle.semantics.specs.Evaluation.{evaluate}
-use Rattle.semantics.specs.Leaves.{Leaves}
-use Rattle.semantics.specs.Stands.{Holds}
-use Rattle.semantics.specs.Written.{written-in}
-use Rattle.stepper.specs.Admission.{Refusal, refusal, good-times, too-far, out-of-field}
-use Rattle.stepper.specs.Report as report
-use Rattle.stepper.specs.Contracts.Fitting.{Sized, held-fields}
-use Rattle.services.specs.Calls.{NameForm, flat-names, names-left}
-use Rattle.admission.specs.Contracts.Admitting.{InFields}
-use Rattle.admission.specs.declared.Refusal as declared
-use Rattle.admission.proofs.RequestLaws.{good-start, good-total}
-use Rattle.bands.specs.Edge.{edge}
-use Rattle.bands.specs.OnSizes.{on-sizes}
-use Rattle.planner.specs.declared.opening.RowsOpened.{RowsOpened}
-use Rattle.bands.specs.Edge.{bound}
-use Rattle.planner.specs.Contracts.Opening.{RowsOpen, OpensRows}
-use Rattle.stepping.specs.declared.Step.{Step}
-use Rattle.stepping.specs.declared.Step.the-variants as Gives
-use Rattle.stepping.specs.Contracts.Stepping.{fault-in, count-in}
-use Rattle.stepping.specs.Contracts.Turns.{Roomed}
-use Rattle.stepping.specs.Contracts.Rows.{RowsReady, RowsStepped}
-use Rattle.banding.proofs.OneBand.{by-rows, rest-positive}
-use Rattle.iteration.specs.declared.Report.{Report}
-use Rattle.iteration.specs.Contracts.Stepwise.{told}
-use Rattle.band_call.specs.BandCall.{row-cells, BandAsked, band-right, band-rooms, band-refusal, band-stepped, band-ended, band-report, band-on, band-source, BandLent, band-lent-fits, band-left}
-use Rattle.band_call.specs.Contracts.Asking.{Divisible, band-number, RefusesBand}
-use Rattle.band_call.specs.Contracts.Calling.{LentFits, stepped-by, LentStepped, StepsSource, BandLeaves, band-asked}
+use Rattle.grammar.specs.Checking.{rooms-fit, read-source, words-after}
+use Rattle.grammar.specs.Contracts.Flat.{names-after}
+use Rattle.cell_meaning.specs.declared.Rule.{Rule}
+use Rattle.cell_meaning.specs.Evaluation.{evaluate}
+use Rattle.cell_meaning.specs.Contracts.Leaves.{Leaves}
+use Rattle.cell_meaning.specs.Contracts.Stands.{Holds}
+use Rattle.cell_meaning.specs.Written.{written-in}
+use Rattle.program.specs.Refusal.{Refusal, refusal}
+use Rattle.run_meaning.specs.Admission.{good-times, too-far, out-of-field}
+use Rattle.run_meaning.specs.Report as report
+use Rattle.run_meaning.specs.Contracts.Fitting.{Sized, held-fields}
+use Rattle.run_calls.specs.Calls.{NameForm, flat-names, SourceLent, source-fits, names-left}
+use Rattle.run_admission.specs.Contracts.Admitting.{InFields}
+use Rattle.run_admission.specs.declared.Refusal as declared
+use Rattle.run_admission.proofs.RequestLaws.{good-start, good-total}
+use Rattle.band_meaning.specs.Edge.{edge}
+use Rattle.band_meaning.specs.OnSizes.{on-sizes, by-grid}
+use Rattle.band_planner.specs.declared.opening.RowsOpened.{RowsOpened}
+use Rattle.band_meaning.specs.Bounds.{bound}
+use Rattle.band_planner.specs.Contracts.Opening.{RowsOpen, OpensRows}
+use Rattle.run_step.specs.declared.Step.{Step}
+use Rattle.run_step.specs.declared.Step.the-variants as Gives
+use Rattle.run_step.specs.Contracts.Stepping.{fault-in, count-in}
+use Rattle.run_step.specs.Contracts.Turns.{Roomed}
+use Rattle.run_step.specs.Contracts.Rows.{RowsReady, RowsStepped}
+use Rattle.band_step.proofs.OneBand.{by-rows, rest-positive}
+use Rattle.run_steps.specs.declared.Report.{Report}
+use Rattle.run_steps.specs.Told.{told}
+use Rattle.band_call.specs.BandCall.{row-cells, BandAsked, band-asked, band-right, band-rooms, band-refusal, band-stepped, band-ended, band-report, band-source, band-left}
+use Rattle.band_call.specs.Contracts.Asking.{RowsDivide, band-number, RefusesBand}
+use Rattle.band_call.specs.Contracts.Calling.{LentFits, stepped-by, LentStepped, StepsSource, BandLeaves}
 use Rattle.band_call.proofs.AskingLaws.{right-knows, rooms-known}
 
 -- ---- the step of an admitted call
@@ -155,7 +158,7 @@ abbrev tried : Bool → Bool → Bool → Refusal → Refusal → Refusal
 tried false rooms times far out = refusal 60 0
 tried true false times far out = refusal 21 0
 tried true true false far out = refusal 22 0
-tried true true true far out = elim (eqb (far .number) 0) [ false ↦ far | true ↦ out ]
+tried true true true far out = if not (eqb (far .number) 0) then far else out
 
 -- the tests
 abbrev right-by : Program → BandAsked → Bool
@@ -181,19 +184,11 @@ refusal-is p q =
 
     by : (a b c : Bool)
         → _≡_ {A = Refusal}
-        (elim a [
-          | false ↦ refusal 60 0
-          | true ↦ elim b [
-            | false ↦ refusal 21 0
-            | true ↦ elim c [
-              | false ↦ refusal 22 0
-              | true ↦ elim (eqb (far .number) 0) [
-                | false ↦ far
-                | true ↦ out
-              ]
-            ]
-          ]
-        ])
+        (if not a then refusal 60 0
+        else if not b then refusal 21 0
+        else if not c then refusal 22 0
+        else if not (eqb (far .number) 0) then far
+        else out)
         (tried a b c far out)
     by false b c = refl
     by true false c = refl
@@ -212,15 +207,14 @@ all-true true false c e = absurd (omega arith)
 all-true true true false e = absurd (omega arith)
 all-true true true true e = (refl, refl, refl)
 
-tried-rest : (a b c : Bool) (far out : Refusal) → 0 ≡ band-number a b c → tried a b c far out ≡ elim (eqb (far .number) 0) [ false ↦ far | true ↦ out ]
+tried-rest : (a b c : Bool) (far out : Refusal) → 0 ≡ band-number a b c → tried a b c far out ≡ (if not (eqb (far .number) 0) then far else out)
 tried-rest a b c far out e = let t = all-true a b c e in rw (t .0, t .1, t .2) refl
 
 -- the report, by the refusal and whether there is none
 abbrev reported : Program → BandAsked → Refusal → Bool → report.Report
-reported p q r t = elim t [
-  | false ↦ report.refused (r .number) (r .place) 0 (q .room)
-  | true ↦ band-ended (q .band .first * row-cells (q .sizes)) (length (q .room)) (band-stepped p q .fault) (band-stepped p q)
-]
+reported p q r t =
+    if t then band-ended (q .band .first * row-cells (q .sizes)) (length (q .room)) (band-stepped p q .fault) (band-stepped p q)
+    else report.refused (r .number) (r .place) 0 (q .room)
 
 report-refused : (p : Program) (q : BandAsked) (n place : ℕ) → band-refusal p q ≡ refusal n place → (n ≡ 0 → ⊥) → band-report p q ≡ report.refused n place 0 (q .room)
 unfolding band-report
@@ -248,7 +242,7 @@ read-steps {fit} {source} {words} {names} {sizes} {first} {last} {held} {rows} {
 module _ (q : BandAsked) {fit : Bool} {source ws ns : List ℕ} {o : RowsOpened} {ws′ ns′ : List ℕ} (x : OpensRows fit source ws ns (q .sizes) o ws′ ns′) where
   pub band-closed : (o .number ≡ 0 → ⊥) → {r : Report} → ((room : List ℤ) → told r room ≡ report.refused (o .number) (o .place) 0 room) → StepsSource fit source ws ns q r ws′ ns′ (q .room)
   unfolding band-source
-  band-closed z e = record { report = e (q .room) ∙ sym (ap (band-on q) (x .closed z)); words-are = x .words; names-are = x .names }
+  band-closed z e = record { report = e (q .room) ∙ sym (ap (by-grid (λ number place. report.refused number place 0 (q .room)) (λ p. band-report p q)) (x .closed z)); words-are = x .words; names-are = x .names }
 
   module _ (z : o .number ≡ 0) where
     open-is : RowsOpen fit source ws′ (q .sizes) o
@@ -257,7 +251,7 @@ module _ (q : BandAsked) {fit : Bool} {source ws ns : List ℕ} {o : RowsOpened}
     program : Program
     program = open-is .read .program
 
-    pub divisible : Divisible (q .sizes)
+    pub divisible : RowsDivide (q .sizes)
     divisible = let y = open-is in record {
       some-dims = omega (arith, y .dims, y .some-dims);
       few-dims = omega (arith, y .dims, y .rule-fits .dims);
@@ -267,7 +261,7 @@ module _ (q : BandAsked) {fit : Bool} {source ws ns : List ℕ} {o : RowsOpened}
 
     steps-as : {r : Report} {room′ : List ℤ} → told r room′ ≡ band-report program q → StepsSource fit source ws ns q r ws′ ns′ room′
     unfolding band-source program
-    steps-as e = record { report = e ∙ sym (ap (band-on q) (open-is .on)); words-are = x .words; names-are = x .names }
+    steps-as e = record { report = e ∙ sym (ap (by-grid (λ number place. report.refused number place 0 (q .room)) (λ p. band-report p q)) (open-is .on)); words-are = x .words; names-are = x .names }
 
     module _ {row : ℕ} (row-is : row ≡ row-cells (q .sizes)) where
       -- a row has few cells
@@ -297,7 +291,7 @@ module _ (q : BandAsked) {fit : Bool} {source ws ns : List ℕ} {o : RowsOpened}
         band-refused n e = steps-as (e (q .room) ∙ sym (report-refused program q number 0 (refusal-is program q ∙ tried-first (right-by program q) (rooms-by program q) (times-by q) _ _ number number-is n) n))
 
         module _ (n : number ≡ 0) where
-          rest : band-refusal program q ≡ elim (eqb (too-far (q .sizes) (written-in program) .number) 0) [ false ↦ too-far (q .sizes) (written-in program) | true ↦ out-of-field (program .fields) 0 (q .rows) ]
+          rest : band-refusal program q ≡ (if not (eqb (too-far (q .sizes) (written-in program) .number) 0) then too-far (q .sizes) (written-in program) else out-of-field (program .fields) 0 (q .rows))
           rest = refusal-is program q ∙ tried-rest (right-by program q) (rooms-by program q) (times-by q) _ _ (sym n ∙ number-is)
 
           knows : (right-by program q ≡ true) × (rooms-by program q ≡ true) × (times-by q ≡ true)
@@ -307,7 +301,7 @@ module _ (q : BandAsked) {fit : Bool} {source ws ns : List ℕ} {o : RowsOpened}
           unfolding program
           band-far f e =
               steps-as (e (q .room) ∙ sym (report-refused program q (o .far) (o .at)
-              (rest ∙ ap (λ (r : Refusal). elim (eqb (r .number) 0) [ false ↦ r | true ↦ out-of-field (program .fields) 0 (q .rows) ]) (sym (open-is .far)) ∙ rw (ne-eqb (o .far) 0 f) refl) f))
+              (rest ∙ ap (λ (r : Refusal). if not (eqb (r .number) 0) then r else out-of-field (program .fields) 0 (q .rows)) (sym (open-is .far)) ∙ rw (ne-eqb (o .far) 0 f) refl) f))
 
           module _ (f : o .far ≡ 0) where
             far-none : too-far (q .sizes) (written-in program) .number ≡ 0
@@ -373,26 +367,26 @@ module _ (q : BandAsked) {fit : Bool} {source ws ns : List ℕ} {o : RowsOpened}
 
 -- ---- the call
 
-module _ {N : Type 0} {form : NameForm N} {l : BandLent N} {words : List ℕ} {names : List N} (w : words ≡ words-after (band-lent-fits form l) (l .source) (l .words))
-    (n : names ≡ names-left form (band-lent-fits form l) (l .source) (l .names)) where
-  pub left-by : {r : Report} {room : List ℤ} → told r room ≡ band-source (band-lent-fits form l) (l .source) (l .asked) → BandLeaves form l r words names room
+module _ {N : Type 0} {form : NameForm N} {l : SourceLent N} {q : BandAsked} {words : List ℕ} {names : List N} (w : words ≡ words-after (source-fits form l) (l .source) (l .words))
+    (n : names ≡ names-left form (source-fits form l) (l .source) (l .names)) where
+  pub left-by : {r : Report} {room : List ℤ} → told r room ≡ band-source (source-fits form l) (l .source) q → BandLeaves form l q r words names room
   unfolding band-left
-  left-by e = record { is = λ i. record { report = e i; words = w i; names = n i } }
+  left-by e = record { is = λ i. record { answer = e i; words = w i; names = n i } }
 
 -- another list than the built-in one: nothing is read, and nothing changes
-pub unlisted-band : {N : Type 0} (form : NameForm N) (l : BandLent N) → band-lent-fits form l ≡ false → {r : Report} → ((room : List ℤ) → told r room ≡ report.refused 1 0 0 room)
-    → BandLeaves form l r (l .words) (l .names) (l .asked .room)
+pub unlisted-band : {N : Type 0} (form : NameForm N) (l : SourceLent N) (q : BandAsked) → source-fits form l ≡ false → {r : Report} → ((room : List ℤ) → told r room ≡ report.refused 1 0 0 room)
+    → BandLeaves form l q r (l .words) (l .names) (q .room)
 unfolding band-source on-sizes words-after read-source
-unlisted-band form l e q = left-by (rw e) (rw e) (q (l .asked .room) ∙ rw e)
+unlisted-band form l q e x = left-by (rw e) (rw e) (x (q .room) ∙ rw e)
 
-module _ (l : BandLent ℕ) {t : Bool} (is : t ≡ is-built-in (l .list)) where
-  pub call-unlisted : not t ≡ true → {r : Report} → ((room : List ℤ) → told r room ≡ report.refused 1 0 0 room) → BandLeaves flat-names l r (l .words) (l .names) (l .asked .room)
-  call-unlisted n q = unlisted-band flat-names l (ap (λ (u : Bool). u && rooms-fit (length (l .words)) (length (l .names))) (sym is ∙ not-true t n)) q
+module _ (l : SourceLent ℕ) (q : BandAsked) {t : Bool} (is : t ≡ is-built-in (l .list)) where
+  pub call-unlisted : not t ≡ true → {r : Report} → ((room : List ℤ) → told r room ≡ report.refused 1 0 0 room) → BandLeaves flat-names l q r (l .words) (l .names) (q .room)
+  call-unlisted n x = unlisted-band flat-names l q (ap (λ (u : Bool). u && rooms-fit (length (l .words)) (length (l .names))) (sym is ∙ not-true t n)) x
 
   pub call-listed : not t ≡ false → {r : Report} {words names : List ℕ} {room : List ℤ}
-      → StepsSource (rooms-fit (length (l .words)) (length (l .names))) (l .source) (l .words) (l .names) (l .asked) r words names room → BandLeaves flat-names l r words names room
+      → StepsSource (rooms-fit (length (l .words)) (length (l .names))) (l .source) (l .words) (l .names) q r words names room → BandLeaves flat-names l q r words names room
   unfolding names-after
   call-listed n {r} {words} {names} {room} x =
-      let y = subst (λ (fit : Bool). StepsSource fit (l .source) (l .words) (l .names) (l .asked) r words names room)
+      let y = subst (λ (fit : Bool). StepsSource fit (l .source) (l .words) (l .names) q r words names room)
       (ap (λ (u : Bool). u && rooms-fit (length (l .words)) (length (l .names))) (sym (sym is ∙ not-false t n))) x in
       left-by (y .words-are) (y .names-are) (y .report)

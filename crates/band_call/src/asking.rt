@@ -3,21 +3,21 @@ ghost use mathlib.Core.Path.{_≡_};
 ghost use Prim.Native.Nat.{_≤_};
 ghost use lib.ListN.{length};
 ghost use Rattle.band_call.specs.BandCall.{row-cells, band-right, band-rooms};
-ghost use Rattle.bands.specs.Plans.{band};
-ghost use Rattle.bands.specs.Edge.{bound};
-ghost use Rattle.band_call.specs.Contracts.Asking.{Divisible, RefusesBand};
-use admission::cells;
-use admission::good_times;
+ghost use Rattle.band_meaning.specs.Plans.{band};
+ghost use Rattle.band_meaning.specs.Bounds.{bound};
+ghost use Rattle.band_call.specs.Contracts.Asking.{RowsDivide, RefusesBand};
+use run_admission::cells;
+use run_admission::good_times;
 
 // How many cells a row has.
 pub fn row_cells(sizes: &[u32]) -> usize
-    requires { ⌜ Divisible (now sizes) ⌝ }
+    requires { ⌜ RowsDivide (now sizes) ⌝ }
     ensures { λ r. ⌜ r ≡ row-cells (now (sizes .entry)) ⌝ }
 {
     cells(sizes) as usize / sizes[0] as usize
 }
 
-// Whether a band could stand in an accepted plan for so many rows.
+// Whether a band could be part of an accepted plan for so many rows.
 fn band_right(rows: u32, before: u32, behind: u32, held: u32, first: u32, last: u32) -> bool
     ensures { λ r. ⌜ r ≡ band-right rows (bound before behind) held (band first last) ⌝ }
 {
@@ -53,7 +53,7 @@ fn rooms_right(
     room as u64 == own * row as u64 * fields as u64
 }
 
-// The first of 60, 21 and 22 that holds, for a grid of so many rows with `row` cells each; else 0. `lent` and `room` are the lengths of the rows lent and
+// The first of 60, 21 and 22 that holds, for a grid of so many rows with `row` cells each; else 0. `lent` and `room` are the lengths of the rows passed and
 // of the room.
 pub fn refused_band(
     rows: u32,

@@ -2,26 +2,27 @@
 ghost use lib.ListN.{length};
 ghost use mathlib.Core.Path.{_≡_};
 ghost use Rattle.grammar.specs.Checking.{rooms-fit};
-ghost use Rattle.services.specs.Calls.{flat-names};
-ghost use Rattle.bands.specs.Plans.{band};
-ghost use Rattle.bands.specs.Edge.{bound};
-ghost use Rattle.stepper.specs.Report.{refused};
-ghost use Rattle.iteration.specs.Contracts.Stepwise.{told};
+ghost use Rattle.run_calls.specs.Calls.{flat-names, source-lent};
+ghost use Rattle.band_meaning.specs.Plans.{band};
+ghost use Rattle.band_meaning.specs.Bounds.{bound};
+ghost use Rattle.run_meaning.specs.Report.{refused};
+ghost use Rattle.run_steps.specs.Told.{told};
 ghost use mathlib.Core.List.{List};
 ghost use lib.IntN.{ℤ};
-ghost use Rattle.band_call.specs.Contracts.Calling.{LentFits, LentStepped, StepsSource, BandLeaves, band-asked, band-lent};
+ghost use Rattle.band_call.specs.BandCall.{band-asked};
+ghost use Rattle.band_call.specs.Contracts.Calling.{LentFits, LentStepped, StepsSource, BandLeaves};
 use crate::asking::refused_band;
 use crate::asking::row_cells;
-use admission::out_of_field;
-use banding::lending::room_shape;
-use iteration::Report;
-use leaf_table::fill_leaves;
-use marked_cells::rooms::clear_numbers;
-use planner::opening::open_rows;
-use semantics::Rule;
+use band_planner::opening::open_rows;
+use band_step::lending::room_shape;
+use cell_leaves::fill_leaves;
+use cell_meaning::Rule;
+use run_admission::out_of_field;
+use run_marked_cells::rooms::clear_numbers;
+use run_step::Step;
+use run_step::rows::step_rows;
+use run_steps::Report;
 use spelling::is_built_in;
-use stepping::Step;
-use stepping::rows::step_rows;
 
 // The report of a refused call.
 fn refused(number: u32, place: u32) -> Report
@@ -37,7 +38,7 @@ fn refused(number: u32, place: u32) -> Report
     }
 }
 
-// The step of an admitted call, by the rows lent: the band's next rows stand in the room; at a fault zeros, and the cell is named by its number in
+// The step of an admitted call, by the rows passed: the room gets the band's next rows, at a fault zeros, and the cell is named by its number in
 // the whole grid.
 fn step_lent(
     words: &[u32],
@@ -163,9 +164,9 @@ fn band_listed(
 }
 
 // Steps one band of rows of a grid of given sizes, from its first row to its last, at a time. `rows` are its old rows with the border rows before and behind,
-// wrapped at the edges, exactly that many and at most `held`; `room` is for its own next rows, exactly that many. Nothing else of the grid is lent.
-// Refused with the source's reply, 20, 60 for a band that could stand in no accepted plan, 21, 22 as a run of one step, 23, or 24 at the lowest entry
-// of the rows lent: then the room is as it was. At a fault it holds zeros. Word table and name list are left as after a run.
+// wrapped at the edges, exactly that many and at most `held`; `room` is for its own next rows, exactly that many. Nothing else of the grid is passed.
+// Refused with the source's reply, 20, 60 for a band that could be part of no accepted plan, 21, 22 as a run of one step, 23, or 24 at the lowest entry
+// of the rows passed: then the room is as it was. At a fault it holds zeros. Word table and name list are left as after a run.
 pub fn step_band(
     source: &[u8],
     list: &[u8],
@@ -179,7 +180,7 @@ pub fn step_band(
     room: &mut [i32],
     time: i64,
 ) -> Report
-    ensures { λ r. ⌜ BandLeaves flat-names (band-lent (now (source .entry)) (now (list .entry)) (now (words .entry)) (now (names .entry)) (band-asked (now (sizes .entry)) first last held (now (rows .entry)) (now (room .entry)) time)) r (now (words .exit)) (now (names .exit)) (now (room .exit)) ⌝ }
+    ensures { λ r. ⌜ BandLeaves flat-names (source-lent (now (source .entry)) (now (list .entry)) (now (words .entry)) (now (names .entry))) (band-asked (now (sizes .entry)) first last held (now (rows .entry)) (now (room .entry)) time) r (now (words .exit)) (now (names .exit)) (now (room .exit)) ⌝ }
 {
     if !is_built_in(list) {
         return refused(1, 0);

@@ -12,38 +12,42 @@ use mir.Syntax.{w64}
 use mir.Val.{SFits, toZ, ofZ}
 use mir.Facts.{toZ-ofZ}
 use borrow.Author.Tests.{eq-eqb, ne-eqb, eqb-true, eqb-false, not-true, not-false}
+use Rattle.value.specs.Choice.{if_then_else_}
 use Rattle.automaton.specs.Shape.{product, Bound}
 use Rattle.token.specs.Lexeme.{is-built-in}
 use Rattle.program.specs.Syntax.{Program}
 use Rattle.grammar.specs.Source.{Accepted}
 use Rattle.grammar.specs.Checking as checking
-use Rattle.grammar.specs.Checking.{Outcome, turned-away, accepted, rooms-fit, read-source, words-after, names-after}
-use Rattle.one_move.specs.Profile.{profile-flag}
-use Rattle.semantics.specs.declared.Rule.{Rule}
-use Rattle.stepper.specs.declared.Reach.{Reach}
-use Rattle.stepper.specs.Reach.{reach, reach-from}
-use Rattle.stepper.specs.Report as report
-use Rattle.stepper.specs.Report.{full}
-use Rattle.stepper.specs.Contracts.Fitting.{bound-at, bounds-of, Near, held-fields}
-use Rattle.lists.specs.ListChecking.{Turned}
-use Rattle.services.specs.Running.{Asked, admitted}
-use Rattle.services.proofs.Theorems.RunningLaws.{turned, run-refused}
-use Rattle.services.specs.Services.{run-begins, run-read, run-source}
-use Rattle.services.specs.Calls.{NameForm, flat-names, Memory, memory, lent, fits, asked, read-lent, names-left}
-use Rattle.services.proofs.Theorems.AcceptedSources.{accepted-declared}
-use Rattle.bands.specs.Edge.{bound, edge-of, edge}
-use Rattle.bands.specs.Plans.{plan-right, plan-fits}
-use Rattle.bands.proofs.Theorems.EdgeTheorems.{edge-in-box}
-use Rattle.planner.specs.declared.borders.Border.{Border}
-use Rattle.planner.specs.Contracts.Borders.{BordersOf}
-use Rattle.planner.proofs.BorderLaws.{first-bound}
-use Rattle.iteration.specs.declared.Report.{Report}
-use Rattle.iteration.specs.Contracts.Stepwise.{Runs}
-use Rattle.runner.specs.declared.opening.Opening.{Opening}
-use Rattle.runner.specs.Contracts.Sourcewise.{Begun, Opens, RunLeaves}
-use Rattle.band_run.specs.BandedRun.{room-right, admitted-under, BandedLent, under, left-refused, left-full, left-turned, left-read, banded-left}
+use Rattle.grammar.specs.Checking.{SourceRead, turned-away, accepted, rooms-fit, read-source, words-after}
+use Rattle.grammar.specs.Contracts.Flat.{names-after}
+use Rattle.move_meaning.specs.Profile.{profile-flag}
+use Rattle.cell_meaning.specs.declared.Rule.{Rule}
+use Rattle.run_meaning.specs.declared.Reach.{Reach}
+use Rattle.run_meaning.specs.Reach.{reach, reach-from}
+use Rattle.run_meaning.specs.Report as report
+use Rattle.run_meaning.specs.Report.{full}
+use Rattle.run_meaning.specs.Contracts.Fitting.{bound-at, bounds-of, Near, held-fields}
+use Rattle.list_meaning.specs.ListChecking.{Turned}
+use Rattle.run_calls.specs.Running.{Asked, admitted}
+use Rattle.run_calls.proofs.Theorems.RunningLaws.{turned, run-refused}
+use Rattle.run_calls.specs.Services.{run-begins, run-read, run-source}
+use Rattle.run_calls.specs.Calls.{NameForm, flat-names, Memory, memory, lent, fits, asked, read-lent, names-left}
+use Rattle.run_calls.proofs.Theorems.AcceptedSources.{accepted-declared}
+use Rattle.band_meaning.specs.Edge.{edge-of, edge}
+use Rattle.band_meaning.specs.Bounds.{bound}
+use Rattle.band_meaning.specs.Plans.{plan-right, plan-fits}
+use Rattle.band_meaning.proofs.Theorems.EdgeTheorems.{edge-in-box}
+use Rattle.band_planner.specs.declared.borders.Border.{Border}
+use Rattle.band_planner.specs.Contracts.Borders.{BordersOf}
+use Rattle.band_planner.proofs.BorderLaws.{first-bound}
+use Rattle.run_steps.specs.declared.Report.{Report}
+use Rattle.run_steps.specs.Contracts.Stepwise.{Runs}
+use Rattle.run_source.specs.declared.opening.Opening.{Opening}
+use Rattle.run_source.specs.Contracts.Sourcewise.{RunBegun, RunOpens}
+use Rattle.run_source.specs.Contracts.Public.{RunLeaves}
+use Rattle.band_run.specs.BandedRun.{room-right, admitted-under, BandedLent, banded-lent, under, left-refused, left-full, left-turned, left-read, banded-left}
 use Rattle.band_run.specs.Contracts.Rooms.{TriesRoom}
-use Rattle.band_run.specs.Contracts.Running.{UnderPlan, BandedLeaves, BandsListed, banded-lent}
+use Rattle.band_run.specs.Contracts.Running.{UnderPlan, BandedLeaves, BandsListed}
 use Rattle.band_run.proofs.PlanLaws.{first-some}
 use Rattle.band_run.proofs.RefusalLaws.{with-scratch, tried-refuses, under-as, under-60}
 
@@ -85,11 +89,11 @@ module _ {N : Type 0} (form : NameForm N) (l : BandedLent N) where
     left-by t e = sym (ap (left-read form l) is ∙ ap (left-turned form l) e)
 
     pub left-none : turned-by .number ≡ 0 → left-full form l ≡ banded-left form l
-    left-none z = sym (ap (λ (b : Bool). elim b [ true ↦ left-full form l | false ↦ left-refused form l (turned-by .number) (turned-by .place) (turned-by .line) ]) (eq-eqb (turned-by .number) 0 z)) ∙ left-by turned-by refl
+    left-none z = sym (ap (λ (b : Bool). if b then left-full form l else left-refused form l (turned-by .number) (turned-by .place) (turned-by .line)) (eq-eqb (turned-by .number) 0 z)) ∙ left-by turned-by refl
 
     pub left-some : {number place line : ℕ} → turned-by ≡ turned number place line → (number ≡ 0 → ⊥) → left-refused form l number place line ≡ banded-left form l
     left-some {number} {place} {line} e n =
-        sym (ap (λ (b : Bool). elim b [ true ↦ left-full form l | false ↦ left-refused form l number place line ]) (ne-eqb number 0 n)) ∙ left-by (turned number place line) e
+        sym (ap (λ (b : Bool). if b then left-full form l else left-refused form l number place line) (ne-eqb number 0 n)) ∙ left-by (turned number place line) e
 
   -- a run with the tried length of scratch that does not begin
   module _ {tried : ℕ} (tries : TriesRoom (l .run .sizes) (length (l .run .memory .grid)) (length (l .run .memory .scratch)) (l .held) (length (l .room)) tried) where
@@ -105,7 +109,7 @@ module _ {N : Type 0} (form : NameForm N) (l : BandedLent N) where
         same : {n p k : ℕ} → report.refused n p k (l .run .memory .grid) ≡ report.refused number place line (l .run .memory .grid) → left-refused form l number place line ≡ left-refused form l n p k
         same q = sym (ap (λ (r : report.Report). left-refused form l (r .number) (r .place) (r .line)) q)
 
-        by : (o : Outcome) → read-lent form (l .run) ≡ o → run-begins (l .run .source) tried-asked o ≡ false → run-read full (l .run .source) tried-asked o ≡ report.refused number place line (l .run .memory .grid)
+        by : (o : SourceRead) → read-lent form (l .run) ≡ o → run-begins (l .run .source) tried-asked o ≡ false → run-read full (l .run .source) tried-asked o ≡ report.refused number place line (l .run .memory .grid)
             → left-refused form l number place line ≡ left-read form l (read-lent form (l .run))
         by (turned-away n p) is d q = same q ∙ ap (left-read form l) (sym is)
         by (checking.refused n p) is d q = same q ∙ ap (left-read form l) (sym is)
@@ -138,10 +142,10 @@ module _ {words : List ℕ} {rule : Rule} {r : Reach} {b : Border} (borders : Bo
 
 module _ (l : BandedLent ℕ) (list : is-built-in (l .run .list) ≡ true) {tried : ℕ}
     (tries : TriesRoom (l .run .sizes) (length (l .run .memory .grid)) (length (l .run .memory .scratch)) (l .held) (length (l .room)) tried) {r : Opening} {ws′ ns′ : List ℕ}
-    (opened : Opens (rooms-fit (length (l .run .memory .words)) (length (l .run .memory .names))) (l .run .source) (l .run .memory .words) (l .run .memory .names) (with-scratch (asked (l .run)) tried) r ws′ ns′) where
-  opens : Opens (fits flat-names (l .run)) (l .run .source) (l .run .memory .words) (l .run .memory .names) (with-scratch (asked (l .run)) tried) r ws′ ns′
+    (opened : RunOpens (rooms-fit (length (l .run .memory .words)) (length (l .run .memory .names))) (l .run .source) (l .run .memory .words) (l .run .memory .names) (with-scratch (asked (l .run)) tried) r ws′ ns′) where
+  opens : RunOpens (fits flat-names (l .run)) (l .run .source) (l .run .memory .words) (l .run .memory .names) (with-scratch (asked (l .run)) tried) r ws′ ns′
   opens =
-      subst (λ (fit : Bool). Opens fit (l .run .source) (l .run .memory .words) (l .run .memory .names) (with-scratch (asked (l .run)) tried) r ws′ ns′)
+      subst (λ (fit : Bool). RunOpens fit (l .run .source) (l .run .memory .words) (l .run .memory .names) (with-scratch (asked (l .run)) tried) r ws′ ns′)
       (sym (ap (λ (t : Bool). t && rooms-fit (length (l .run .memory .words)) (length (l .run .memory .names))) list)) opened
 
   turns-away : {number place line : ℕ} → left-refused flat-names l number place line ≡ banded-left flat-names l
@@ -155,7 +159,7 @@ module _ (l : BandedLent ℕ) (list : is-built-in (l .run .list) ≡ true) {trie
   closed-run e = let shut = not-true (r .begun) e in turns-away (left-closed flat-names l tries (opens .closed shut) (opens .refuses shut full))
 
   module _ (e : not (r .begun) ≡ false) where
-    tried-begun : Begun (fits flat-names (l .run)) (l .run .source) (with-scratch (asked (l .run)) tried) ws′ (r .rule) (r .reach) (r .timed)
+    tried-begun : RunBegun (fits flat-names (l .run)) (l .run .source) (with-scratch (asked (l .run)) tried) ws′ (r .rule) (r .reach) (r .timed)
     tried-begun = opens .opened (not-false (r .begun) e)
 
     pub some-sizes : 0 < length (l .run .sizes)
@@ -176,9 +180,9 @@ module _ (l : BandedLent ℕ) (list : is-built-in (l .run .list) ≡ true) {trie
     tried-is = tries .right (r .rule .fields) first-size (sym (tried-begun .shaped .entries)) rows-right
 
     -- so it is the run of the true length
-    pub opened-full : Opens (rooms-fit (length (l .run .memory .words)) (length (l .run .memory .names))) (l .run .source) (l .run .memory .words) (l .run .memory .names) (asked (l .run)) r ws′ ns′
+    pub opened-full : RunOpens (rooms-fit (length (l .run .memory .words)) (length (l .run .memory .names))) (l .run .source) (l .run .memory .words) (l .run .memory .names) (asked (l .run)) r ws′ ns′
     opened-full =
-        subst (λ (n : ℕ). Opens (rooms-fit (length (l .run .memory .words)) (length (l .run .memory .names))) (l .run .source) (l .run .memory .words) (l .run .memory .names) (with-scratch (asked (l .run)) n) r ws′ ns′) tried-is opened
+        subst (λ (n : ℕ). RunOpens (rooms-fit (length (l .run .memory .words)) (length (l .run .memory .names))) (l .run .source) (l .run .memory .words) (l .run .memory .names) (with-scratch (asked (l .run)) n) r ws′ ns′) tried-is opened
 
     abbrev program : Program
     program = tried-begun .read .program

@@ -12,17 +12,17 @@ use lib.IntN.{ℤ}
 use borrow.Author.Tests.{eqb-true, leb-true, le-leb, ltb-true}
 use Rattle.value.proofs.Theorems.Laws.{never, and-both}
 use Rattle.automaton.specs.Shape.{product, Bound}
-use Rattle.automaton.specs.ShapeLaws.{Positive}
+use Rattle.automaton.specs.Contracts.ShapeLaws.{Positive}
 use Rattle.automaton.specs.Bands.{Band, rows-with, runs-on, accepts, plannable}
 use Rattle.automaton.proofs.Theorems.BandLaws.{plan-needs}
-use Rattle.semantics.specs.declared.Rule.{Rule}
-use Rattle.stepper.specs.declared.Reach.{Reach}
-use Rattle.stepper.specs.Admission.{all-between}
-use Rattle.bands.specs.Plans.{bands-in, accepts-some, plan-right}
-use Rattle.banding.proofs.OneBand.{by-rows, rest-positive}
+use Rattle.cell_meaning.specs.declared.Rule.{Rule}
+use Rattle.run_meaning.specs.declared.Reach.{Reach}
+use Rattle.run_meaning.specs.Admission.{all-between}
+use Rattle.band_meaning.specs.Plans.{bands-in, accepts-some, plan-right}
+use Rattle.band_step.proofs.OneBand.{by-rows, rest-positive}
 use Rattle.band_call.specs.BandCall.{row-cells}
-use Rattle.iteration.specs.Contracts.Stepwise.{Begins}
-use Rattle.iteration.specs.Contracts.OneStep.{Making}
+use Rattle.run_steps.specs.Contracts.Stepwise.{Begins}
+use Rattle.run_steps.specs.Contracts.OneStep.{Making}
 use Rattle.band_run.specs.Contracts.Running.{UnderPlan}
 
 -- ---- the rows that are used

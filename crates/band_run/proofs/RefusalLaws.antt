@@ -7,15 +7,17 @@ use mathlib.Core.Option.{Option}
 use lib.ListN.{length, getD}
 use lib.Dec.{eqb}
 use borrow.Author.Tests.{eq-eqb, ne-eqb, eqb-true}
+use Rattle.value.specs.Choice.{if_then_else_}
 use Rattle.automaton.specs.Shape.{product}
 use Rattle.program.specs.Syntax.{Program}
-use Rattle.stepper.specs.Admission.{Refusal, refusal, good-sizes, good-rooms, admission}
-use Rattle.admission.proofs.RequestLaws.{positive}
-use Rattle.lists.specs.ListChecking.{Turned}
-use Rattle.services.specs.Running.{Asked, ask, admitted}
-use Rattle.services.proofs.Theorems.RunningLaws.{turned, refused-first}
-use Rattle.planner.proofs.OpeningLaws.{sizes-known}
-use Rattle.bands.specs.Plans.{plan-fits}
+use Rattle.program.specs.Refusal.{Refusal, refusal}
+use Rattle.run_meaning.specs.Admission.{good-sizes, good-rooms, admission}
+use Rattle.run_admission.proofs.RequestLaws.{positive}
+use Rattle.list_meaning.specs.ListChecking.{Turned}
+use Rattle.run_calls.specs.Running.{Asked, ask, admitted}
+use Rattle.run_calls.proofs.Theorems.RunningLaws.{turned, refused-first}
+use Rattle.band_planner.proofs.OpeningLaws.{sizes-known}
+use Rattle.band_meaning.specs.Plans.{plan-fits}
 use Rattle.band_run.specs.BandedRun.{Under, room-right, admitted-under}
 use Rattle.band_run.specs.Contracts.Rooms.{TriesRoom}
 use Rattle.band_run.proofs.PlanLaws.{first-some}
@@ -63,7 +65,7 @@ module _ (p : Program) (flag : Option ℕ) (q : Asked) (u : Under) where
     unfolding admitted-under
     under-as f = rw (room-passes, f, admitted-under) (by (eqb (admitted p flag q .number) 0))
       where
-        by : (t : Bool) → elim (t && false) [ true ↦ turned 60 0 0 | false ↦ admitted p flag q ] ≡ admitted p flag q
+        by : (t : Bool) → (if t && false then turned 60 0 0 else admitted p flag q) ≡ admitted p flag q
         by true = refl
         by false = refl
 

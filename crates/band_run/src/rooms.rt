@@ -32,7 +32,7 @@ fn room_fits(sizes: &[u32], entries: usize, held: u32, room: usize) -> bool
     rows_fit(entries / rows, held, room)
 }
 
-// The length of scratch as it is tried with 21: where the room is not right for a grid of so many entries, another than the grid's, so that 21 is given for
+// The length of scratch as it is tried with 21: where the room is not right for a grid of so many entries, another than the grid's, so that the reply is 21 for
 // the room too.
 pub fn tried_length(sizes: &[u32], entries: usize, scratch: usize, held: u32, room: usize) -> usize
     ensures { λ r. ⌜ TriesRoom (now (sizes .entry)) entries scratch held room r ⌝ }

@@ -14,14 +14,14 @@ use denote.RattleType.{RattleType}
 use denote.Laws.{Is, Tells, Makes}
 use denote.Array.{Array, array-vals, array-tells}
 use denote.Struct.Laws as LL
-use Rattle.checker.specs.declared.checking.Reply.{Reply}
+use Rattle.read_source.specs.declared.checking.Reply.{Reply}
 use Rattle.cellang.specs.declared.checking.Answer.{Answer}
-use Rattle.records.proofs.Name as N
-use Rattle.checker.proofs.checking.Reply as P
-use Rattle.checker.proofs.checking.Reply.Laws as P′
+use Rattle.api_records.proofs.Name as N
+use Rattle.read_source.proofs.checking.Reply as P
+use Rattle.read_source.proofs.checking.Reply.Laws as P′
 use Rattle.cellang.proofs.checking.Answer as O
 use Rattle.cellang.proofs.checking.Answer.Laws as O′
-use Rattle.records.proofs.NameRow.{Row, vals, tells, records}
+use Rattle.api_records.proofs.NameRow.{Row, vals, tells, records}
 
 abbrev pub OutRow : RattleType
 OutRow = O.the-row

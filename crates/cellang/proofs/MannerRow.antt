@@ -8,9 +8,9 @@ use types.Kit.{Given}
 use denote.RattleType.{RattleType}
 use denote.Laws.{Is, Tells, Makes, Lawful}
 use denote.Enum.Laws as LL
-use Rattle.iteration.specs.declared.Manner.{Manner}
-use Rattle.iteration.proofs.Manner as P
-use Rattle.iteration.proofs.Manner.Laws as P′
+use Rattle.run_steps.specs.declared.Manner.{Manner}
+use Rattle.run_steps.proofs.Manner as P
+use Rattle.run_steps.proofs.Manner.Laws as P′
 
 abbrev pub MannerRow : RattleType
 MannerRow = P.the-row

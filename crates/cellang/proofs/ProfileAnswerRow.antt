@@ -14,14 +14,14 @@ use denote.RattleType.{RattleType}
 use denote.Laws.{Is, Tells, Makes}
 use denote.Array.{Array, array-vals, array-tells}
 use denote.Struct.Laws as LL
-use Rattle.profile.specs.declared.Profile.{Profile}
+use Rattle.move_profile.specs.declared.Profile.{Profile}
 use Rattle.cellang.specs.declared.profiling.ProfileAnswer.{ProfileAnswer}
-use Rattle.records.proofs.Name as N
-use Rattle.profile.proofs.Profile as P
-use Rattle.profile.proofs.Profile.Laws as P′
+use Rattle.api_records.proofs.Name as N
+use Rattle.move_profile.proofs.Profile as P
+use Rattle.move_profile.proofs.Profile.Laws as P′
 use Rattle.cellang.proofs.profiling.ProfileAnswer as O
 use Rattle.cellang.proofs.profiling.ProfileAnswer.Laws as O′
-use Rattle.records.proofs.NameRow.{Row, vals, tells, records}
+use Rattle.api_records.proofs.NameRow.{Row, vals, tells, records}
 
 abbrev pub OutRow : RattleType
 OutRow = O.the-row

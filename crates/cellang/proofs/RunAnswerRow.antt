@@ -14,14 +14,14 @@ use denote.RattleType.{RattleType}
 use denote.Laws.{Is, Tells, Makes}
 use denote.Array.{Array, array-vals, array-tells}
 use denote.Struct.Laws as LL
-use Rattle.iteration.specs.declared.Report.{Report}
+use Rattle.run_steps.specs.declared.Report.{Report}
 use Rattle.cellang.specs.declared.running.RunAnswer.{RunAnswer}
-use Rattle.records.proofs.Name as N
-use Rattle.iteration.proofs.Report as P
-use Rattle.iteration.proofs.Report.Laws as P′
+use Rattle.api_records.proofs.Name as N
+use Rattle.run_steps.proofs.Report as P
+use Rattle.run_steps.proofs.Report.Laws as P′
 use Rattle.cellang.proofs.running.RunAnswer as O
 use Rattle.cellang.proofs.running.RunAnswer.Laws as O′
-use Rattle.records.proofs.NameRow.{Row, vals, tells, records}
+use Rattle.api_records.proofs.NameRow.{Row, vals, tells, records}
 
 abbrev pub OutRow : RattleType
 OutRow = O.the-row

@@ -8,39 +8,40 @@ use lib.Dec.{eqb, ltb}
 use lib.IntN.{ℤ, pos}
 use lib.ListN.{length, take, drop, replicate, length-replicate}
 use borrow.Author.Tests.{eq-eqb, ne-eqb, eqb-true, lt-ltb, le-ltb, not-true, not-false}
+use Rattle.value.specs.Limits.{most-bytes, table-words, most-names, name-words}
 use Rattle.value.specs.Choice.{if_then_else_}
 use Rattle.value.proofs.Theorems.Laws.{never}
 use Rattle.token.specs.Lexeme.{is-built-in}
-use Rattle.token.specs.Scanning.{table-words}
-use Rattle.names.specs.Names.{most-names, name-words}
 use Rattle.grammar.specs.Reader.{Result, ok, fail}
-use Rattle.grammar.specs.Complaint.{complaint}
+use Rattle.program.specs.Refusal.{refusal}
 use Rattle.grammar.specs.Source.{Accepted, parse}
-use Rattle.grammar.specs.Checking.{most-bytes, Outcome, turned-away, outcome-of, rooms-fit, lent-fit, read-source, room-left, names-after, check, words-after}
-use Rattle.one_move.specs.Profile.{missed, one-move}
-use Rattle.profile.specs.declared.Profile.{Profile}
-use Rattle.profile.specs.Contracts.Flags.{CheckOneMove}
-use Rattle.stepper.specs.Report.{Manner}
-use Rattle.services.specs.Services.{run-source, room-after, marks-after, counts-after}
-use Rattle.services.specs.Calls.{flat-names, memory, Lent, lent, asked, names-left, run-left}
-use Rattle.checker.specs.Contracts.Promises.{Checks}
-use Rattle.checker.proofs.Checks.{list-right}
-use Rattle.iteration.specs.declared.Report.{Report}
-use Rattle.runner.specs.Contracts.Sourcewise.{RunLeaves}
-use Rattle.runner.proofs.RunLaws.{left-by, left-report, unlisted-run}
-use Rattle.checker.specs.declared.checking.Reply.{Reply}
-use Rattle.lists.specs.Writing.{Wanted, write-source}
+use Rattle.grammar.specs.Checking.{SourceRead, turned-away, source-read, rooms-fit, read-source, room-left, check, words-after}
+use Rattle.grammar.specs.Contracts.Flat.{lent-fit, names-after}
+use Rattle.move_meaning.specs.Profile.{missed, one-move}
+use Rattle.move_profile.specs.declared.Profile.{Profile}
+use Rattle.move_profile.specs.Contracts.Flags.{CheckOneMove}
+use Rattle.run_meaning.specs.Report.{Manner}
+use Rattle.run_calls.specs.Services.{run-source, room-after, marks-after, counts-after}
+use Rattle.run_calls.specs.Calls.{flat-names, SourceLent, source-lent, names-left, memory, Lent, lent, asked, run-left}
+use Rattle.read_source.specs.Contracts.Promises.{Checks}
+use Rattle.read_source.proofs.Checks.{list-right}
+use Rattle.run_steps.specs.declared.Report.{Report}
+use Rattle.run_source.specs.Contracts.Public.{RunLeaves}
+use Rattle.run_source.proofs.RunLaws.{left-by, left-report, unlisted-run}
+use Rattle.read_source.specs.declared.checking.Reply.{Reply}
+use Rattle.list_meaning.specs.Writing.{Wanted, write-source}
 use Rattle.list_writer.specs.declared.Written.{Written}
-use Rattle.list_writer.specs.WriterCalls.{WriterLent, writer-lent, writer-left}
+use Rattle.list_writer.specs.WriterCalls.{writer-left}
 use Rattle.list_writer.specs.Contracts.Writing.{WriterLeaves}
 use Rattle.list_writer.proofs.WritingLaws.{unlisted-writer}
-use Rattle.records.specs.declared.Name.{Name}
+use Rattle.api_records.specs.declared.Name.{Name}
 use Rattle.cellang.specs.declared.running.RunAnswer.{RunAnswer}
 use Rattle.cellang.specs.declared.writing.WriteAnswer.{WriteAnswer}
-use Rattle.records.specs.Rows.{no-name, rows-of}
-use Rattle.cellang.specs.Left.{rows-fit, lent-rows-fit, row-fits, row-names, stored-of}
+use Rattle.api_records.specs.Rows.{no-name, rows-of}
+use Rattle.cellang.specs.Left.{rows-fit, row-names}
+use Rattle.cellang.specs.Storing.{lent-rows-fit, row-fits, stored-of}
 use Rattle.cellang.specs.Contracts.Promises.{ChecksOver, ProfilesOver, RunsOver, TurnedAway, WritesOver, NothingWritten}
-use Rattle.records.proofs.RowLaws.{filled-all, length-rows, rows-of-zeros}
+use Rattle.api_records.proofs.RowLaws.{filled-all, length-rows, rows-of-zeros}
 
 -- ---- how many records are stored
 
@@ -103,7 +104,7 @@ row-there list names n = by (is-built-in list) (eqb names most-names) refl refl 
     by false b e f q = never q
 
 -- then nothing is touched
-pub turned-reply : (source : List ℕ) → complaint 1 0 ≡ check false source
+pub turned-reply : (source : List ℕ) → refusal 1 0 ≡ check false source
 unfolding check read-source
 turned-reply source = refl
 
@@ -118,7 +119,7 @@ turned-row source ns = refl
 -- ---- the row of records that is left
 
 -- how reading ends, by the tests
-abbrev ended : Bool → Bool → Outcome → Outcome
+abbrev ended : Bool → Bool → SourceRead → SourceRead
 ended fit long read = if not fit then turned-away 1 0 else if long then turned-away 2 most-bytes else read
 
 abbrev kept : Bool → Bool → ℕ
@@ -128,8 +129,8 @@ abbrev zeros : List ℕ
 zeros = replicate name-words 0
 
 left : (fit long : Bool) (read : Result Accepted) (old : List Name) → length old ≡ 256
-    → take (kept fit long) (rows-of (room-left 0 zeros (λ a. a .names) (ended fit long (outcome-of read)))) ++ drop (kept fit long)
-    old ≡ room-left no-name old (λ a. rows-of (a .names)) (ended fit long (outcome-of read))
+    → take (kept fit long) (rows-of (room-left 0 zeros (λ a. a .names) (ended fit long (source-read read)))) ++ drop (kept fit long)
+    old ≡ room-left no-name old (λ a. rows-of (a .names)) (ended fit long (source-read read))
 left false long read old e = refl
 left true true read old e = refl
 left true false (ok a) old e = filled-all old (rows-of (a .names)) 256 e (length-rows (a .names))
@@ -152,9 +153,9 @@ pub stores-row : (source ws : List ℕ) (flat : List ℕ) (old : List Name) → 
 unfolding stored-of rows-fit rooms-fit names-after read-source
 stores-row source ws flat old e h =
     ap (λ (l : List ℕ). take (kept (fits ws) (long source)) (rows-of l) ++ drop (kept (fits ws) (long source)) old)
-    (h ∙ ap (λ (t : Bool). room-left 0 zeros (λ a. a .names) (ended t (long source) (outcome-of (parse source)))) (and-true (fits ws)))
+    (h ∙ ap (λ (t : Bool). room-left 0 zeros (λ a. a .names) (ended t (long source) (source-read (parse source)))) (and-true (fits ws)))
     ∙ left (fits ws) (long source) (parse source) old e
-    ∙ ap (λ (t : Bool). room-left no-name old (λ a. rows-of (a .names)) (ended t (long source) (outcome-of (parse source)))) (sym (and-true (fits ws)))
+    ∙ ap (λ (t : Bool). room-left no-name old (λ a. rows-of (a .names)) (ended t (long source) (source-read (parse source)))) (sym (and-true (fits ws)))
 
 -- the flat words are a form of the name list
 flat-left : (list source ws : List ℕ) {flat : List ℕ} → flat ≡ names-left flat-names (is-built-in list && rooms-fit (length ws) (length zeros)) source zeros
@@ -284,21 +285,21 @@ module _ (manner : Manner) (source list ws : List ℕ) (names : ℕ) (sizes : Li
 -- ---- the writer
 
 module _ (source list ws : List ℕ) (names : ℕ) (q : Wanted) (room : List ℕ) where
-  abbrev writer-lends : List Name → WriterLent Name
-  writer-lends ns = writer-lent source list q ws ns room
+  abbrev writer-lends : List Name → SourceLent Name
+  writer-lends ns = source-lent source list ws ns
 
-  pub no-row-written : (r : WriteAnswer) → not (row-fits list names) ≡ true → NothingWritten r → WritesOver names writer-lends r ws room
+  pub no-row-written : (r : WriteAnswer) → not (row-fits list names) ≡ true → NothingWritten r → WritesOver names writer-lends q room r ws room
   no-row-written r n t =
       record {
         few = (subst (λ (k : ℕ). k ≤ 256) (sym (t .count)) zero-le, subst (λ (k : ℕ). k ≤ names) (sym (t .count)) zero-le);
         stores = λ ns l.
-            subst₂ (λ (said : Written) (k : ℕ). WriterLeaves row-names (writer-lends ns) said ws (take k (r .rows) ++ drop k ns) room) (sym (t .written)) (sym (t .count))
-            (unlisted-writer row-names (writer-lends ns) (ap (lent-rows-fit list (length ws)) l ∙ no-row list (length ws) names n));
+            subst₂ (λ (said : Written) (k : ℕ). WriterLeaves row-names (writer-lends ns) q room said ws (take k (r .rows) ++ drop k ns) room) (sym (t .written)) (sym (t .count))
+            (unlisted-writer row-names (writer-lends ns) q room (ap (lent-rows-fit list (length ws)) l ∙ no-row list (length ws) names n));
       }
 
   pub row-written : (ws′ flat room′ : List ℕ) (written : Written) (rows : List Name) (count : ℕ) → not (row-fits list names) ≡ false → count ≡ stored-of (length source) (length ws)
-      → WriterLeaves flat-names (writer-lent source list q ws zeros room) written ws′ flat room′ → rows ≡ rows-of flat
-      → WritesOver names writer-lends (record { written = written; rows = rows; count = count }) ws′ room′
+      → WriterLeaves flat-names (source-lent source list ws zeros) q room written ws′ flat room′ → rows ≡ rows-of flat
+      → WritesOver names writer-lends q room (record { written = written; rows = rows; count = count }) ws′ room′
   unfolding writer-left lent-fit
   row-written ws′ flat room′ written rows count n m c r =
       record {
@@ -307,7 +308,7 @@ module _ (source list ws : List ℕ) (names : ℕ) (q : Wanted) (room : List ℕ
             let fit = fits-flat list ws names there ∙ ap (lent-rows-fit list (length ws)) (sym l) in
             record {
               is = λ i. record {
-                wrote = (ap (λ x. x .wrote) (c .is) ∙ ap (λ (t : Bool). write-source t source q room) fit) i;
+                answer = (ap (λ x. x .answer) (c .is) ∙ ap (λ (t : Bool). write-source t source q room) fit) i;
                 words = (ap (λ x. x .words) (c .is) ∙ ap (λ (t : Bool). words-after t source ws) fit) i;
                 names = ((λ j. take (m j) (r j) ++ drop (m j) ns) ∙ stores-lent list source ws flat names there ns l (flat-left list source ws (ap (λ x. x .names) (c .is)))
                     ∙ ap (λ (k : ℕ). names-left row-names (lent-rows-fit list (length ws) k) source ns) (sym l)) i;

@@ -16,12 +16,12 @@ use denote.Array.{Array, array-vals, array-tells}
 use denote.Struct.Laws as LL
 use Rattle.list_writer.specs.declared.Written.{Written}
 use Rattle.cellang.specs.declared.writing.WriteAnswer.{WriteAnswer}
-use Rattle.records.proofs.Name as N
+use Rattle.api_records.proofs.Name as N
 use Rattle.list_writer.proofs.Written as P
 use Rattle.list_writer.proofs.Written.Laws as P′
 use Rattle.cellang.proofs.writing.WriteAnswer as O
 use Rattle.cellang.proofs.writing.WriteAnswer.Laws as O′
-use Rattle.records.proofs.NameRow.{Row, vals, tells, records}
+use Rattle.api_records.proofs.NameRow.{Row, vals, tells, records}
 
 abbrev pub OutRow : RattleType
 OutRow = O.the-row

@@ -1,4 +1,4 @@
-// The calls for programs in other languages: numbers and flat slices alone. Each tells its numbers in a slice, as far as it has room.
+// The calls for programs in other languages: numbers and flat slices alone. Each writes its numbers to a slice, as far as it has room.
 
 mod banding;
 mod checking;

@@ -1,15 +1,19 @@
 // Whether a source moves a pixel once.
 ghost use lib.ListN.{length};
-ghost use Rattle.cellang.specs.Left.{lent-rows-fit};
-ghost use Rattle.cellang.specs.Contracts.Promises.{ProfilesOver, ProfilesRows};
+ghost use Rattle.move_meaning.specs.Profile.{missed, one-move};
+ghost use Rattle.run_calls.specs.Calls.{source-lent, source-left};
+ghost use Rattle.cellang.specs.Left.{row-names};
+ghost use Rattle.cellang.specs.Storing.{lent-rows-fit};
+ghost use Rattle.cellang.specs.Contracts.Rows.{LeavesRows};
+ghost use Rattle.cellang.specs.Contracts.Promises.{ProfilesOver};
 use crate::rows::row_fits;
 use crate::rows::stored;
-use profile::Profile;
-use records::Name;
-use records::rows::rows_of;
-use records::rows::store_first;
+use api_records::Name;
+use api_records::rows::rows_of;
+use api_records::rows::store_first;
+use move_profile::Profile;
 
-// What the call gives: the answer, the records, and how many of them are stored.
+// What the call returns: the answer, the records, and how many of them are stored.
 pub struct ProfileAnswer {
     pub profile: Profile,
     pub rows: [Name; 256],
@@ -33,7 +37,7 @@ fn profiled(source: &[u8], list: &[u8], words: &mut [u32], names: usize) -> Prof
         };
     }
     let count = stored(source.len(), words.len());
-    let answer = profile::check_one_move(source, list, words, &mut flat);
+    let answer = move_profile::check_one_move(source, list, words, &mut flat);
     let rows = rows_of(&flat);
     ProfileAnswer {
         profile: answer,
@@ -45,7 +49,7 @@ fn profiled(source: &[u8], list: &[u8], words: &mut [u32], names: usize) -> Prof
 // Whether a source moves a pixel once: the first rule of the profile that it misses, 0 for none, and the reply's number and place where it is refused. The
 // table and the row of records are left as a check leaves them.
 pub fn check_one_move(source: &[u8], list: &[u8], words: &mut [u32], names: &mut [Name]) -> Profile
-    ensures { λ r. ⌜ ProfilesRows (lent-rows-fit (now (list .entry)) (length (now (words .entry))) (length (now (names .entry)))) (now (source .entry)) (now (words .entry)) (now (names .entry)) r (now (words .exit)) (now (names .exit)) ⌝ }
+    ensures { λ r. ⌜ LeavesRows (source-left row-names (source-lent (now (source .entry)) (now (list .entry)) (now (words .entry)) (now (names .entry))) one-move) (missed (r .rule) (r .number) (r .place)) (now (words .exit)) (now (names .exit)) ⌝ }
 {
     let c = profiled(source, list, words, names.len());
     store_first(names, c.rows, c.count);

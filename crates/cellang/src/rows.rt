@@ -1,9 +1,9 @@
 // The row of records after reading.
 ghost use mathlib.Core.Path.{_≡_};
-ghost use Rattle.cellang.specs.Left.{row-fits, stored-of};
+ghost use Rattle.cellang.specs.Storing.{row-fits, stored-of};
 use spelling::is_built_in;
 
-// Whether the built-in list is lent, and a row of 256 records. `names` is the length of the row.
+// Whether the built-in list is passed, and a row of 256 records. `names` is the length of the row.
 pub fn row_fits(list: &[u8], names: usize) -> bool
     ensures { λ r. ⌜ r ≡ row-fits (now (list .entry)) names ⌝ }
 {

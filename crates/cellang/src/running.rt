@@ -1,23 +1,23 @@
 // A source run on a grid.
 ghost use mathlib.Core.List.{List};
-ghost use Rattle.stepper.specs.Report.{full};
-ghost use Rattle.services.specs.Calls.{memory, lent, asked, read-lent, run-report};
-ghost use Rattle.services.specs.RangesKept.{RangesKept};
-ghost use Rattle.iteration.specs.Contracts.Stepwise.{told};
-ghost use Rattle.runner.specs.Contracts.Sourcewise.{manner-of, RunLeaves};
-ghost use Rattle.runner.specs.Contracts.Agreement.{AgreesFresh};
-ghost use Rattle.records.specs.declared.Name.{Name};
+ghost use Rattle.run_meaning.specs.Report.{full};
+ghost use Rattle.run_calls.specs.Calls.{memory, lent, asked, read-lent, run-report};
+ghost use Rattle.run_calls.specs.RangesKept.{RangesKept};
+ghost use Rattle.run_steps.specs.Told.{told};
+ghost use Rattle.run_source.specs.Contracts.Public.{manner-of, RunLeaves};
+ghost use Rattle.run_source.specs.Contracts.Agreement.{AgreesFresh};
+ghost use Rattle.api_records.specs.declared.Name.{Name};
 ghost use Rattle.cellang.specs.Left.{row-names};
 ghost use Rattle.cellang.specs.Contracts.Promises.{TurnedAway, RunsOver};
 use crate::rows::row_fits;
 use crate::rows::stored;
-use iteration::Manner;
-use iteration::Report;
-use records::Name;
-use records::rows::rows_of;
-use records::rows::store_first;
+use api_records::Name;
+use api_records::rows::rows_of;
+use api_records::rows::store_first;
+use run_steps::Manner;
+use run_steps::Report;
 
-// What a run gives: the report, the records, and how many of them are stored.
+// What a run returns: the report, the records, and how many of them are stored.
 pub struct RunAnswer {
     pub report: Report,
     pub rows: [Name; 256],
@@ -70,7 +70,7 @@ fn ran(
     }
     let mut flat = [0u32; 1024];
     let count = stored(source.len(), words.len());
-    let report = runner::run(
+    let report = run_source::run(
         source,
         list,
         words,
@@ -97,7 +97,7 @@ fn ran(
 
 // Runs a source on a grid: so many steps from a start time, with the blocks of a value list, which is empty where there is none. A full run evaluates
 // every cell in each step, the others only the cells that are open in it: the answer and the grid are the same, and the count is of the open cells. A
-// pausing run leaves the marks of the cells that one more step would open; a resuming one begins, besides, from the marks that it is lent, whatever
+// pausing run leaves the marks of the cells that one more step would open; a resuming one begins, besides, from the marks that it is passed, whatever
 // they are. Where `counted` is set the run keeps row counts: how many cells of each row of the first dimension have 0 in the field.
 pub fn run(
     source: &[u8],

@@ -1,18 +1,19 @@
 // The writer of value lists.
 ghost use mathlib.Core.List.{List};
-ghost use Rattle.records.specs.declared.Name.{Name};
-ghost use Rattle.list_writer.specs.WriterCalls.{wanted, writer-lent};
-ghost use Rattle.list_writer.specs.Contracts.Writing.{WriterLeaves};
+ghost use Rattle.api_records.specs.declared.Name.{Name};
+ghost use Rattle.run_calls.specs.Calls.{source-lent};
+ghost use Rattle.list_writer.specs.WriterCalls.{wanted, writer-left, wrote-of};
+ghost use Rattle.cellang.specs.Contracts.Rows.{LeavesRows};
 ghost use Rattle.cellang.specs.Left.{row-names};
 ghost use Rattle.cellang.specs.Contracts.Promises.{NothingWritten, WritesOver};
 use crate::rows::row_fits;
 use crate::rows::stored;
+use api_records::Name;
+use api_records::rows::rows_of;
+use api_records::rows::store_first;
 use list_writer::Written;
-use records::Name;
-use records::rows::rows_of;
-use records::rows::store_first;
 
-// What the writer gives: its numbers, the records, and how many of them are stored.
+// What the writer returns: its numbers, the records, and how many of them are stored.
 pub struct WriteAnswer {
     pub written: Written,
     pub rows: [Name; 256],
@@ -49,7 +50,7 @@ fn wrote(
     time: i64,
     room: &mut [u8],
 ) -> WriteAnswer
-    ensures { λ r. ⌜ WritesOver names (λ (ns : List Name). (writer-lent (now (source .entry)) (now (list .entry)) (wanted (now (sizes .entry)) (now (earlier .entry)) (now (later .entry)) time) (now (words .entry)) ns (now (room .entry)))) r (now (words .exit)) (now (room .exit)) ⌝ }
+    ensures { λ r. ⌜ WritesOver names (source-lent (now (source .entry)) (now (list .entry)) (now (words .entry))) (wanted (now (sizes .entry)) (now (earlier .entry)) (now (later .entry)) time) (now (room .entry)) r (now (words .exit)) (now (room .exit)) ⌝ }
 {
     if !row_fits(list, names) {
         return nothing_written();
@@ -88,7 +89,7 @@ pub fn write_list(
     time: i64,
     room: &mut [u8],
 ) -> Written
-    ensures { λ r. ⌜ WriterLeaves row-names (writer-lent (now (source .entry)) (now (list .entry)) (wanted (now (sizes .entry)) (now (earlier .entry)) (now (later .entry)) time) (now (words .entry)) (now (names .entry)) (now (room .entry))) r (now (words .exit)) (now (names .exit)) (now (room .exit)) ⌝ }
+    ensures { λ r. ⌜ LeavesRows (writer-left row-names (source-lent (now (source .entry)) (now (list .entry)) (now (words .entry)) (now (names .entry))) (wanted (now (sizes .entry)) (now (earlier .entry)) (now (later .entry)) time) (now (room .entry))) (wrote-of r (now (room .exit))) (now (words .exit)) (now (names .exit)) ⌝ }
 {
     let c = wrote(
         source,

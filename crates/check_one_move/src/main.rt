@@ -1,4 +1,4 @@
-// Tells in one line whether the source on standard input is in the profile of rules that move a pixel once: `in the profile`, or the first rule that it
+// Writes in one line whether the source on standard input is in the profile of rules that move a pixel once: `in the profile`, or the first rule that it
 // misses, for example `misses rule 1: refused 8 at 26`.
 use libc::STDIN_FILENO;
 use libc::STDOUT_FILENO;
@@ -6,7 +6,7 @@ use libc::STDOUT_FILENO;
 // Writes the line of check_rule for a source that is refused.
 fn tell_refused(number: u32, place: u32) {
     let mut line = [0u8; 33];
-    let end = reply_line::write_line(number, place, &mut line);
+    let end = tool_reply_line::write_line(number, place, &mut line);
     let written = io::count(end as isize, &line);
     io::write_all(STDOUT_FILENO, &line[..written]);
 }
@@ -42,6 +42,6 @@ fn main() {
     let mut words = [0u32; 16384];
     let mut names = [0u32; 1024];
     let list = spelling::BUILT_IN;
-    let answer = profile::check_one_move(&source[..n], &list, &mut words, &mut names);
+    let answer = move_profile::check_one_move(&source[..n], &list, &mut words, &mut names);
     tell(answer.rule, answer.number, answer.place);
 }

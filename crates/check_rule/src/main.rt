@@ -8,10 +8,10 @@ fn main() {
     let n = io::read_full(STDIN_FILENO, &mut source);
     let mut words = [0u32; 16384];
     let list = spelling::BUILT_IN;
-    let names = naming::no_names();
-    let reply = naming::check(&source[..n], &list, &mut words, names);
+    let names = api_naming::no_names();
+    let reply = api_naming::check(&source[..n], &list, &mut words, names);
     let mut line = [0u8; 33];
-    let end = reply_line::write_line(reply.number, reply.place, &mut line);
+    let end = tool_reply_line::write_line(reply.number, reply.place, &mut line);
     let written = io::count(end as isize, &line);
     io::write_all(STDOUT_FILENO, &line[..written]);
 }

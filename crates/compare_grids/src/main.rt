@@ -5,14 +5,14 @@
 
 mod telling;
 
-use comparison::compare;
-use console::grids;
-use console::grids::Grid;
-use console::rooms;
-use console::shapes;
-use console::texts::argument;
-use console::texts::complain;
-use console::texts::is_word;
+use api_comparison::compare;
+use tool_console::grids;
+use tool_console::grids::Grid;
+use tool_console::rooms;
+use tool_console::shapes;
+use tool_console::texts::argument;
+use tool_console::texts::complain;
+use tool_console::texts::is_word;
 
 // Whether all arguments are there and none is over. If not, how to call the program is said.
 fn all_there() -> bool {

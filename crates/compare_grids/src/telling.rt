@@ -1,17 +1,16 @@
-// What a comparison gives, in words. At most 20 differences are listed, in a room of 60 numbers.
+// What a comparison returns, in words. At most 20 differences are listed, in a room of 60 numbers.
 ghost use Prim.Native.Nat.{_<_};
-use console::places::say_cell;
-use console::places::say_field;
-use console::places::wide;
-use console::rooms::of_bytes;
-use console::texts::complain;
-use console::texts::complain_number;
-use console::texts::say;
-use console::texts::say_number;
-use text::put_value;
+use tool_console::places::say_cell;
+use tool_console::places::say_field;
+use tool_console::places::wide;
+use tool_console::rooms::of_bytes;
+use tool_console::texts::complain;
+use tool_console::texts::complain_number;
+use tool_console::texts::say;
+use tool_console::texts::say_number;
+use tool_text::put_value;
 use value::Value;
 
-// Writes a value.
 fn say_value(n: i32) {
     let mut text = [0u8; 12];
     let end = put_value(&mut text, 0, n);

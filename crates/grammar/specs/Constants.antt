@@ -3,11 +3,12 @@ use mathlib.Core.Bool.{Bool, true, false, _||_}
 use Prim.Native.Nat.{ℕ, _+_}
 use lib.Dec.{eqb, leb}
 use lib.IntN.{ℤ, pos}
+use Rattle.value.specs.Limits.{most-elements}
 use Rattle.value.specs.Choice.{if_then_else_}
 use Rattle.value.specs.Number.{within}
 use Rattle.value.specs.Worked.{decode-of, encode-of, opposite-of, span-of}
 use Rattle.token.specs.declared.Token.{Token}
-use Rattle.token.specs.Kind.{kind}
+use Rattle.token.specs.Kind.{kind, keyword, operation, delimiter}
 use Rattle.names.specs.Names.{name-kind, is}
 use Rattle.program.specs.Syntax.{Range, range}
 use Rattle.grammar.specs.Reader.{Reader, _>>=_, _>>_, _▷_, return, unit, nothing, Turn, again, done, repeat, turns, refuse, refuse-last, note, is-kind, next-token, position, advance, put, put-both, expect, opening, is-name, by-name, entry-in, declare, fresh-name, use-name}
@@ -15,7 +16,7 @@ use Rattle.grammar.specs.Reader.{Reader, _>>=_, _>>_, _▷_, return, uni
 -- ---- constants and ranges
 
 unfoldable pub is-sign : Token → Bool
-is-sign t = is-kind t (kind .plus) || is-kind t (kind .minus)
+is-sign t = is-kind t (operation .plus) || is-kind t (operation .minus)
 
 -- over the name in a slot, which must be that of a simple constant; its value
 unfoldable pub named-constant : ℕ → Reader ℤ
@@ -32,12 +33,12 @@ read-constant =
     else if is-name t then by-name t false named-constant (refuse 8)
     else refuse 7
 
--- a constant with at most one sign. No constant is the least value (`signs-in-range` in `linking`), so that what stands behind a minus is its negative
+-- a constant with at most one sign. No constant is the least value (`signs-in-range` in `read_links`), so that what stands behind a minus is its negative
 unfoldable pub read-signed : Reader ℤ
 read-signed =
     next-token >>= λ t.
-    if is-kind t (kind .minus) then (advance >> read-constant ▷ opposite-of)
-    else if is-kind t (kind .plus) then advance >> read-constant
+    if is-kind t (operation .minus) then (advance >> read-constant ▷ opposite-of)
+    else if is-kind t (operation .plus) then advance >> read-constant
     else read-constant
 
 -- the rule that a range breaks which may have at most so many values: 41 if it is reversed, 42 if it is too long; 0: none
@@ -51,7 +52,7 @@ range-rule most low high =
 unfoldable pub read-range : ℕ → Reader Range
 read-range most = do
   low ← read-signed
-  expect (kind .dots)
+  expect (delimiter .dots)
   high ← read-signed
   if eqb (range-rule most low high) 0 then return (range low high) else refuse-last (range-rule most low high)
 
@@ -68,7 +69,7 @@ value-turn size first k = do
   z ← read-signed
   put (first + k) 3 (encode-of z)
   t ← next-token
-  if is-kind t (kind .comma) then (if leb size (k + 1) then refuse 45 else advance >> return (again (k + 1)))
+  if is-kind t (delimiter .comma) then (if leb size (k + 1) then refuse 45 else advance >> return (again (k + 1)))
       else if leb size (k + 1) then return (done unit)
       else note 45 >> return (done unit)
 
@@ -78,22 +79,18 @@ read-values size first = repeat turns (value-turn size first) 0
 
 -- the size of an array constant, else refused 44
 unfoldable pub read-size : Reader ℤ
-read-size = read-constant >>= λ z. if within (pos 1) (pos 1024) z then return z else refuse-last 44
+read-size = read-constant >>= λ z. if within (pos 1) (pos most-elements) z then return z else refuse-last 44
 
 -- from the `[` behind the name up to the size
 unfoldable pub array-head : Bool → Reader ℤ
-array-head room = do
-  opening room
-  expect (kind .unbracket)
-  expect (kind .for-word)
-  read-size
+array-head room = do opening room; expect (delimiter .unbracket); expect (keyword .for); read-size
 
 -- from the `[` behind the name, which stands at position i, on. The size and the list's position are noted at the name; until the source
 -- is read, the record's value is i
 unfoldable pub array-constant : Bool → ℕ → Reader Unit
 array-constant room i = do
   z ← array-head room
-  expect (kind .assign)
+  expect (delimiter .assign)
   first ← position
   read-values (encode-of z) first
   put-both i (encode-of z) first
@@ -102,35 +99,25 @@ array-constant room i = do
 
 -- from the `:=` behind the name, which stands at position i, on
 unfoldable pub simple-constant : ℕ → Reader Unit
-simple-constant i = do
-  advance
-  z ← read-signed
-  declare i (name-kind .constant) (encode-of z)
-  nothing
+simple-constant i = do advance; z ← read-signed; declare i (name-kind .constant) (encode-of z); nothing
 
 -- what stands behind the name of a constant
 unfoldable pub constant-value : Bool → ℕ → Reader Unit
 constant-value room i =
     next-token >>= λ t.
-    if is-kind t (kind .assign) then simple-constant i
-    else if is-kind t (kind .bracket) then array-constant room i
+    if is-kind t (delimiter .assign) then simple-constant i
+    else if is-kind t (delimiter .bracket) then array-constant room i
     else refuse 7
 
 -- a declaration, from `const` on. The name holds from the declaration's end on, and this position is noted at `const`
 unfoldable pub read-declaration : Bool → Reader Unit
-read-declaration room = do
-  c ← position
-  advance
-  i ← fresh-name
-  constant-value room i
-  past ← position
-  put c 3 past
+read-declaration room = do c ← position; advance; i ← fresh-name; constant-value room i; past ← position; put c 3 past
 
 -- one more declaration, if there is one
 unfoldable pub constants-turn : Unit {0} → Reader (Turn Unit Unit)
 constants-turn x =
     next-token >>= λ t.
-    if is-kind t (kind .const-word) then read-declaration true >> return (again unit)
+    if is-kind t (keyword .const) then read-declaration true >> return (again unit)
     else return (done unit)
 
 -- the constants before the cell declaration

@@ -8,7 +8,7 @@ use lib.IntN.{ℤ}
 use Rattle.value.specs.Choice.{if_then_else_}
 use Rattle.value.specs.Worked.{decode-of, encode-of}
 use Rattle.token.specs.declared.Token.{Token}
-use Rattle.token.specs.Kind.{kind, level-of}
+use Rattle.token.specs.Kind.{kind, operation, delimiter, level-of}
 use Rattle.names.specs.declared.Entry.{Entry}
 use Rattle.names.specs.Names.{name-kind, is}
 use Rattle.program.specs.Syntax.{Index, fixed, moving, Expr, number, time, variable, index, field, element, unary, binary}
@@ -17,15 +17,14 @@ use Rattle.grammar.specs.Reader.{Reader, _>>=_, _>>_, _<<_, _▷_, retur
 use Rattle.grammar.specs.Constants.{is-sign, read-signed}
 
 -- what the cell declaration says of a cell: how many dimensions there are, and whether its fields are named
-pub record Cell : Type 0 where
-  pub dims : ℕ
-  pub named : Bool
+abbrev pub Cell : Type 0
+Cell = record { dims : ℕ; named : Bool }
 
 -- ---- fields
 
 -- behind a plain number, neither `[` nor `.` may stand
 unfoldable pub plain : Reader Unit
-plain = forbid (kind .bracket) 6 >> forbid (kind .dot) 12
+plain = forbid (delimiter .bracket) 6 >> forbid (delimiter .dot) 12
 
 -- over a field's name, which stands behind `.`; its slot
 unfoldable pub field-name : Reader ℕ
@@ -36,7 +35,7 @@ field-name =
 
 -- `.name`: the field's slot
 unfoldable pub dot-field : Reader ℕ
-dot-field = expect-or (kind .dot) 6 >> field-name
+dot-field = expect-or (delimiter .dot) 6 >> field-name
 
 -- the number of the field in a slot
 unfoldable pub field-number : ℕ → Reader ℕ
@@ -45,7 +44,7 @@ field-number slot = entry-in slot ▷ λ e. e .word
 -- the number of the field behind `cell` or a relative index: that of `.name` where fields are named, else 0
 unfoldable pub read-field : Cell → Reader Unit → Reader ℕ
 read-field cell unnamed =
-    if cell .named then (dot-field << forbid (kind .bracket) 6 >>= field-number)
+    if cell .named then (dot-field << forbid (delimiter .bracket) 6 >>= field-number)
     else unnamed >> return 0
 
 -- the field's number and the position past what is read are noted at position i
@@ -64,11 +63,7 @@ named-index t slot =
 
 -- a signed constant, noted in word 3 of its first token
 unfoldable pub fixed-index : Token → Reader Index
-fixed-index t = do
-  i ← position
-  z ← read-signed
-  put i 3 (encode-of z)
-  return (fixed (t .start) z)
+fixed-index t = do i ← position; z ← read-signed; put i 3 (encode-of z); return (fixed (t .start) z)
 
 -- an element of a relative index: a signed constant, or a visible index variable without sign
 unfoldable pub read-index : Reader Index
@@ -84,9 +79,9 @@ index-turn cell got = do
   t ← next-token
   let now = got ++ i ∷ []
   let full = eqb (length now) (cell .dims)
-  if is-kind t (kind .comma) && not full then advance >> return (again now)
-      else if is-kind t (kind .unbracket) && full then advance >> return (done now)
-      else if is-kind t (kind .comma) || is-kind t (kind .unbracket) then refuse 12
+  if is-kind t (delimiter .comma) && not full then advance >> return (again now)
+      else if is-kind t (delimiter .unbracket) && full then advance >> return (done now)
+      else if is-kind t (delimiter .comma) || is-kind t (delimiter .unbracket) then refuse 12
       else refuse 7
 
 -- the elements of a relative index and its `]`
@@ -99,18 +94,13 @@ read-neighbour cell room = do
   i ← position
   opening room
   is ← read-indices cell
-  f ← read-field cell (forbid (kind .dot) 12)
+  f ← read-field cell (forbid (delimiter .dot) 12)
   put-field i f
   return (field is f)
 
 -- the own cell and the field behind it
 unfoldable pub read-own : Cell → Reader Expr
-read-own cell = do
-  i ← position
-  advance
-  f ← read-field cell plain
-  put-field i f
-  return (field [] f)
+read-own cell = do i ← position; advance; f ← read-field cell plain; put-field i f; return (field [] f)
 
 -- ---- operands
 
@@ -132,15 +122,15 @@ unfoldable pub read-element : Bool → Reader Expr → Entry → Reader Expr
 read-element room inner e = do
   t ← next-token
   s ← get-state
-  d ← read-bracket room inner (kind .unbracket)
-  forbid (kind .dot) 12
+  d ← read-bracket room inner (delimiter .unbracket)
+  forbid (delimiter .dot) 12
   return (element (t .start) (array-values (s .words) (e .word)) d)
 
 -- behind an array constant's name. Without `[` it counts as a plain number, and 12 is noted
 unfoldable pub array-use : Bool → Reader Expr → Entry → Reader Expr
 array-use room inner e =
     next-token >>= λ t.
-    if is-kind t (kind .bracket) then read-element room inner e
+    if is-kind t (delimiter .bracket) then read-element room inner e
     else note 12 >> plain >> return (number (decode-of (e .word)))
 
 -- the name in a slot, in an expression
@@ -157,8 +147,8 @@ unfoldable pub read-primary : Cell → Bool → Reader Expr → Reader Expr
 read-primary cell room inner =
     next-token >>= λ t.
     if is-kind t (kind .literal) then advance >> return (number (decode-of (t .value)))
-    else if is-kind t (kind .paren) then read-bracket room inner (kind .unparen)
-    else if is-kind t (kind .bracket) then read-neighbour cell room
+    else if is-kind t (delimiter .paren) then read-bracket room inner (delimiter .unparen)
+    else if is-kind t (delimiter .bracket) then read-neighbour cell room
     else if is-kind t (kind .cell) then read-own cell
     else if is-kind t (kind .time) then advance >> plain >> return time
     else if is-kind t (kind .name) then by-name t false (name-use room inner) (refuse 8)
@@ -168,42 +158,37 @@ read-primary cell room inner =
 unfoldable pub read-operand : Cell → Bool → Reader Expr → Reader Expr
 read-operand cell room inner =
     next-token >>= λ t.
-    if is-sign t || is-kind t (kind .not) then (advance >> read-primary cell room inner ▷ unary (t .kind) (t .start))
+    if is-sign t || is-kind t (operation .not) then (advance >> read-primary cell room inner ▷ unary (t .kind) (t .start))
     else read-primary cell room inner
 
 -- ---- operators
 
 -- an expression whose left part is read, and the level of that part's operator (0 for an operand)
-pub record Left : Type 0 where
-  pub expr : Expr
-  pub level : ℕ
+abbrev pub LeftPart : Type 0
+LeftPart = record { expr : Expr; level : ℕ }
 
-abbrev pub left : Expr → ℕ → Left
-left e l = record { expr = e; level = l }
+abbrev pub left-part : Expr → ℕ → LeftPart
+left-part e l = record { expr = e; level = l }
 
 -- over a binary operator of a level and its right side, whose operators bind tighter
 unfoldable pub read-right : (ℕ → Reader Expr) → Expr → Reader Expr
-read-right tighter e = do
-  t ← next-token
-  advance
-  d ← tighter (level-of (t .kind) + 1)
-  return (binary (t .kind) (t .start) e d)
+read-right tighter e = do t ← next-token; advance; d ← tighter (level-of (t .kind) + 1); return (binary (t .kind) (t .start) e d)
 
 -- one more operator of a level or tighter. A relation cannot take a bare relation as operand: 13 at the second operator
-unfoldable pub operator-turn : ℕ → (ℕ → Reader Expr) → Left → Reader (Turn Left Expr)
+unfoldable pub operator-turn : ℕ → (ℕ → Reader Expr) → LeftPart → Reader (Turn LeftPart Expr)
 operator-turn level tighter l =
     next-token >>= λ t.
     let own = level-of (t .kind) in
     if ltb own level then return (done (l .expr))
     else if eqb own 2 && eqb (l .level) 2 then refuse 13
-    else (read-right tighter (l .expr) ▷ λ e. again (left e own))
+    else (read-right tighter (l .expr) ▷ λ e. again (left-part e own))
 
 -- an expression of operators of a level or tighter: an operand, then operators from left to right. There are four levels, so that at
 -- most as many are entered one inside another: `more` is how many still may be
 unfoldable pub climb : ℕ → Reader Expr → ℕ → Reader Expr
 climb zero operand level = operand
 climb (suc more) operand level =
-    operand >>= λ e. repeat turns (operator-turn level (λ tighter input s. climb more operand tighter input s)) (left e 0)
+    operand >>= λ e. repeat turns (operator-turn level (λ tighter input s. climb more operand tighter input s)) (left-part e 0)
 
 -- how many levels there are
 abbrev pub levels : ℕ

@@ -1,36 +1,33 @@
 -- How tokens are read, from left to right: the state of a reading, and readers, from which the grammar is put together.
 --
--- Nearly every rule complains at the token that reading stands at, so that the first complaint met is the reply. Two rules speak of the
--- token after something (an array constant without `[`, and too few values of an array): their complaint is noted and reading goes on;
--- what is complained of at that very token with a lower number goes before it.
+-- Nearly every rule refuses the token that reading stands at, so that the first refusal met is the reply. Two rules speak of the
+-- token after something (an array constant without `[`, and too few values of an array): their refusal is noted and reading goes on;
+-- what is refused at that very token with a lower number goes before it.
 use mathlib.Core.Bool.{Bool, false, not, _||_}
 use mathlib.Core.List.{List}
 use mathlib.Core.Option.{Option, none, some}
 use Prim.Native.Nat.{ℕ, zero, suc, _+_, _-_}
 use lib.Dec.{eqb, leb}
+use Rattle.value.specs.Limits.{most-names}
 use Rattle.value.specs.Choice.{if_then_else_}
 use Rattle.token.specs.declared.Token.{Token}
 use Rattle.token.specs.declared.Scan.{Scan}
 use Rattle.token.specs.Kind.{kind}
 use Rattle.token.specs.Scanning.{token-in, kind-in}
 use Rattle.names.specs.declared.Entry.{Entry}
-use Rattle.names.specs.Names.{most-names, entry-at, with-entry, without-entry, find-name}
+use Rattle.names.specs.Names.{entry-at, with-entry, without-entry, find-name}
 use Rattle.program.specs.Table.{with-word}
-use Rattle.grammar.specs.Complaint.{Complaint, complaint, first-of, broken}
+use Rattle.program.specs.Refusal.{Refusal, refusal}
+use Rattle.grammar.specs.Ranking.{first-of, broken}
 
 -- what is read: the source's bytes, and how many tokens it has with the stop behind them
-pub record Input : Type 0 where
-  pub source : List ℕ
-  pub scan : Scan
+abbrev pub Input : Type 0
+Input = record { source : List ℕ; scan : Scan }
 
--- where reading stands: the position of the next token, the complaint noted so far, how many names are in use, the words of the name
+-- where reading stands: the position of the next token, the refusal noted so far, how many names are in use, the words of the name
 -- list, and the word table, in which the tokens stand
-pub record State : Type 0 where
-  pub at : ℕ
-  pub noted : Complaint
-  pub count : ℕ
-  pub names : List ℕ
-  pub words : List ℕ
+abbrev pub State : Type 0
+State = record { at : ℕ; noted : Refusal; count : ℕ; names : List ℕ; words : List ℕ }
 
 -- how a reading ends: with what was read, or with the number and place of the reply that refuses it
 pub data Result (A : Type 0) : Type 0 where
@@ -89,7 +86,7 @@ get-state input s = ok (s, s)
 
 -- ---- refusals
 
-abbrev pub refuse-with : {A : Type 0} → Complaint → Result A
+abbrev pub refuse-with : {A : Type 0} → Refusal → Result A
 refuse-with c = fail (c .number) (c .place)
 
 -- the token at a position of the state's table, or the stop
@@ -107,16 +104,8 @@ refuse-last n input s = refuse-with (first-of (s .noted) (broken n (token-of inp
 -- rule n is broken at the next token, but reading goes on: a lower number at this token would go before it
 unfoldable pub note : ℕ → Reader Unit
 note n input s =
-    ok (
-      unit,
-      record {
-        at = s .at;
-        noted = first-of (s .noted) (complaint n (token-of input s (s .at) .start));
-        count = s .count;
-        names = s .names;
-        words = s .words;
-      },
-    )
+    let c = first-of (s .noted) (refusal n (token-of input s (s .at) .start)) in
+    ok (unit, record { at = s .at; noted = c; count = s .count; names = s .names; words = s .words })
 
 -- a turn and those after it. Each turn reads a token, so that `turns` are enough
 unfoldable pub repeat : {S R : Type 0} → ℕ → (S → Reader (Turn S R)) → S → Reader R
@@ -193,16 +182,8 @@ entry-in slot input s = ok (entry-at (s .names) slot, s)
 unfoldable pub declare : ℕ → ℕ → ℕ → Reader ℕ
 declare i k v input s =
     let t = token-of input s i in
-    ok (
-      s .count,
-      record {
-        at = s .at;
-        noted = s .noted;
-        count = s .count + 1;
-        names = with-entry (s .names) (s .count) (record { start = t .start; len = t .len; kind = k; word = v });
-        words = s .words;
-      },
-    )
+    let names = with-entry (s .names) (s .count) (record { start = t .start; len = t .len; kind = k; word = v }) in
+    ok (s .count, record { at = s .at; noted = s .noted; count = s .count + 1; names = names; words = s .words })
 
 -- the record in a slot is free again
 unfoldable pub release : ℕ → Reader Unit

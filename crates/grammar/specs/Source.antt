@@ -5,17 +5,18 @@ use Prim.Native.Nat.{ℕ, zero, suc, _+_, _-_}
 use lib.ListN.{length, replicate}
 use lib.Dec.{eqb, leb, ltb}
 use lib.IntN.{ℤ, pos}
+use Rattle.value.specs.Limits.{name-words, most-open, most-dims, most-fields}
 use Rattle.value.specs.Choice.{if_then_else_}
 use Rattle.value.specs.Number.{within}
 use Rattle.value.specs.Worked.{encode-of}
 use Rattle.token.specs.declared.Token.{Token}
-use Rattle.token.specs.Kind.{kind}
+use Rattle.token.specs.Kind.{kind, keyword, delimiter}
 use Rattle.token.specs.Scanning.{Scanned, scan, scan-of, scanned-words}
 use Rattle.names.specs.declared.Entry.{Entry}
-use Rattle.names.specs.Names.{name-kind, name-words, is, entry-at, with-value}
+use Rattle.names.specs.Names.{name-kind, is, entry-at, with-value}
 use Rattle.program.specs.Syntax.{Range, Block, Program}
 use Rattle.program.specs.Table.{word-at, with-range}
-use Rattle.grammar.specs.Complaint.{no-complaint}
+use Rattle.program.specs.Refusal.{no-refusal}
 use Rattle.grammar.specs.Reader.{Input, State, Result, ok, fail, Reader, _>>=_, _>>_, _▷_, return, Turn, again, done, repeat, turns, refuse-with, refuse, refuse-last, is-kind, next-token, kind-after, position, advance, expect, forbid, is-name, declare, fresh, token-of}
 use Rattle.grammar.specs.Constants.{is-sign, read-constant, any-range, read-constants}
 use Rattle.grammar.specs.Expressions.{Cell}
@@ -26,12 +27,12 @@ use Rattle.grammar.specs.Statements.{read-block}
 -- one more field name of kind k, behind n fields, and the comma or `of` behind it: how many fields there are then. A ninth is refused 43
 unfoldable pub field-turn : ℕ → ℕ → Reader (Turn ℕ ℕ)
 field-turn k n = do
-  i ← fresh true (if leb 8 n then 43 else 0)
+  i ← fresh true (if leb most-fields n then 43 else 0)
   declare i k n
-  forbid (kind .bracket) 6
+  forbid (delimiter .bracket) 6
   t ← next-token
-  if is-kind t (kind .comma) then advance >> return (again (n + 1))
-      else expect (kind .of-word) >> return (done (n + 1))
+  if is-kind t (delimiter .comma) then advance >> return (again (n + 1))
+      else expect (keyword .of) >> return (done (n + 1))
 
 -- the words with a range for each of n fields, the first of which has its range at position i
 unfoldable pub with-ranges : List ℕ → ℕ → ℕ → Range → List ℕ
@@ -41,38 +42,32 @@ with-ranges words i (suc n) r = with-range (with-ranges words i n r) (i + n) r
 -- the ranges of n fields, behind those in `got`, are noted in the table, from position `base` on
 unfoldable pub put-ranges : ℕ → List Range → ℕ → Range → Reader (List Range)
 put-ranges base got n r input s =
-    ok (
-      got ++ replicate n r,
-      record { at = s .at; noted = s .noted; count = s .count; names = s .names; words = with-ranges (s .words) (base + length got) n r },
-    )
+    let words = with-ranges (s .words) (base + length got) n r in
+    ok (got ++ replicate n r, record { at = s .at; noted = s .noted; count = s .count; names = s .names; words = words })
 
 -- a group of field names of kind k and their range, behind the fields in `got`
 unfoldable pub read-group : ℕ → List Range → ℕ → Reader (List Range)
-read-group base got k = do
-  n ← repeat turns (field-turn k) (length got)
-  r ← any-range
-  put-ranges base got (n - length got) r
+read-group base got k = do n ← repeat turns (field-turn k) (length got); r ← any-range; put-ranges base got (n - length got) r
 
 -- one more group of named fields, or the `end` behind them
 unfoldable pub group-turn : ℕ → List Range → Reader (Turn (List Range) (List Range))
 group-turn base got =
     next-token >>= λ t.
-    if is-kind t (kind .end-word) && ltb 0 (length got) then advance >> return (done got)
-    else if is-kind t (kind .const-word) then (advance >> read-group base got (name-kind .const-field) ▷ again)
+    if is-kind t (keyword .end) && ltb 0 (length got) then advance >> return (done got)
+    else if is-kind t (keyword .const) then (advance >> read-group base got (name-kind .const-field) ▷ again)
     else (read-group base got (name-kind .field) ▷ again)
 
 -- the number of dimensions, else refused 40
 unfoldable pub read-dims : Reader ℤ
-read-dims = read-constant >>= λ z. if within (pos 1) (pos 3) z then return z else refuse-last 40
+read-dims = read-constant >>= λ z. if within (pos 1) (pos most-dims) z then return z else refuse-last 40
 
 -- whether a single unnamed range follows: a sign or a literal begins it, and a name exactly if `..` follows that (k is the kind of what follows)
 unfoldable pub is-unnamed : Token → ℕ → Bool
-is-unnamed t k = is-sign t || is-kind t (kind .literal) || is-name t && eqb k (kind .dots)
+is-unnamed t k = is-sign t || is-kind t (kind .literal) || is-name t && eqb k (delimiter .dots)
 
 -- what a cell is, and the range of each field
-pub record Declared : Type 0 where
-  pub cell : Cell
-  pub fields : List Range
+abbrev pub Declared : Type 0
+Declared = record { cell : Cell; fields : List Range }
 
 abbrev pub declared : ℤ → Bool → List Range → Declared
 declared dims named fields = record { cell = record { dims = encode-of dims; named = named }; fields = fields }
@@ -87,18 +82,9 @@ read-fields base dims =
 
 -- the cell declaration
 unfoldable pub read-cell : Reader Declared
-read-cell = do
-  dims ← read-dims
-  expect (kind .dimensions-word)
-  base ← position
-  expect (kind .of-word)
-  read-fields base dims
+read-cell = do dims ← read-dims; expect (keyword .dimensions); base ← position; expect (keyword .of); read-fields base dims
 
 -- ---- the source
-
--- at most so many `if`, `forall`, `(` and `[` open together
-abbrev pub most-open : ℕ
-most-open = 16
 
 -- one of n tokens of a table is of kind k
 unfoldable pub has-kind : ℕ → List ℕ → ℕ → Bool
@@ -120,21 +106,17 @@ settled words names (suc n) =
     with-value before n (settled-value words (entry-at before n))
 
 -- what reading leaves of an accepted source: the program, its word table, and its name list
-pub record Accepted : Type 0 where
-  pub program : Program
-  pub words : List ℕ
-  pub names : List ℕ
+abbrev pub Accepted : Type 0
+Accepted = record { program : Program; words : List ℕ; names : List ℕ }
 
 -- what is left of a source whose declaration and statements are read
 abbrev pub accepted-as : Input → Declared → Block → State → Accepted
 accepted-as input d body s =
-    record {
-      program = record { dims = d .cell .dims; fields = d .fields; slots = s .count; body = body; timed = has-kind (kind .time) (s .words) (input .scan .count) };
-      words = s .words;
-      names = settled (s .words) (s .names) (s .count);
-    }
+    let timed = has-kind (kind .time) (s .words) (input .scan .count) in
+    let program : Program = record { dims = d .cell .dims; fields = d .fields; slots = s .count; body = body; timed = timed } in
+    record { program = program; words = s .words; names = settled (s .words) (s .names) (s .count) }
 
--- the end of the source stands behind the last statement, and no complaint is noted
+-- the end of the source stands behind the last statement, and no refusal is noted
 unfoldable pub finish : Declared → Block → Reader Accepted
 finish d body input s =
     let t = token-of input s (s .at) in
@@ -143,11 +125,7 @@ finish d body input s =
     else ok (accepted-as input d body s, s)
 
 unfoldable pub read-program : Reader Accepted
-read-program = do
-  read-constants
-  d ← read-cell
-  body ← read-block (d .cell) most-open 0
-  finish d body
+read-program = do read-constants; d ← read-cell; body ← read-block (d .cell) most-open 0; finish d body
 
 -- a source, with its tokens
 abbrev pub input-of : List ℕ → Input
@@ -155,8 +133,7 @@ input-of source = record { source = source; scan = scan-of (scan source) }
 
 -- where reading begins: the tokens stand in the table, and no name is declared
 abbrev pub start-state : Scanned → State
-start-state s =
-    record { at = 0; noted = no-complaint; count = 0; names = replicate name-words 0; words = scanned-words s }
+start-state s = record { at = 0; noted = no-refusal; count = 0; names = replicate name-words 0; words = scanned-words s }
 
 abbrev pub what-is-read : Result (Accepted × State) → Result Accepted
 what-is-read (ok r) = ok (r .0)

@@ -5,10 +5,11 @@ use mathlib.Core.Option.{Option, none, some}
 use Prim.Native.Nat.{ℕ, zero, suc, _+_}
 use lib.ListN.{length}
 use lib.Dec.{eqb, ltb}
+use Rattle.value.specs.Limits.{most-turns}
 use Rattle.value.specs.Choice.{if_then_else_}
 use Rattle.value.specs.Worked.{encode-of}
 use Rattle.token.specs.declared.Token.{Token}
-use Rattle.token.specs.Kind.{kind}
+use Rattle.token.specs.Kind.{kind, keyword, delimiter}
 use Rattle.names.specs.Names.{name-kind, is, variables-in}
 use Rattle.program.specs.Syntax.{Expr, Target, to-field, to-variable, Clause, Block, empty, assign, select, loop, exit, constant}
 use Rattle.grammar.specs.Reader.{Reader, _>>=_, _>>_, _<<_, _▷_, return, Turn, again, done, repeat, turns, get-state, refuse, refuse-last, is-kind, next-token, position, advance, put, put-both, expect, expect-or, forbid, opening, is-name, by-name, entry-in, declare, release, fresh-name}
@@ -36,7 +37,7 @@ named-target = dot-field >>= λ slot. entry-in slot >>= λ e. if is e (name-kind
 
 -- `cell` on a left side, with `.name` where fields are named: the field's number
 unfoldable pub field-target : Cell → Reader ℕ
-field-target cell = if cell .named then advance >> named-target else advance >> forbid (kind .dot) 12 >> return 0
+field-target cell = if cell .named then advance >> named-target else advance >> forbid (delimiter .dot) 12 >> return 0
 
 -- the left side of an assignment
 unfoldable pub read-target : Cell → Reader Target
@@ -44,7 +45,7 @@ read-target cell =
     next-token >>= λ t.
     if is-kind t (kind .time) then refuse 9
     else if is-kind t (kind .cell) then (field-target cell ▷ to-field)
-    else (by-name t false old-variable new-variable << forbid (kind .dot) 12 ▷ to-variable)
+    else (by-name t false old-variable new-variable << forbid (delimiter .dot) 12 ▷ to-variable)
 
 -- the number of a target, as it is noted in the table
 abbrev pub target-number : Target → ℕ
@@ -63,23 +64,23 @@ when-clause expr got i t e = do
   put i 2 at
   u ← next-token
   let now = got ++ clause t e (some c) ∷ []
-  return (if is-kind u (kind .assign) then again now else done now)
+  return (if is-kind u (delimiter .assign) then again now else done now)
 
 -- what stands behind a clause's expression: `when`; else the chain ends, behind a condition with `otherwise`. A comma is refused 6
 unfoldable pub clause-end : Reader Expr → List Clause → ℕ → Token → Expr → Reader (Turn (List Clause) (List Clause))
 clause-end expr got i t e =
     next-token >>= λ u.
-    if is-kind u (kind .when-word) then when-clause expr got i t e
-    else if is-kind u (kind .comma) then refuse 6
+    if is-kind u (keyword .when) then when-clause expr got i t e
+    else if is-kind u (delimiter .comma) then refuse 6
     else if eqb (length got) 0 then return (done (got ++ clause t e none ∷ []))
-    else expect (kind .otherwise-word) >> return (done (got ++ clause t e none ∷ []))
+    else expect (keyword .otherwise) >> return (done (got ++ clause t e none ∷ []))
 
 -- one more clause, from its `:=` on. The position past it is noted there
 unfoldable pub clause-turn : Reader Expr → List Clause → Reader (Turn (List Clause) (List Clause))
 clause-turn expr got = do
   i ← position
   t ← next-token
-  expect (kind .assign)
+  expect (delimiter .assign)
   e ← expr
   turn ← clause-end expr got i t e
   past ← position
@@ -91,7 +92,7 @@ unfoldable pub read-assignment : Cell → Reader Expr → Reader (Block → Bloc
 read-assignment cell expr = do
   i ← position
   to ← read-target cell
-  forbid (kind .bracket) 6
+  forbid (delimiter .bracket) 6
   cs ← repeat turns (clause-turn expr) []
   past ← position
   put-both i (target-number to) past
@@ -100,9 +101,8 @@ read-assignment cell expr = do
 -- ---- choices
 
 -- a condition and the statements that it guards
-pub record Arm : Type 0 where
-  pub condition : Expr
-  pub part : Block
+abbrev pub Arm : Type 0
+Arm = record { condition : Expr; part : Block }
 
 -- arms that are tried in order, the part behind `else`, and the statements after the `end`
 unfoldable pub choices : List Arm → Block → Block → Block
@@ -113,9 +113,9 @@ choices (a ∷ more) last after = select (a .condition) (a .part) (choices more 
 unfoldable pub arm-end : Reader Block → List Arm → Reader (Turn (List Arm) (Block → Block))
 arm-end block arms =
     next-token >>= λ t.
-    if is-kind t (kind .elsif-word) then return (again arms)
-    else if is-kind t (kind .else-word) then (advance >> block << expect (kind .end-word) ▷ λ b. done (choices arms b))
-    else expect (kind .end-word) >> return (done (choices arms empty))
+    if is-kind t (keyword .elsif) then return (again arms)
+    else if is-kind t (keyword .else) then (advance >> block << expect (keyword .end) ▷ λ b. done (choices arms b))
+    else expect (keyword .end) >> return (done (choices arms empty))
 
 -- one more arm, from its `if` or `elsif` on. The position behind its statements is noted there
 unfoldable pub arm-turn : Reader Expr → Reader Block → List Arm → Reader (Turn (List Arm) (Block → Block))
@@ -123,7 +123,7 @@ arm-turn expr block got = do
   i ← position
   advance
   c ← expr
-  expect (kind .then-word)
+  expect (keyword .then)
   b ← block
   past ← position
   put i 2 past
@@ -148,13 +148,13 @@ read-forall room depth block = do
   i ← position
   opening room
   name ← fresh-name
-  expect-or (kind .colon) 6
-  r ← read-range 4096
+  expect-or (delimiter .colon) 6
+  r ← read-range most-turns
   put-both name (encode-of (r .low)) (encode-of (r .high))
   slot ← declare name (name-kind .index) depth
   inner ← position
   body ← block
-  expect (kind .end-word)
+  expect (keyword .end)
   release slot
   past ← position
   put-both i inner past
@@ -164,19 +164,12 @@ read-forall room depth block = do
 
 -- `exit`, with the position past it noted at it
 unfoldable pub read-exit : Reader (Block → Block)
-read-exit = do
-  i ← position
-  advance
-  put i 3 (i + 1)
-  return exit
+read-exit = do i ← position; advance; put i 3 (i + 1); return exit
 
 -- what reads the parts of a statement: whether one more `if`, `forall` or bracket may be open; an expression here; an expression and a
 -- list of statements (by the number of open loops) inside an `if` or a `forall`
-pub record Parts : Type 0 where
-  pub room : Bool
-  pub expr : Reader Expr
-  pub inner-expr : Reader Expr
-  pub inner : ℕ → Reader Block
+abbrev pub Parts : Type 0
+Parts = record { room : Bool; expr : Reader Expr; inner-expr : Reader Expr; inner : ℕ → Reader Block }
 
 -- a statement behind those `before` it
 abbrev pub put-after : (Block → Block) → (Block → Block) → Turn (Block → Block) Block
@@ -188,26 +181,20 @@ unfoldable pub statement-turn : Cell → Parts → ℕ → (Block → Block) →
 statement-turn cell parts loops before =
     next-token >>= λ t.
     if is-name t then (read-assignment cell (parts .expr) ▷ put-after before)
-    else if is-kind t (kind .const-word) then (read-declaration (parts .room) ▷ λ _. put-after before constant)
-    else if is-kind t (kind .if-word) then (read-if (parts .room) (parts .inner-expr) (parts .inner loops) ▷ put-after before)
-    else if is-kind t (kind .forall-word) then (read-forall (parts .room) loops (parts .inner (loops + 1)) ▷ put-after before)
-    else if is-kind t (kind .exit-word) && ltb 0 loops then (read-exit ▷ put-after before)
+    else if is-kind t (keyword .const) then (read-declaration (parts .room) ▷ λ _. put-after before constant)
+    else if is-kind t (keyword .if) then (read-if (parts .room) (parts .inner-expr) (parts .inner loops) ▷ put-after before)
+    else if is-kind t (keyword .forall) then (read-forall (parts .room) loops (parts .inner (loops + 1)) ▷ put-after before)
+    else if is-kind t (keyword .exit) && ltb 0 loops then (read-exit ▷ put-after before)
     else return (done (before empty))
+
+-- statements up to the end of their list, by what reads their parts, where so many loops are open
+abbrev pub read-statements : Cell → Parts → ℕ → Reader Block
+read-statements cell parts loops = repeat turns (statement-turn cell parts loops) (λ after. after)
 
 -- a list of statements, where so many more may be open and so many loops are
 unfoldable pub read-block : Cell → ℕ → ℕ → Reader Block
 read-block cell zero loops =
-    repeat turns
-    (statement-turn cell (record { room = false; expr = read-expression cell 0; inner-expr = refuse 14; inner = λ _. refuse 14 }) loops)
-    (λ after. after)
+    read-statements cell (record { room = false; expr = read-expression cell 0; inner-expr = refuse 14; inner = λ _. refuse 14 }) loops
 read-block cell (suc room) loops =
-    repeat turns
-    (statement-turn cell
-    (record {
-      room = true;
-      expr = read-expression cell (suc room);
-      inner-expr = read-expression cell room;
-      inner = λ l input s. read-block cell room l input s;
-    })
-    loops)
-    (λ after. after)
+    let inner : ℕ → Reader Block = λ l input s. read-block cell room l input s in
+    read-statements cell (record { room = true; expr = read-expression cell (suc room); inner-expr = read-expression cell room; inner = inner }) loops

@@ -15,22 +15,22 @@ use Rattle.value.specs.Choice.{if_then_else_}
 use Rattle.program.specs.Syntax.{Range}
 use Rattle.automaton.specs.Shape as shape
 use Rattle.automaton.specs.Shape.{product}
-use Rattle.lists.specs.Text.{Piece, literal, sign, with-piece, pieces}
-use Rattle.lists.specs.Lines.{Said, bad, time, cell, Indexed, indices, values, assigned, cell-with, cell-of-index, said-by, said-in, said}
-use Rattle.lists.specs.Text as text
-use Rattle.lists.specs.ListChecking.{Limits, inside, all-fit, cell-number, rises, time-number, line-number, time-behind, Verdict, verdict, check-lines, check-list}
-use Rattle.lists.specs.Walking.{to-end, said-cut, said-last, Placed, wrong, placed, place-from, placed-by, place-is, place-none, all-keep, values-number, values-last}
+use Rattle.list_meaning.specs.Text.{Piece, literal, sign, with-piece, pieces}
+use Rattle.list_meaning.specs.Lines.{Said, bad, time, cell, Indexed, indices, values, assigned, cell-with, cell-of-index, said-by, said-in, said}
+use Rattle.list_meaning.specs.Text as text
+use Rattle.list_meaning.specs.ListChecking.{Limits, inside, all-fit, cell-line-number, rises, time-number, line-number, time-behind, Verdict, verdict, check-lines, check-list}
+use Rattle.list_meaning.specs.Contracts.Walking.{to-end, said-cut, said-last, Placed, wrong, placed, place-from, placed-by, place-is, place-none, all-keep, values-number, values-last}
 use Rattle.list_reader.specs.declared.Lexed.{Lexed}
 use Rattle.list_reader.specs.declared.Lexed.the-variants.{Literal, Sign, End, Unreadable}
-use Rattle.list_reader.specs.Contracts.Promises.{Ends, tokens-of, Lexes}
+use Rattle.list_reader.specs.Contracts.Promises.{LineEnds, line-tokens, Lexes}
 use Rattle.list_reader.specs.declared.places.Place.{Place}
 use Rattle.list_reader.specs.declared.places.Place.the-variants as place
 use Rattle.list_reader.specs.Contracts.Places.{place-in, placed-with, placed-of, PlaceOnward, ReadsPlace}
-use Rattle.list_reader.specs.Contracts.Values.{values-in, NumbersValues}
+use Rattle.list_reader.specs.Contracts.Values.{line-values, NumbersValues}
 use Rattle.list_reader.specs.declared.checking.LineRead.{LineRead}
 use Rattle.list_reader.specs.declared.checking.LineRead.the-variants.{Right, Refused}
 use Rattle.list_reader.specs.declared.checking.Verdict as declared
-use Rattle.list_reader.specs.Contracts.Checks.{limits, time-before, NumbersTime, cell-said, NumbersCell, Judged, JudgesTime, JudgesLine, answer, Checks}
+use Rattle.list_reader.specs.Contracts.Checks.{limits, time-before, NumbersTime, cell-said, NumbersCell, Judged, JudgesTime, JudgesLine, answer, ChecksLines}
 
 positive : (n : ℕ) → (n ≡ 0 → ⊥) → 0 < n
 positive zero d = absurd (d refl)
@@ -74,12 +74,12 @@ abbrev place-number : List Range → ℕ → Placed → ℕ
 place-number fs fl wrong = 50
 place-number fs fl (placed outside c ps) = valued-number fs fl outside (assigned ps)
 
-cell-outside : (q : Limits) (is : List ℕ) (vs : List (Option ℤ)) → eqb (length is) (length (q .sizes)) ≡ true → inside (q .sizes) is ≡ false → cell-number q is vs ≡ 51
-unfolding cell-number
+cell-outside : (q : Limits) (is : List ℕ) (vs : List (Option ℤ)) → eqb (length is) (length (q .sizes)) ≡ true → inside (q .sizes) is ≡ false → cell-line-number q is vs ≡ 51
+unfolding cell-line-number
 cell-outside q is vs e i = rw (e, i)
 
-cell-miscounted : (q : Limits) (is : List ℕ) (vs : List (Option ℤ)) → eqb (length is) (length (q .sizes)) ≡ false → cell-number q is vs ≡ 50
-unfolding cell-number
+cell-miscounted : (q : Limits) (is : List ℕ) (vs : List (Option ℤ)) → eqb (length is) (length (q .sizes)) ≡ false → cell-line-number q is vs ≡ 50
+unfolding cell-line-number
 cell-miscounted q is vs e = rw e
 
 module _ (q : Limits) (fl : ℕ) (flag-is : q .flag ≡ some fl) (t : ℕ) where
@@ -93,7 +93,7 @@ module _ (q : Limits) (fl : ℕ) (flag-is : q .flag ≡ some fl) (t : ℕ) where
   with-values i (some vs) e = by (eqb (length (i .index)) (length (q .sizes))) refl (inside (q .sizes) (i .index)) refl
     where
       by : (a : Bool) → eqb (length (i .index)) (length (q .sizes)) ≡ a → (b : Bool) → inside (q .sizes) (i .index) ≡ b
-          → place-number (q .fields) fl (if a then placed (false || not b) (0 * product (q .sizes) + shape.cell-number (q .sizes) (i .index)) (i .rest) else wrong) ≡ cell-number q (i .index) vs
+          → place-number (q .fields) fl (if a then placed (false || not b) (0 * product (q .sizes) + shape.cell-number (q .sizes) (i .index)) (i .rest) else wrong) ≡ cell-line-number q (i .index) vs
       by true ea true eb = ap (valued-number (q .fields) fl false) e ∙ sym (values-last q fl (i .index) vs flag-is ea eb)
       by true ea false eb = ap (valued-number (q .fields) fl true) e ∙ sym (cell-outside q (i .index) vs ea eb)
       by false ea b eb = sym (cell-miscounted q (i .index) vs ea)
@@ -132,7 +132,7 @@ by-values : (fs : List Range) (fl : ℕ) (outside : Bool) (o : Option (List (Opt
 by-values fs fl outside none = refl
 by-values fs fl outside (some vs) = rw (not-fifty fs fl vs)
 
-assigned-equal : (fs : List Range) (fl : ℕ) (outside : Bool) (c : ℕ) (o : Option (List Piece)) → place-number fs fl (placed-with outside c (with-piece (sign 61) o)) ≡ joined-number outside (values-number fs fl 0 false true true (values-in o))
+assigned-equal : (fs : List Range) (fl : ℕ) (outside : Bool) (c : ℕ) (o : Option (List Piece)) → place-number fs fl (placed-with outside c (with-piece (sign 61) o)) ≡ joined-number outside (values-number fs fl 0 false true true (line-values o))
 unfolding assigned
 assigned-equal fs fl outside c none = refl
 assigned-equal fs fl outside c (some ps) = by-values fs fl outside (values ps)
@@ -160,8 +160,8 @@ module _ (sizes : List ℕ) (fs : List Range) (fl : ℕ) (line : List ℕ) (at :
 
   module _ {outside : Bool} {c next : ℕ} (e : x ≡ place.At outside c next) where
     module _ {y : Lexed} (v : Lexes line next y) where
-      token : {z : Lexed} {r : ℕ} → y ≡ z → r ≡ place-number fs fl (placed-with outside c (tokens-of line z)) → NumbersCell sizes fs fl line at r
-      token f h = numbered e (h ∙ ap (λ (o : Option (List Piece)). place-number fs fl (placed-with outside c o)) (sym (v .is ∙ ap (tokens-of line) f)))
+      token : {z : Lexed} {r : ℕ} → y ≡ z → r ≡ place-number fs fl (placed-with outside c (line-tokens line z)) → NumbersCell sizes fs fl line at r
+      token f h = numbered e (h ∙ ap (λ (o : Option (List Piece)). place-number fs fl (placed-with outside c o)) (sym (v .is ∙ ap (line-tokens line) f)))
 
       pub cell-literal : {n past : ℕ} → y ≡ Literal n past → NumbersCell sizes fs fl line at 50
       cell-literal {n} {past} f = token f (sym (assigned-literal fs fl outside c n (pieces 0 (drop past line))))
@@ -212,8 +212,8 @@ unfolding said-by
 alone-time t = refl
 
 module _ (first last least t : ℕ) (line : List ℕ) (at : ℕ) {x : Lexed} (w : Lexes line at x) where
-  behind-time : {y : Lexed} → x ≡ y → said-in (with-piece (literal t) (pieces 0 (drop at line))) ≡ said-in (with-piece (literal t) (tokens-of line y))
-  behind-time e = ap (λ (o : Option (List Piece)). said-in (with-piece (literal t) o)) (w .is ∙ ap (tokens-of line) e)
+  behind-time : {y : Lexed} → x ≡ y → said-in (with-piece (literal t) (pieces 0 (drop at line))) ≡ said-in (with-piece (literal t) (line-tokens line y))
+  behind-time e = ap (λ (o : Option (List Piece)). said-in (with-piece (literal t) o)) (w .is ∙ ap (line-tokens line) e)
 
   pub time-literal : {n next : ℕ} → x ≡ Literal n next → JudgesTime first last least t line at (Refused 50)
   time-literal {n} {next} e = record { is = λ q a b. judged-bad q least (behind-time e ∙ two-bad t (literal n) (pieces 0 (drop next line))) }
@@ -285,8 +285,8 @@ time-stays before (time t) h = absurd h
 time-stays before (cell is vs) h = refl
 
 module _ (sizes : List ℕ) (fs : List Range) (fl first last least : ℕ) (line : List ℕ) {x : Lexed} (w : Lexes line 0 x) where
-  first-says : {y : Lexed} → x ≡ y → said-in (pieces 0 line) ≡ said-in (tokens-of line y)
-  first-says e = ap said-in (w .is ∙ ap (tokens-of line) e)
+  first-says : {y : Lexed} → x ≡ y → said-in (pieces 0 line) ≡ said-in (line-tokens line y)
+  first-says e = ap said-in (w .is ∙ ap (line-tokens line) e)
 
   pub line-blank : x ≡ End → JudgesLine (limits sizes fs fl first last) least line (Refused 50)
   line-blank e = record { is = judged-bad (limits sizes fs fl first last) least (first-says e ∙ blank-bad) }
@@ -338,7 +338,7 @@ pub ruleset LineWays = (line-blank, line-unreadable, line-time, line-sign, line-
 
 -- ---- the first line of a text from a position on
 
-module _ (text : List ℕ) (at : ℕ) (l : at < length text) {end : ℕ} (e : Ends text at end) where
+module _ (text : List ℕ) (at : ℕ) (l : at < length text) {end : ℕ} (e : LineEnds text at end) where
   pub last-line : length text ≤ end → said (drop at text) ≡ bad ∷ []
   last-line m =
       let a = e .is in
@@ -391,17 +391,17 @@ module _ (q : Limits) (text : List ℕ) where
   check-start = record { is = refl; within = omega arith; few = omega arith }
 
   module _ {least n at : ℕ} (w : Checking q text least n at) where
-    pub check-done : {r : declared.Verdict} → length text ≤ at → r ≡ answer 0 0 → Checks q text r
+    pub check-done : {r : declared.Verdict} → length text ≤ at → r ≡ answer 0 0 → ChecksLines q text r
     check-done l v =
         record { is = ap as-verdict v ∙ sym (w .is ∙ ap (λ (s : List ℕ). check-lines q (time-before least) n (said s)) (drop-of-length-le text l) ∙ ap (check-lines q (time-before least) n) said-nothing ∙ lines-none q (time-before least) n) }
 
-    module _ (l : at < length text) {end : ℕ} (e : Ends text at end) where
-      pub check-unended : {r : declared.Verdict} → length text ≤ end → r ≡ answer 50 n → Checks q text r
+    module _ (l : at < length text) {end : ℕ} (e : LineEnds text at end) where
+      pub check-unended : {r : declared.Verdict} → length text ≤ end → r ≡ answer 50 n → ChecksLines q text r
       check-unended m v =
           record { is = ap as-verdict v ∙ sym (w .is ∙ ap (check-lines q (time-before least) n) (last-line text at l e m) ∙ lines-refused q (time-before least) n bad [] 50 refl (omega arith)) }
 
       module _ (m : end < length text) {x : LineRead} (j : JudgesLine q least (take (end - at) (drop at text)) x) where
-        pub check-refused : {k : ℕ} {r : declared.Verdict} → x ≡ Refused k → r ≡ answer k n → Checks q text r
+        pub check-refused : {k : ℕ} {r : declared.Verdict} → x ≡ Refused k → r ≡ answer k n → ChecksLines q text r
         check-refused {k} f v =
             let h : Judged q least (said-in (pieces 0 (take (end - at) (drop at text)))) (Refused k) = subst (Judged q least (said-in (pieces 0 (take (end - at) (drop at text))))) f (j .is) in
             record {

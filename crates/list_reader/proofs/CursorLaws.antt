@@ -14,20 +14,21 @@ use Rattle.value.specs.Choice.{if_then_else_}
 use Rattle.value.proofs.Theorems.Laws.{never, and-both}
 use Rattle.automaton.specs.Shape.{product}
 use Rattle.program.specs.Syntax.{Program}
-use Rattle.semantics.specs.declared.Rule.{Rule}
-use Rattle.semantics.specs.Stands.{Holds}
-use Rattle.stepper.specs.Admission.{Request, Refusal, refusal, all-between, good-sizes, admission}
-use Rattle.stepper.specs.Contracts.Fitting.{held-fields}
-use Rattle.one_move.specs.Profile.{flag-told}
-use Rattle.lists.specs.Lines.{Said, bad, time, cell, said}
-use Rattle.lists.specs.ListChecking.{Limits, limits-of, Verdict, check-list}
-use Rattle.lists.specs.Setting.{set-lines, set-block}
-use Rattle.lists.proofs.Theorems.Told.{told-check}
-use Rattle.lists.specs.Passing.{Passes, passes-first, rises-told, starts-told, not-yet}
+use Rattle.cell_meaning.specs.declared.Rule.{Rule}
+use Rattle.cell_meaning.specs.Contracts.Stands.{Holds}
+use Rattle.program.specs.Refusal.{Refusal, refusal}
+use Rattle.run_meaning.specs.Admission.{Request, all-between, good-sizes, admission}
+use Rattle.run_meaning.specs.Contracts.Fitting.{held-fields}
+use Rattle.move_meaning.specs.Contracts.Flags.{flag-told}
+use Rattle.list_meaning.specs.Lines.{Said, bad, time, cell, said}
+use Rattle.list_meaning.specs.ListChecking.{Limits, limits-of, Verdict, check-list}
+use Rattle.list_meaning.specs.Setting.{set-lines, set-block}
+use Rattle.list_meaning.proofs.Theorems.Told.{told-check}
+use Rattle.list_meaning.specs.Contracts.Passing.{LinePasses, passes-first, rises-told, starts-told, not-yet}
 use Rattle.list_reader.specs.Contracts.Places.{Dimensions}
 use Rattle.list_reader.specs.Contracts.Values.{fields-in}
 use Rattle.list_reader.specs.declared.checking.Verdict as declared
-use Rattle.list_reader.specs.Contracts.Checks.{limits, Checks}
+use Rattle.list_reader.specs.Contracts.Checks.{limits, ChecksLines}
 use Rattle.list_reader.specs.declared.setting.Due.{Due}
 use Rattle.list_reader.specs.declared.setting.Due.the-variants.{Nothing, At}
 use Rattle.list_reader.specs.Contracts.Settings.{AtBlock, SetBlock, SetsLines, NextTime}
@@ -63,7 +64,7 @@ dimensions-are p q d e =
     record { few = omega arith; each = y .1 }
 
 -- a list with number 0 passes
-pub checked-passes : {q : Limits} {text : List ℕ} {r : declared.Verdict} → Checks q text r → r .number ≡ 0 → Passes q none 1 (said text)
+pub checked-passes : {q : Limits} {text : List ℕ} {r : declared.Verdict} → ChecksLines q text r → r .number ≡ 0 → LinePasses q none 1 (said text)
 unfolding check-list
 checked-passes c e = record { is = ap (λ (v : Verdict). v .number) (sym (c .is)) ∙ e }
 
@@ -77,7 +78,7 @@ is-at (At t behind) = true
 pub record Reached (q : Limits) (sizes : List ℕ) (fields : ℕ) (text : List ℕ) (now at : ℕ) : Type 0 where
   pub before : Option ℕ
   pub number : ℕ
-  pub passes : Passes q before number (said (drop at text))
+  pub passes : LinePasses q before number (said (drop at text))
   pub skips : (u : ℕ) → now ≤ u → (g : List ℤ) → set-block sizes fields text u g ≡ set-lines sizes fields u false g (said (drop at text))
   pub opens : AtBlock (said (drop at text))
   -- the block there is of the time `now` or later
@@ -96,7 +97,7 @@ block-other : (sizes : List ℕ) (fields t u : ℕ) (g : List ℤ) (ss : List Sa
 unfolding set-lines
 block-other sizes fields t u g ss d = ap (λ (b : Bool). set-lines sizes fields u b g ss) (ne-eqb t u d)
 
-start-opens : (q : Limits) (ss : List Said) → Passes q none 1 ss → AtBlock ss
+start-opens : (q : Limits) (ss : List Said) → LinePasses q none 1 ss → AtBlock ss
 start-opens q [] p = tt
 start-opens q (bad ∷ ss) p = let w = passes-first q none 1 bad ss p .0 in absurd (omega arith)
 start-opens q (time t ∷ ss) p = tt
@@ -104,7 +105,7 @@ start-opens q (cell is vs ∷ ss) p = let w = passes-first q none 1 (cell is vs)
 
 module _ (q : Limits) (sizes : List ℕ) (fields : ℕ) (text : List ℕ) where
   -- at the list's beginning
-  pub reached-start : Passes q none 1 (said text) → Reached q sizes fields text (q .first) 0
+  pub reached-start : LinePasses q none 1 (said text) → Reached q sizes fields text (q .first) 0
   unfolding set-block
   reached-start p =
       record {
@@ -113,7 +114,7 @@ module _ (q : Limits) (sizes : List ℕ) (fields : ℕ) (text : List ℕ) where
         passes = p;
         skips = λ u l g. refl;
         opens = start-opens q (said text) p;
-        ahead = λ t ss e. starts-told q none t (passes-first q none 1 (time t) ss (subst (Passes q none 1) e p) .0);
+        ahead = λ t ss e. starts-told q none t (passes-first q none 1 (time t) ss (subst (LinePasses q none 1) e p) .0);
       }
 
   -- no block of this time begins here: the cursor stays
@@ -159,11 +160,11 @@ module _ (q : Limits) (sizes : List ℕ) (fields : ℕ) (text : List ℕ) where
       pub later-due : (u : ℕ) → now ≤ u → u < t → (g : List ℤ) → set-block sizes fields text u g ≡ g
       later-due u l m g =
           w .skips u l g ∙ ap (set-lines sizes fields u false g) (lines-here .is)
-          ∙ not-yet q sizes fields (said (drop behind text)) (w .before) (w .number) u t (subst (Passes q (w .before) (w .number)) (lines-here .is) (w .passes)) m g
+          ∙ not-yet q sizes fields (said (drop behind text)) (w .before) (w .number) u t (subst (LinePasses q (w .before) (w .number)) (lines-here .is) (w .passes)) m g
 
       module _ (l : now ≤ t) (z : q .sizes ≡ sizes) {r′ : ℕ} {g h : List ℤ} (s : SetsLines sizes fields text behind r′ g h) where
         block : SetBlock q sizes fields t text behind r′ g h
-        block = s .is q t (suc (w .number)) z (passes-first q (w .before) (w .number) (time t) (said (drop behind text)) (subst (Passes q (w .before) (w .number)) (lines-here .is) (w .passes)) .1)
+        block = s .is q t (suc (w .number)) z (passes-first q (w .before) (w .number) (time t) (said (drop behind text)) (subst (LinePasses q (w .before) (w .number)) (lines-here .is) (w .passes)) .1)
 
         -- the block that is due is set
         pub due-set : set-block sizes fields text t g ≡ h
@@ -180,5 +181,5 @@ module _ (q : Limits) (sizes : List ℕ) (fields : ℕ) (text : List ℕ) where
                   w .skips u (omega arith) k ∙ ap (set-lines sizes fields u false k) (lines-here .is)
                   ∙ block-other sizes fields t u k (said (drop behind text)) (λ y. let v = y in omega arith) ∙ block .skips u k;
               opens = block .opens;
-              ahead = λ u ss e. omega (arith, rises-told q t u (passes-first q (some t) (block .number) (time u) ss (subst (Passes q (some t) (block .number)) e (block .passes)) .0));
+              ahead = λ u ss e. omega (arith, rises-told q t u (passes-first q (some t) (block .number) (time u) ss (subst (LinePasses q (some t) (block .number)) e (block .passes)) .0));
             }

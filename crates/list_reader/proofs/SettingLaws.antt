@@ -19,16 +19,16 @@ use Rattle.value.proofs.Theorems.Laws.{never}
 use Rattle.value.specs.declared.Value.{Value}
 use Rattle.automaton.specs.Shape as shape
 use Rattle.automaton.specs.Shape.{product}
-use Rattle.lists.specs.Text.{Piece, literal, sign, with-piece, pieces}
-use Rattle.lists.specs.Lines.{Said, bad, time, cell, Indexed, indices, with-value, values, assigned, cell-with, cell-of-index, said-by, said-in, said}
-use Rattle.lists.specs.ListChecking.{Limits, inside}
-use Rattle.lists.specs.Setting.{store-values, set-lines}
-use Rattle.lists.specs.Walking.{Placed, wrong, placed, place-from, placed-by, place-is, place-none, store-one, one-stored}
-use Rattle.lists.specs.Passing.{Passes, passes-first, block-ends}
-use Rattle.lists.proofs.Theorems.Kept.{right-cell}
+use Rattle.list_meaning.specs.Text.{Piece, literal, sign, with-piece, pieces}
+use Rattle.list_meaning.specs.Lines.{Said, bad, time, cell, Indexed, indices, before-values, values, assigned, cell-with, cell-of-index, said-by, said-in, said}
+use Rattle.list_meaning.specs.ListChecking.{Limits, inside}
+use Rattle.list_meaning.specs.Setting.{store-values, set-lines}
+use Rattle.list_meaning.specs.Contracts.Walking.{Placed, wrong, placed, place-from, placed-by, place-is, place-none, store-one, one-stored}
+use Rattle.list_meaning.specs.Contracts.Passing.{LinePasses, passes-first, block-ends}
+use Rattle.list_meaning.proofs.Theorems.Kept.{right-cell}
 use Rattle.list_reader.specs.declared.Lexed.{Lexed}
 use Rattle.list_reader.specs.declared.Lexed.the-variants.{Literal, Sign, End, Unreadable}
-use Rattle.list_reader.specs.Contracts.Promises.{Ends, tokens-of, Lexes}
+use Rattle.list_reader.specs.Contracts.Promises.{LineEnds, line-tokens, Lexes}
 use Rattle.list_reader.specs.declared.places.Place.{Place}
 use Rattle.list_reader.specs.declared.places.Place.the-variants as place
 use Rattle.list_reader.specs.Contracts.Places.{place-in, placed-with, placed-of, PlaceOnward, ReadsPlace}
@@ -36,7 +36,7 @@ use Rattle.list_reader.specs.declared.values.Given.{Given}
 use Rattle.list_reader.specs.declared.values.Given.the-variants as given
 use Rattle.list_reader.specs.declared.values.Valued.{Valued}
 use Rattle.list_reader.specs.declared.values.Valued.the-variants as valued
-use Rattle.list_reader.specs.Contracts.Values.{values-in, given-of, valued-of, ValuedOnward, ReadsValue}
+use Rattle.list_reader.specs.Contracts.Values.{line-values, given-of, valued-of, ValuedOnward, ReadsValue}
 use Rattle.list_reader.specs.Contracts.Checks.{cell-said}
 use Rattle.list_reader.specs.declared.setting.Due.the-variants.{Nothing, At}
 use Rattle.list_reader.specs.Contracts.Settings.{StoresValues, StoresCell, StoresLine, TellsTime, AtBlock, SetBlock, SetsLines, NextTime}
@@ -90,11 +90,11 @@ store-end g e = refl
 -- values are left to be stored from entry e on, which then make up a grid
 pub record Left (line : List ℕ) (here e : ℕ) (g whole : List ℤ) : Type 0 where
   pub rest : List (Option ℤ)
-  pub reads : values-in (pieces 0 (drop here line)) ≡ some rest
+  pub reads : line-values (pieces 0 (drop here line)) ≡ some rest
   pub stores : whole ≡ store-values g e rest
 
 pub record Storing (line : List ℕ) (at entry : ℕ) (g₀ : List ℤ) (here e : ℕ) (g : List ℤ) : Type 0 where
-  pub going : (vs : List (Option ℤ)) → values-in (pieces 0 (drop at line)) ≡ some vs → Left line here e g (store-values g₀ entry vs)
+  pub going : (vs : List (Option ℤ)) → line-values (pieces 0 (drop at line)) ≡ some vs → Left line here e g (store-values g₀ entry vs)
   pub within : here ≤ length line
 
 -- values with one in front
@@ -103,7 +103,7 @@ pub record Fronted (v : Option ℤ) (o : Option (List (Option ℤ))) (vs : List 
   pub is : o ≡ some rest
   pub whole : vs ≡ v ∷ rest
 
-fronted : (v : Option ℤ) (o : Option (List (Option ℤ))) (vs : List (Option ℤ)) → with-value v o ≡ some vs → Fronted v o vs
+fronted : (v : Option ℤ) (o : Option (List (Option ℤ))) (vs : List (Option ℤ)) → before-values v o ≡ some vs → Fronted v o vs
 fronted v none vs e = never (ap is-some e)
 fronted v (some ws) vs e = record { rest = ws; is = refl; whole = cc }
 
@@ -139,7 +139,7 @@ module _ (line : List ℕ) (at entry : ℕ) (g₀ : List ℤ) where
             record {
               going = λ vs p.
                   let k = w .going vs p in
-                  let t = fronted (given-of v) (values-in (pieces 0 (drop next line))) (k .rest) (sym (r .is ∙ ap (valued-of line) f) ∙ k .reads) in
+                  let t = fronted (given-of v) (line-values (pieces 0 (drop next line))) (k .rest) (sym (r .is ∙ ap (valued-of line) f) ∙ k .reads) in
                   record {
                     rest = t .rest;
                     reads = t .is;
@@ -202,7 +202,7 @@ assigned-nothing : (rest : List Piece) (vs : List (Option ℤ)) → some [] ≡ 
 unfolding assigned
 assigned-nothing rest vs e f = let h : [] ≡ rest = cc in never (ap is-some (ap assigned h ∙ f))
 
-assigned-sign : (b : ℕ) (o : Option (List Piece)) (rest : List Piece) (vs : List (Option ℤ)) → with-piece (sign b) o ≡ some rest → assigned rest ≡ some vs → values-in o ≡ some vs
+assigned-sign : (b : ℕ) (o : Option (List Piece)) (rest : List Piece) (vs : List (Option ℤ)) → with-piece (sign b) o ≡ some rest → assigned rest ≡ some vs → line-values o ≡ some vs
 unfolding assigned
 assigned-sign b none rest vs e f = never (ap is-read e)
 assigned-sign b (some ps) rest vs e f = let h : sign b ∷ ps ≡ rest = cc in by (eqb b 61) (ap assigned h ∙ f)
@@ -219,10 +219,10 @@ module _ (sizes : List ℕ) (fields : ℕ) (line : List ℕ) (at : ℕ) (g : Lis
   cell-nowhere e = record { is = λ is vs p l. never (ap is-placed (walked e (cell-told sizes (pieces 0 (drop at line)) is vs p l))) }
 
   module _ {out : Bool} {c next : ℕ} (e : x ≡ place.At out c next) {y : Lexed} (v : Lexes line next y) where
-    found : {z : Lexed} → y ≡ z → {is : List ℕ} {vs : List (Option ℤ)} → (k : CellTold sizes (pieces 0 (drop at line)) is vs) → (c ≡ shape.cell-number sizes is) × (tokens-of line z ≡ some (k .rest))
+    found : {z : Lexed} → y ≡ z → {is : List ℕ} {vs : List (Option ℤ)} → (k : CellTold sizes (pieces 0 (drop at line)) is vs) → (c ≡ shape.cell-number sizes is) × (line-tokens line z ≡ some (k .rest))
     found f {is} k =
         let h = placed-told out c (pieces 0 (drop next line)) (k .outside) (shape.cell-number sizes is) (k .rest) (walked e k) in
-        (h .0, sym (v .is ∙ ap (tokens-of line) f) ∙ h .1)
+        (h .0, sym (v .is ∙ ap (line-tokens line) f) ∙ h .1)
 
     pub cell-literal : {m past : ℕ} → y ≡ Literal m past → StoresCell sizes fields line at g g
     cell-literal {m} {past} f =
@@ -296,8 +296,8 @@ unfolding said-by
 blank-says = refl
 
 module _ (line : List ℕ) {x : Lexed} (w : Lexes line 0 x) where
-  says : {y : Lexed} → x ≡ y → said-in (pieces 0 line) ≡ said-in (tokens-of line y)
-  says e = ap said-in (w .is ∙ ap (tokens-of line) e)
+  says : {y : Lexed} → x ≡ y → said-in (pieces 0 line) ≡ said-in (line-tokens line y)
+  says e = ap said-in (w .is ∙ ap (line-tokens line) e)
 
   module _ (sizes : List ℕ) (fields : ℕ) (g : List ℤ) where
     pub line-literal : {t next : ℕ} → x ≡ Literal t next → StoresLine sizes fields line g g
@@ -348,10 +348,10 @@ pub record SetSoFar (q : Limits) (sizes : List ℕ) (fields t : ℕ) (text : Lis
   pub sets : set-lines sizes fields t true g₀ (said (drop from text)) ≡ set-lines sizes fields t true g (said (drop at text))
   pub skips : (u : ℕ) (k : List ℤ) → set-lines sizes fields u false k (said (drop from text)) ≡ set-lines sizes fields u false k (said (drop at text))
   pub number : ℕ
-  pub passes : Passes q (some t) number (said (drop at text))
+  pub passes : LinePasses q (some t) number (said (drop at text))
 
 pub record Setting (sizes : List ℕ) (fields : ℕ) (text : List ℕ) (from : ℕ) (g₀ : List ℤ) (at : ℕ) (g : List ℤ) : Type 0 where
-  pub going : (q : Limits) (t n : ℕ) → q .sizes ≡ sizes → Passes q (some t) n (said (drop from text)) → SetSoFar q sizes fields t text from at g₀ g
+  pub going : (q : Limits) (t n : ℕ) → q .sizes ≡ sizes → LinePasses q (some t) n (said (drop from text)) → SetSoFar q sizes fields t text from at g₀ g
   pub within : at ≤ length text
 
 -- the lines behind a cell's line
@@ -360,10 +360,10 @@ cell-set : (q : Limits) (sizes : List ℕ) (fields t : ℕ) (text : List ℕ) (f
     → ((is : List ℕ) (vs : List (Option ℤ)) → s ≡ cell is vs → length is ≡ length sizes → h ≡ store-values g (shape.cell-number sizes is * fields) vs)
     → SetSoFar q sizes fields t text from next g₀ h
 cell-set q sizes fields t text from at next g₀ g h z k bad e p f =
-    let w = passes-first q (some t) (k .number) bad (said (drop next text)) (subst (Passes q (some t) (k .number)) e (k .passes)) .0 in absurd (omega arith)
+    let w = passes-first q (some t) (k .number) bad (said (drop next text)) (subst (LinePasses q (some t) (k .number)) e (k .passes)) .0 in absurd (omega arith)
 cell-set q sizes fields t text from at next g₀ g h z k (time u) e p f = absurd (p u refl)
 cell-set q sizes fields t text from at next g₀ g h z k (cell is vs) e p f =
-    let w = passes-first q (some t) (k .number) (cell is vs) (said (drop next text)) (subst (Passes q (some t) (k .number)) e (k .passes)) in
+    let w = passes-first q (some t) (k .number) (cell is vs) (said (drop next text)) (subst (LinePasses q (some t) (k .number)) e (k .passes)) in
     let s = f is vs refl (right-cell q is vs (w .0) .counted ∙ ap length z) in
     record {
       sets = k .sets ∙ ap (set-lines sizes fields t true g) e ∙ set-cell sizes fields t g is vs (said (drop next text)) ∙ ap (λ (y : List ℤ). set-lines sizes fields t true y (said (drop next text))) (sym s);
@@ -377,10 +377,10 @@ time-ends : (q : Limits) (sizes : List ℕ) (fields t : ℕ) (text : List ℕ) (
     → (s : Said) → said (drop at text) ≡ s ∷ said (drop next text) → ((is : List ℕ) (vs : List (Option ℤ)) → s ≡ cell is vs → ⊥)
     → SetBlock q sizes fields t text from at g₀ g
 time-ends q sizes fields t text from at next g₀ g k bad e p =
-    let w = passes-first q (some t) (k .number) bad (said (drop next text)) (subst (Passes q (some t) (k .number)) e (k .passes)) .0 in absurd (omega arith)
+    let w = passes-first q (some t) (k .number) bad (said (drop next text)) (subst (LinePasses q (some t) (k .number)) e (k .passes)) .0 in absurd (omega arith)
 time-ends q sizes fields t text from at next g₀ g k (time u) e p =
     record {
-      sets = k .sets ∙ ap (set-lines sizes fields t true g) e ∙ block-ends q sizes fields (said (drop next text)) t (k .number) u (subst (Passes q (some t) (k .number)) e (k .passes)) g;
+      sets = k .sets ∙ ap (set-lines sizes fields t true g) e ∙ block-ends q sizes fields (said (drop next text)) t (k .number) u (subst (LinePasses q (some t) (k .number)) e (k .passes)) g;
       skips = k .skips;
       number = k .number;
       passes = k .passes;
@@ -403,13 +403,13 @@ module _ (sizes : List ℕ) (fields : ℕ) (text : List ℕ) (from : ℕ) (g₀ 
           within = w .within;
         }
 
-    module _ (l : at < length text) {end : ℕ} (e : Ends text at end) where
+    module _ (l : at < length text) {end : ℕ} (e : LineEnds text at end) where
       pub set-unended : length text ≤ end → SetsLines sizes fields text from at g₀ g
       set-unended m =
           record {
             is = λ q t n z p.
                 let k = w .going q t n z p in
-                let v = passes-first q (some t) (k .number) bad [] (subst (Passes q (some t) (k .number)) (last-line text at l e m) (k .passes)) .0 in
+                let v = passes-first q (some t) (k .number) bad [] (subst (LinePasses q (some t) (k .number)) (last-line text at l e m) (k .passes)) .0 in
                 absurd (omega arith);
             within = w .within;
           }
@@ -455,7 +455,7 @@ module _ (text : List ℕ) (at : ℕ) where
       let e : said (drop at text) ≡ [] = ap said (drop-of-length-le text l) ∙ said-nothing in
       record { ends = λ p. refl; begins = λ t ss p. never (ap has-line (sym e ∙ p)) }
 
-  module _ (l : at < length text) {end : ℕ} (e : Ends text at end) where
+  module _ (l : at < length text) {end : ℕ} (e : LineEnds text at end) where
     pub due-unended : length text ≤ end → NextTime text at Nothing
     due-unended m = record { ends = λ p. refl; begins = λ t ss p. never (ap (λ (x : List Said). is-time (first-said x)) (sym (last-line text at l e m) ∙ p)) }
 

@@ -16,26 +16,26 @@ use Rattle.value.specs.Number.{within, eqZ}
 use Rattle.value.proofs.Theorems.Laws.{never}
 use Rattle.value.specs.Worked.{value, decode-of}
 use Rattle.value.specs.declared.Value.{Value}
-use Rattle.automaton.specs.Listed.{length-list-of, getD-list-of}
+use Rattle.automaton.specs.Contracts.ListedLaws.{length-list-of, getD-list-of}
 use Rattle.program.specs.Syntax.{Range, no-range}
-use Rattle.semantics.specs.declared.Rule.{Rule}
-use Rattle.semantics.specs.Evaluation.{in-field}
-use Rattle.semantics.specs.Stands.{rule-table, range-in}
+use Rattle.cell_meaning.specs.declared.Rule.{Rule}
+use Rattle.cell_meaning.specs.Evaluation.{in-field}
+use Rattle.cell_meaning.specs.Contracts.Stands.{rule-table, range-in}
 use Rattle.token.specs.Contracts.Promises.{too-large}
-use Rattle.lists.specs.Text.{Piece, literal, sign, with-piece, pieces}
-use Rattle.lists.specs.Lines.{with-value, plus-or-minus, signed, values, under-sign, behind}
-use Rattle.lists.specs.ListChecking.{value-fits, all-fit}
-use Rattle.lists.specs.Walking.{head-fits, none-left, rest-of, keeps-flag, values-number, one-value}
+use Rattle.list_meaning.specs.Text.{Piece, literal, sign, with-piece, pieces}
+use Rattle.list_meaning.specs.Lines.{before-values, plus-or-minus, signed, values, under-sign, behind}
+use Rattle.list_meaning.specs.ListChecking.{value-fits, all-fit}
+use Rattle.list_meaning.specs.Contracts.Walking.{head-fits, none-left, rest-of, keeps-flag, values-number, one-value}
 use Rattle.list_reader.specs.declared.Lexed.{Lexed}
 use Rattle.list_reader.specs.declared.Lexed.the-variants.{Literal, Sign, End, Unreadable}
-use Rattle.list_reader.specs.Contracts.Promises.{tokens-of, Onward, Lexes}
+use Rattle.list_reader.specs.Contracts.Promises.{line-tokens, LineOnward, Lexes}
 use Rattle.list_reader.specs.declared.values.Given.{Given}
 use Rattle.list_reader.specs.declared.values.Given.the-variants as given
 use Rattle.list_reader.specs.declared.values.Signed.{Signed}
 use Rattle.list_reader.specs.declared.values.Signed.the-variants as signed
 use Rattle.list_reader.specs.declared.values.Valued.{Valued}
 use Rattle.list_reader.specs.declared.values.Valued.the-variants as valued
-use Rattle.list_reader.specs.Contracts.Values.{values-in, under-in, behind-in, given-of, signed-of, valued-of, SignedOnward, ValuedOnward, ReadsSigned, ReadsBehind, ReadsValue, fields-in, count-number, StillFits, StillKept, NumbersValues}
+use Rattle.list_reader.specs.Contracts.Values.{line-values, under-in, behind-in, given-of, signed-of, valued-of, SignedOnward, ValuedOnward, ReadsSigned, ReadsBehind, ReadsValue, fields-in, count-number, StillFits, StillKept, NumbersValues}
 
 -- ---- a sign and a literal under it
 
@@ -88,7 +88,7 @@ unfolding values
 behind-two v n none = refl
 behind-two v n (some ps) = refl
 
-behind-comma : (v : Option ℤ) (o : Option (List Piece)) → behind-in v (with-piece (sign 44) o) ≡ with-value v (values-in o)
+behind-comma : (v : Option ℤ) (o : Option (List Piece)) → behind-in v (with-piece (sign 44) o) ≡ before-values v (line-values o)
 unfolding values
 behind-comma v none = refl
 behind-comma v (some ps) = refl
@@ -98,26 +98,26 @@ unfolding values
 behind-other v k none d = refl
 behind-other v k (some ps) d = rw (ne-eqb k 44 d)
 
-behind-last : (v : Option ℤ) → behind v [] ≡ with-value v (some [])
+behind-last : (v : Option ℤ) → behind v [] ≡ before-values v (some [])
 unfolding values
 behind-last v = refl
 
-values-literal : (n : ℕ) (o : Option (List Piece)) → values-in (with-piece (literal n) o) ≡ behind-in (some (pos n)) o
+values-literal : (n : ℕ) (o : Option (List Piece)) → line-values (with-piece (literal n) o) ≡ behind-in (some (pos n)) o
 unfolding values
 values-literal n none = refl
 values-literal n (some ps) = refl
 
-values-comma : (o : Option (List Piece)) → values-in (with-piece (sign 44) o) ≡ with-value none (values-in o)
+values-comma : (o : Option (List Piece)) → line-values (with-piece (sign 44) o) ≡ before-values none (line-values o)
 unfolding values
 values-comma none = refl
 values-comma (some ps) = refl
 
-values-sign : (k : ℕ) (o : Option (List Piece)) → (k ≡ 44 → ⊥) → values-in (with-piece (sign k) o) ≡ under-in k o
+values-sign : (k : ℕ) (o : Option (List Piece)) → (k ≡ 44 → ⊥) → line-values (with-piece (sign k) o) ≡ under-in k o
 unfolding values
 values-sign k none d = refl
 values-sign k (some ps) d = rw (ne-eqb k 44 d)
 
-values-end : values [] ≡ with-value none (some [])
+values-end : values [] ≡ before-values none (some [])
 unfolding values
 values-end = refl
 
@@ -125,17 +125,17 @@ values-end = refl
 
 module _ (line : List ℕ) (at : ℕ) where
   module _ {x : Lexed} (w : Lexes line at x) where
-    tokens-are : {y : Lexed} → x ≡ y → pieces 0 (drop at line) ≡ tokens-of line y
-    tokens-are e = w .is ∙ ap (tokens-of line) e
+    tokens-are : {y : Lexed} → x ≡ y → pieces 0 (drop at line) ≡ line-tokens line y
+    tokens-are e = w .is ∙ ap (line-tokens line) e
 
     pub literal-past : {n next : ℕ} → x ≡ Literal n next → next ≤ length line
-    literal-past {n} {next} e = let o : Onward line at (Literal n next) = subst (Onward line at) e (w .onward) in o .1
+    literal-past {n} {next} e = let o : LineOnward line at (Literal n next) = subst (LineOnward line at) e (w .onward) in o .1
 
     pub literal-small : {n next : ℕ} → x ≡ Literal n next → n < too-large
-    literal-small {n} {next} e = let o : Onward line at (Literal n next) = subst (Onward line at) e (w .onward) in o .2
+    literal-small {n} {next} e = let o : LineOnward line at (Literal n next) = subst (LineOnward line at) e (w .onward) in o .2
 
     pub sign-past : {b next : ℕ} → x ≡ Sign b next → next ≤ length line
-    sign-past {b} {next} e = let o : Onward line at (Sign b next) = subst (Onward line at) e (w .onward) in o .1
+    sign-past {b} {next} e = let o : LineOnward line at (Sign b next) = subst (LineOnward line at) e (w .onward) in o .1
 
     module _ (k : ℕ) where
       pub signed-sign : {b next : ℕ} → x ≡ Sign b next → ReadsSigned line k at signed.Bad
@@ -153,7 +153,7 @@ module _ (line : List ℕ) (at : ℕ) where
 
         pub signed-number : {v : Value} → t ≡ true → v ≡ value (signed k n) → ReadsSigned line k at (signed.Number v next)
         signed-number {v} f g =
-            let o : Onward line at (Literal n next) = subst (Onward line at) e (w .onward) in
+            let o : LineOnward line at (Literal n next) = subst (LineOnward line at) e (w .onward) in
             record {
               is = ap (under-in k) (tokens-are e) ∙ under-some k (pieces 0 (drop next line)) (sym s ∙ f) n
                   ∙ ap (λ (y : Value). behind-in (some (y .n)) (pieces 0 (drop next line))) (sym g);
@@ -180,7 +180,7 @@ module _ (line : List ℕ) (at : ℕ) where
         behind-more d =
             record {
               is = ap (behind-in (given-of v)) (tokens-are e) ∙ ap (λ (y : ℕ). behind-in (given-of v) (with-piece (sign y) (pieces 0 (drop next line)))) d ∙ behind-comma (given-of v) (pieces 0 (drop next line));
-              onward = subst (Onward line at) e (w .onward);
+              onward = subst (LineOnward line at) e (w .onward);
             }
 
     -- ---- a value
@@ -191,42 +191,42 @@ module _ (line : List ℕ) (at : ℕ) where
     onward-from past l (valued.More v next) h = (let a = h .0 in omega arith, h .1)
 
     pub value-unreadable : x ≡ Unreadable → ReadsValue line at valued.Bad
-    value-unreadable e = record { is = ap values-in (tokens-are e); onward = tt }
+    value-unreadable e = record { is = ap line-values (tokens-are e); onward = tt }
 
     pub value-end : x ≡ End → ReadsValue line at (valued.Last given.Missing)
-    value-end e = record { is = ap values-in (tokens-are e) ∙ values-end; onward = tt }
+    value-end e = record { is = ap line-values (tokens-are e) ∙ values-end; onward = tt }
 
     pub value-literal : {n next : ℕ} {v : Value} {y : Valued} → x ≡ Literal n next → v ≡ value (decode-of n) → ReadsBehind line (given.Number v) next y → ReadsValue line at y
     value-literal {n} {next} {v} {y} e f h =
-        let o : Onward line at (Literal n next) = subst (Onward line at) e (w .onward) in
+        let o : LineOnward line at (Literal n next) = subst (LineOnward line at) e (w .onward) in
         let p : value (decode-of n) ≡ value (pos n) = rw (lt-ltb n 2147483648 (o .2)) in
         record {
-          is = ap values-in (tokens-are e) ∙ values-literal n (pieces 0 (drop next line))
+          is = ap line-values (tokens-are e) ∙ values-literal n (pieces 0 (drop next line))
               ∙ ap (λ (z : Value). behind-in (some (z .n)) (pieces 0 (drop next line))) (sym (f ∙ p)) ∙ h .is;
           onward = onward-from next (o .0) y (h .onward);
         }
 
     module _ {b next : ℕ} (e : x ≡ Sign b next) where
       sign-onward : (at < next) × (next ≤ length line)
-      sign-onward = subst (Onward line at) e (w .onward)
+      sign-onward = subst (LineOnward line at) e (w .onward)
 
       pub value-missing : b ≡ 44 → ReadsValue line at (valued.More given.Missing next)
       value-missing d =
           record {
-            is = ap values-in (tokens-are e) ∙ ap (λ (y : ℕ). values-in (with-piece (sign y) (pieces 0 (drop next line)))) d ∙ values-comma (pieces 0 (drop next line));
+            is = ap line-values (tokens-are e) ∙ ap (λ (y : ℕ). line-values (with-piece (sign y) (pieces 0 (drop next line)))) d ∙ values-comma (pieces 0 (drop next line));
             onward = sign-onward;
           }
 
       module _ (d : b ≡ 44 → ⊥) {s : Signed} (r : ReadsSigned line b next s) where
         pub value-bad : s ≡ signed.Bad → ReadsValue line at valued.Bad
         value-bad f =
-            record { is = ap values-in (tokens-are e) ∙ values-sign b (pieces 0 (drop next line)) d ∙ r .is ∙ ap (signed-of line) f; onward = tt }
+            record { is = ap line-values (tokens-are e) ∙ values-sign b (pieces 0 (drop next line)) d ∙ r .is ∙ ap (signed-of line) f; onward = tt }
 
         pub value-signed : {v : Value} {past : ℕ} {y : Valued} → s ≡ signed.Number v past → ReadsBehind line (given.Number v) past y → ReadsValue line at y
         value-signed {v} {past} {y} f h =
             let o : SignedOnward line next (signed.Number v past) = subst (SignedOnward line next) f (r .onward) in
             record {
-              is = ap values-in (tokens-are e) ∙ values-sign b (pieces 0 (drop next line)) d ∙ r .is ∙ ap (signed-of line) f ∙ h .is;
+              is = ap line-values (tokens-are e) ∙ values-sign b (pieces 0 (drop next line)) d ∙ r .is ∙ ap (signed-of line) f ∙ h .is;
               onward = onward-from past (let a = sign-onward .0 in let c = o .0 in omega arith) y (h .onward);
             }
 
@@ -347,7 +347,7 @@ rest-next fs k = by (ltb k (length fs)) refl
 
 -- the values go on at `here` with the fields from k on
 pub record Valuing (fs : List Range) (fl : ℕ) (line : List ℕ) (at : ℕ) (fit kept : Bool) (k here : ℕ) : Type 0 where
-  pub is : values-number fs fl 0 false true true (values-in (pieces 0 (drop at line))) ≡ values-number (drop k fs) fl k (ltb (length fs) k) fit kept (values-in (pieces 0 (drop here line)))
+  pub is : values-number fs fl 0 false true true (line-values (pieces 0 (drop at line))) ≡ values-number (drop k fs) fl k (ltb (length fs) k) fit kept (line-values (pieces 0 (drop here line)))
   pub within : here ≤ length line
   pub few : k ≤ here
 
@@ -364,10 +364,10 @@ last-number rs fl k over fit kept = by over fit kept (le-ltb (length rs) 0 (omeg
 
 module _ (fs : List Range) (fl : ℕ) (line : List ℕ) (at : ℕ) where
   pub values-start : at ≤ length line → Valuing fs fl line at true true 0 at
-  values-start l = record { is = ap (λ (o : Bool). values-number fs fl 0 o true true (values-in (pieces 0 (drop at line)))) (sym (le-ltb (length fs) 0 (omega arith))); within = l; few = omega arith }
+  values-start l = record { is = ap (λ (o : Bool). values-number fs fl 0 o true true (line-values (pieces 0 (drop at line)))) (sym (le-ltb (length fs) 0 (omega arith))); within = l; few = omega arith }
 
   module _ {fit kept : Bool} {k here : ℕ} (w : Valuing fs fl line at fit kept k here) {x : Valued} (r : ReadsValue line here x) where
-    left : {y : Valued} → x ≡ y → values-number fs fl 0 false true true (values-in (pieces 0 (drop at line))) ≡ values-number (drop k fs) fl k (ltb (length fs) k) fit kept (valued-of line y)
+    left : {y : Valued} → x ≡ y → values-number fs fl 0 false true true (line-values (pieces 0 (drop at line))) ≡ values-number (drop k fs) fl k (ltb (length fs) k) fit kept (valued-of line y)
     left {y} e = w .is ∙ ap (values-number (drop k fs) fl k (ltb (length fs) k) fit kept) (r .is ∙ ap (valued-of line) e)
 
     pub values-bad : x ≡ valued.Bad → NumbersValues fs fl line at 50
@@ -375,7 +375,7 @@ module _ (fs : List Range) (fl : ℕ) (line : List ℕ) (at : ℕ) where
 
     module _ {v : Given} {fit′ kept′ : Bool} (s : StillFits fs k v fit fit′) (u : StillKept fl k v kept kept′) where
       stepped : (o : Option (List (Option ℤ)))
-          → values-number (drop k fs) fl k (ltb (length fs) k) fit kept (with-value (given-of v) o) ≡ values-number (drop (k + 1) fs) fl (k + 1) (ltb (length fs) (k + 1)) fit′ kept′ o
+          → values-number (drop k fs) fl k (ltb (length fs) k) fit kept (before-values (given-of v) o) ≡ values-number (drop (k + 1) fs) fl (k + 1) (ltb (length fs) (k + 1)) fit′ kept′ o
       stepped o =
           one-value (drop k fs) fl k (ltb (length fs) k) fit kept (given-of v) o
           ∙ ap₂ (λ (rs : List Range) (a : Bool). values-number rs fl (suc k) a (fit && head-fits (drop k fs) (given-of v)) (kept && keeps-flag fl k (given-of v)) o) (rest-next fs k) (over-next fs k)
@@ -385,7 +385,7 @@ module _ (fs : List Range) (fl : ℕ) (line : List ℕ) (at : ℕ) where
       pub values-more : {next : ℕ} → x ≡ valued.More v next → Valuing fs fl line at fit′ kept′ (k + 1) next
       values-more {next} e =
           let o : ValuedOnward line here (valued.More v next) = subst (ValuedOnward line here) e (r .onward) in
-          record { is = left e ∙ stepped (values-in (pieces 0 (drop next line))); within = o .1; few = let a = o .0 in let b = w .few in omega arith }
+          record { is = left e ∙ stepped (line-values (pieces 0 (drop next line))); within = o .1; few = let a = o .0 in let b = w .few in omega arith }
 
       pub values-done : {n number : ℕ} → x ≡ valued.Last v → length fs ≡ n → number ≡ count-number n (k + 1) fit′ kept′ → NumbersValues fs fl line at number
       values-done {n} {number} e f g =

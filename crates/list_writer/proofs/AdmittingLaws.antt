@@ -14,16 +14,17 @@ use borrow.Author.Tests.{eq-eqb, ne-eqb, eqb-true, lt-ltb, le-ltb, leb-true}
 use Rattle.value.proofs.Theorems.Laws.{and-both}
 use Rattle.automaton.specs.Shape.{product}
 use Rattle.program.specs.Syntax.{Program}
-use Rattle.semantics.specs.declared.Rule.{Rule}
-use Rattle.semantics.specs.Stands.{Holds}
-use Rattle.stepper.specs.Admission.{Refusal, refusal, all-between, good-sizes, admission}
-use Rattle.stepper.specs.Contracts.Fitting.{Sized}
-use Rattle.admission.specs.declared.admitting.Admitted.{Admitted}
-use Rattle.admission.specs.declared.Refusal as declared
-use Rattle.admission.specs.Contracts.Admitting.{cells-of, request-of, Admits}
-use Rattle.admission.proofs.RequestLaws.{cells-in}
-use Rattle.lists.specs.Writing.{lower, writing-admission}
-use Rattle.lists.proofs.Theorems.RoundTrip.{lower-told}
+use Rattle.cell_meaning.specs.declared.Rule.{Rule}
+use Rattle.cell_meaning.specs.Contracts.Stands.{Holds}
+use Rattle.program.specs.Refusal.{Refusal, refusal}
+use Rattle.run_meaning.specs.Admission.{all-between, good-sizes, admission}
+use Rattle.run_meaning.specs.Contracts.Fitting.{Sized}
+use Rattle.run_admission.specs.declared.admitting.Admitted.{Admitted}
+use Rattle.run_admission.specs.declared.Refusal as declared
+use Rattle.run_admission.specs.Contracts.Admitting.{cells-of, request-of, Admits}
+use Rattle.run_admission.proofs.RequestLaws.{cells-in}
+use Rattle.list_meaning.specs.Writing.{lower, writing-admission}
+use Rattle.list_meaning.proofs.Theorems.RoundTrip.{lower-told}
 use Rattle.list_writer.specs.WriterCalls.{wanted}
 use Rattle.list_writer.specs.Contracts.Admitting.{CountsCells, AdmitsGrid, AdmitsBoth}
 

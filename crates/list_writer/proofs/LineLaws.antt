@@ -11,14 +11,15 @@ use lib.ListN.{length, getD, take, drop, length-append, length-drop}
 use lib.Seq.{length-take-le, ext-getD, getD-take, getD-drop}
 use lib.IntN.{ℤ, pos}
 use borrow.Author.Tests.{not-true, not-false}
-use Rattle.automaton.specs.Listed.{list-of, length-list-of, getD-list-of}
+use Rattle.automaton.specs.Listed.{list-of}
+use Rattle.automaton.specs.Contracts.ListedLaws.{length-list-of, getD-list-of}
 use Rattle.automaton.specs.Shape.{product, coordinates}
-use Rattle.automaton.specs.ShapeLaws.{inside-length, coordinates-inside}
+use Rattle.automaton.specs.Contracts.ShapeLaws.{inside-length, coordinates-inside}
 use Rattle.automaton.specs.Grid.{cell-of, differ}
 use Rattle.automaton.proofs.Theorems.GridLaws.{cell-room}
-use Rattle.reply_line.proofs.Lines.{digits-length}
-use Rattle.lists.specs.Writing.{print-number, print-field, listed, cell-line, shown, cells-text, written-text}
-use Rattle.lists.specs.Showing.{length-shown}
+use Rattle.tool_reply_line.proofs.Lines.{digits-length}
+use Rattle.list_meaning.specs.Writing.{print-number, print-field, listed, cell-line, shown, cells-text, written-text}
+use Rattle.list_meaning.specs.Contracts.Showing.{length-shown}
 use Rattle.list_writer.specs.Contracts.Printing.{Puts, PutsDigits}
 use Rattle.list_writer.specs.Contracts.Lines.{Grids, changed-line}
 use Rattle.list_writer.proofs.PrintingLaws.{puts-nothing, and-then, number-put, field-length, listed-length}

@@ -18,10 +18,10 @@ use borrow.Author.Tests.{lt-ltb, le-ltb, le-leb, not-true, not-false}
 use Rattle.value.specs.Number.{in-range, eqZ}
 use Rattle.value.specs.Worked.{encode-of, decode-of}
 use Rattle.value.proofs.Theorems.Laws.{decode-encode, sub-lt}
-use Rattle.grammar.specs.Answer.{digits-of}
-use Rattle.reply_line.proofs.Lines.{one-digit, more-digits, digits-length}
-use Rattle.lists.specs.Writing.{print-number, print-value, print-field, listed, shown}
-use Rattle.lists.specs.Showing.{length-shown, field-shown, shown-at}
+use Rattle.grammar.specs.Decimal.{digits-of}
+use Rattle.tool_reply_line.proofs.Lines.{one-digit, more-digits, digits-length}
+use Rattle.list_meaning.specs.Writing.{print-number, print-value, print-field, listed, shown}
+use Rattle.list_meaning.specs.Contracts.Showing.{length-shown, field-shown, shown-at}
 use Rattle.list_writer.specs.Contracts.Printing.{Puts, PutsDigits, separator}
 
 -- ---- one text behind another

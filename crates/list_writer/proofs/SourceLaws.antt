@@ -5,19 +5,18 @@ use mathlib.Core.Path.{_≡_, refl, sym, _∙_, subst}
 use mathlib.Core.Bool.{Bool, true}
 use mathlib.Core.List.{List}
 use lib.ListN.{length}
-use Rattle.names.specs.Names.{name-words}
 use Rattle.grammar.specs.Source.{Accepted}
 use Rattle.grammar.specs.Checking.{accepted, rooms-fit, read-source}
-use Rattle.semantics.specs.declared.Rule.{Rule}
-use Rattle.semantics.specs.Stands.{Holds}
-use Rattle.semantics.specs.Written.{relatives-in}
-use Rattle.linking.proofs.Theorems.Accepted.{written}
-use Rattle.stepper.specs.Contracts.Fitting.{Sized}
-use Rattle.checker.specs.declared.checking.Outline.{Outline}
-use Rattle.checker.specs.Contracts.Promises.{Trace, Outlines, accepted-by, Loads, Checks}
-use Rattle.profile.specs.Contracts.Standing.{rule-in, Stood}
-use Rattle.profile.proofs.StandingLaws.{linked-by, parsed-by, rule-by, sized, stood}
-use Rattle.admission.specs.Contracts.Admitting.{Lists}
+use Rattle.cell_meaning.specs.declared.Rule.{Rule}
+use Rattle.cell_meaning.specs.Contracts.Stands.{Holds}
+use Rattle.cell_meaning.specs.Written.{relatives-in}
+use Rattle.read_links.proofs.Theorems.Accepted.{written}
+use Rattle.run_meaning.specs.Contracts.Fitting.{Sized}
+use Rattle.read_source.specs.declared.checking.Outline.{Outline}
+use Rattle.read_source.specs.Contracts.Promises.{Trace, Outlines, accepted-by, Loads, Checks}
+use Rattle.move_profile.specs.Contracts.Standing.{rule-in, Stood}
+use Rattle.move_profile.proofs.StandingLaws.{linked-by, parsed-by, rule-by, sized, stood}
+use Rattle.run_admission.specs.Contracts.Admitting.{Lists}
 
 -- what is known of a source that is accepted, and of the rule that is made of its outline
 pub record Read (fit : Bool) (source words names : List ℕ) (rule : Rule) : Type 0 where

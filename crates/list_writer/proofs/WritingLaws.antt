@@ -18,26 +18,26 @@ use borrow.Author.Tests.{eq-eqb, ne-eqb, lt-ltb, le-ltb, not-true, not-false}
 use Rattle.value.proofs.Theorems.Laws.{never}
 use Rattle.token.specs.Lexeme.{is-built-in}
 use Rattle.program.specs.Syntax.{Program}
-use Rattle.grammar.specs.Complaint.{Complaint, complaint}
+use Rattle.program.specs.Refusal.{Refusal, refusal}
 use Rattle.grammar.specs.Checking as checking
-use Rattle.grammar.specs.Checking.{Outcome, turned-away, accepted, rooms-fit, read-source, check, words-after, names-after}
-use Rattle.semantics.specs.declared.Rule.{Rule}
-use Rattle.stepper.specs.Admission.{Refusal, refusal}
-use Rattle.stepper.specs.Contracts.Fitting.{held-fields}
-use Rattle.services.specs.Calls.{NameForm, flat-names, names-left}
-use Rattle.checker.specs.declared.checking.Outline.{Outline}
-use Rattle.checker.specs.Contracts.Promises.{Loads, Checks, is-accepted}
-use Rattle.admission.specs.declared.Refusal as declared
-use Rattle.one_move.specs.Profile.{profile-flag}
-use Rattle.profile.specs.Contracts.Standing.{rule-in}
-use Rattle.profile.specs.Contracts.Flags.{FlagOf}
-use Rattle.lists.proofs.Theorems.Told.{told-text}
-use Rattle.lists.specs.Writing.{written-text, Wanted, Wrote, unwritten, put-text, writing-admission, write, write-read, write-source}
+use Rattle.grammar.specs.Checking.{SourceRead, turned-away, accepted, rooms-fit, read-source, check, words-after}
+use Rattle.grammar.specs.Contracts.Flat.{names-after}
+use Rattle.cell_meaning.specs.declared.Rule.{Rule}
+use Rattle.run_meaning.specs.Contracts.Fitting.{held-fields}
+use Rattle.run_calls.specs.Calls.{NameForm, flat-names, SourceLent, source-fits, names-left}
+use Rattle.read_source.specs.declared.checking.Outline.{Outline}
+use Rattle.read_source.specs.Contracts.Promises.{Loads, Checks, is-accepted}
+use Rattle.run_admission.specs.declared.Refusal as declared
+use Rattle.move_meaning.specs.Profile.{profile-flag}
+use Rattle.move_profile.specs.Contracts.Standing.{rule-in}
+use Rattle.move_profile.specs.Contracts.Flags.{FlagOf}
+use Rattle.list_meaning.proofs.Theorems.Told.{told-text}
+use Rattle.list_meaning.specs.Writing.{written-text, Wanted, Wrote, unwritten, put-text, writing-admission, write, write-read, write-source}
 use Rattle.list_writer.specs.declared.Written.{Written}
-use Rattle.list_writer.specs.WriterCalls.{WriterLent, wanted, writer-fits, writer-left}
+use Rattle.list_writer.specs.WriterCalls.{wanted, writer-left, wrote-of}
 use Rattle.list_writer.specs.Contracts.Printing.{Puts}
 use Rattle.list_writer.specs.Contracts.Admitting.{Timely, AdmitsBoth}
-use Rattle.list_writer.specs.Contracts.Writing.{wrote-of, WritesLoaded, WritesSource, WriterLeaves}
+use Rattle.list_writer.specs.Contracts.Writing.{WritesLoaded, WritesSource, WriterLeaves}
 use Rattle.list_writer.proofs.SourceLaws.{Read, source-read}
 
 -- ---- the room
@@ -103,14 +103,14 @@ read-loaded {words} {rule} {told} {sizes} {earlier} {later} {time} {room} {r} {r
 
 -- ---- a source
 
-module _ (fit : Bool) (source : List ℕ) (q : Wanted) (room : List ℕ) {n i : ℕ} (reply : complaint n i ≡ check fit source) where
+module _ (fit : Bool) (source : List ℕ) (q : Wanted) (room : List ℕ) {n i : ℕ} (reply : refusal n i ≡ check fit source) where
   not-read : is-accepted (read-source fit source) ≡ false → unwritten n i room ≡ write-source fit source q room
   unfolding write-source check
   not-read e = by (read-source fit source) reply e
     where
-      by : (r : Outcome) → complaint n i ≡ checking.reply-of r → is-accepted r ≡ false → unwritten n i room ≡ write-read source q room r
-      by (turned-away k j) c d = ap (λ (x : Complaint). unwritten (x .number) (x .place) room) c
-      by (checking.refused k j) c d = ap (λ (x : Complaint). unwritten (x .number) (x .place) room) c
+      by : (r : SourceRead) → refusal n i ≡ checking.reply-of r → is-accepted r ≡ false → unwritten n i room ≡ write-read source q room r
+      by (turned-away k j) c d = ap (λ (x : Refusal). unwritten (x .number) (x .place) room) c
+      by (checking.refused k j) c d = ap (λ (x : Refusal). unwritten (x .number) (x .place) room) c
       by (accepted a) c d = never (sym d)
 
 module _ {source ws ns : List ℕ} {known : Bool} {o : Outline} {n i : ℕ} {ws′ ns′ : List ℕ} (checked : Checks (rooms-fit (length ws) (length ns)) source ws ns n i ws′ ns′) (loaded : Loads source ws ns known o)
@@ -145,24 +145,24 @@ read-written {fit} {source} {sizes} {earlier} {later} {time} {ws} {ns} {room} {r
 
 -- ---- the call
 
-pub left-by : {N : Type 0} {form : NameForm N} {l : WriterLent N} {r : Written} {words : List ℕ} {names : List N} {room : List ℕ} → wrote-of r room ≡ write-source (writer-fits form l) (l .source) (l .wanted) (l .room)
-    → words ≡ words-after (writer-fits form l) (l .source) (l .words) → names ≡ names-left form (writer-fits form l) (l .source) (l .names) → WriterLeaves form l r words names room
+pub left-by : {N : Type 0} {form : NameForm N} {l : SourceLent N} {q : Wanted} {room : List ℕ} {r : Written} {words : List ℕ} {names : List N} {room′ : List ℕ} → wrote-of r room′ ≡ write-source (source-fits form l) (l .source) q room
+    → words ≡ words-after (source-fits form l) (l .source) (l .words) → names ≡ names-left form (source-fits form l) (l .source) (l .names) → WriterLeaves form l q room r words names room′
 unfolding writer-left
-left-by e w n = record { is = λ i. record { wrote = e i; words = w i; names = n i } }
+left-by e w n = record { is = λ i. record { answer = e i; words = w i; names = n i } }
 
 -- another list than the built-in one: nothing is read, and nothing changes
-pub unlisted-writer : {N : Type 0} (form : NameForm N) (l : WriterLent N) → writer-fits form l ≡ false → WriterLeaves form l (record { number = 1; place = 0; length = 0 }) (l .words) (l .names) (l .room)
+pub unlisted-writer : {N : Type 0} (form : NameForm N) (l : SourceLent N) (q : Wanted) (room : List ℕ) → source-fits form l ≡ false → WriterLeaves form l q room (record { number = 1; place = 0; length = 0 }) (l .words) (l .names) room
 unfolding write-source words-after read-source
-unlisted-writer form l e = left-by (rw e) (rw e) (rw e)
+unlisted-writer form l q room e = left-by (rw e) (rw e) (rw e)
 
-module _ (l : WriterLent ℕ) {t : Bool} (is : t ≡ is-built-in (l .list)) where
-  pub unlisted : not t ≡ true → WriterLeaves flat-names l (record { number = 1; place = 0; length = 0 }) (l .words) (l .names) (l .room)
-  unlisted n = unlisted-writer flat-names l (ap (λ (u : Bool). u && rooms-fit (length (l .words)) (length (l .names))) (sym is ∙ not-true t n))
+module _ (l : SourceLent ℕ) (q : Wanted) (room : List ℕ) {t : Bool} (is : t ≡ is-built-in (l .list)) where
+  pub unlisted : not t ≡ true → WriterLeaves flat-names l q room (record { number = 1; place = 0; length = 0 }) (l .words) (l .names) room
+  unlisted n = unlisted-writer flat-names l q room (ap (λ (u : Bool). u && rooms-fit (length (l .words)) (length (l .names))) (sym is ∙ not-true t n))
 
-  pub listed : not t ≡ false → {r : Written} {words names room : List ℕ} → WritesSource (rooms-fit (length (l .words)) (length (l .names))) (l .source) (l .wanted) (l .words) (l .names) (l .room) r words names room
-      → WriterLeaves flat-names l r words names room
+  pub listed : not t ≡ false → {r : Written} {words names room′ : List ℕ} → WritesSource (rooms-fit (length (l .words)) (length (l .names))) (l .source) q (l .words) (l .names) room r words names room′
+      → WriterLeaves flat-names l q room r words names room′
   unfolding names-after
-  listed n {r} {words} {names} {room} x =
-      let e : rooms-fit (length (l .words)) (length (l .names)) ≡ writer-fits flat-names l = ap (λ (u : Bool). u && rooms-fit (length (l .words)) (length (l .names))) (sym (sym is ∙ not-false t n)) in
-      let y = subst (λ (fit : Bool). WritesSource fit (l .source) (l .wanted) (l .words) (l .names) (l .room) r words names room) e x in
+  listed n {r} {words} {names} {room′} x =
+      let e : rooms-fit (length (l .words)) (length (l .names)) ≡ source-fits flat-names l = ap (λ (u : Bool). u && rooms-fit (length (l .words)) (length (l .names))) (sym (sym is ∙ not-false t n)) in
+      let y = subst (λ (fit : Bool). WritesSource fit (l .source) q (l .words) (l .names) room r words names room′) e x in
       left-by (y .wrote) (y .words-are) (y .names-are)

@@ -2,15 +2,15 @@
 ghost use mathlib.Core.Path.{_≡_};
 ghost use Prim.Native.Nat.{_<_};
 ghost use lib.ListN.{length};
-ghost use Rattle.stepper.specs.Admission.{refusal};
-ghost use Rattle.stepper.specs.Contracts.Fitting.{Sized};
-ghost use Rattle.lists.specs.Writing.{lower};
+ghost use Rattle.program.specs.Refusal.{refusal};
+ghost use Rattle.run_meaning.specs.Contracts.Fitting.{Sized};
+ghost use Rattle.list_meaning.specs.Writing.{lower};
 ghost use Rattle.list_writer.specs.WriterCalls.{wanted};
 ghost use Rattle.list_writer.specs.Contracts.Admitting.{CountsCells, AdmitsGrid, AdmitsBoth};
-use admission::Refusal;
-use admission::admit;
-use admission::cells;
-use semantics::Rule;
+use cell_meaning::Rule;
+use run_admission::Refusal;
+use run_admission::admit;
+use run_admission::cells;
 
 // The number of cells of a grid with these sizes, where a run could have them.
 pub fn cell_count(sizes: &[u32]) -> usize

@@ -5,12 +5,12 @@ ghost use Prim.Native.Nat.{_<_};
 ghost use lib.ListN.{length};
 ghost use Rattle.automaton.specs.Shape.{product};
 ghost use Rattle.grammar.specs.Checking.{rooms-fit};
-ghost use Rattle.services.specs.Calls.{flat-names};
-ghost use Rattle.stepper.specs.Contracts.Fitting.{Sized};
-ghost use Rattle.lists.specs.Writing.{written-text, put-text};
-ghost use Rattle.list_writer.specs.WriterCalls.{wanted, writer-lent};
+ghost use Rattle.run_calls.specs.Calls.{flat-names, source-lent};
+ghost use Rattle.run_meaning.specs.Contracts.Fitting.{Sized};
+ghost use Rattle.list_meaning.specs.Writing.{written-text, put-text};
+ghost use Rattle.list_writer.specs.WriterCalls.{wanted, wrote-of};
 ghost use Rattle.list_writer.specs.Contracts.Lines.{Grids};
-ghost use Rattle.list_writer.specs.Contracts.Writing.{wrote-of, WritesLoaded, WritesSource, WriterLeaves};
+ghost use Rattle.list_writer.specs.Contracts.Writing.{WritesLoaded, WritesSource, WriterLeaves};
 
 mod admitting;
 mod lines;
@@ -18,12 +18,12 @@ mod printing;
 
 use admitting::admit_both;
 use admitting::cell_count;
-use checker::load;
+use cell_meaning::Rule;
 use lines::put_list;
 use lines::text_length;
-use profile::flag_of;
-use profile::rule_of;
-use semantics::Rule;
+use move_profile::flag_of;
+use move_profile::rule_of;
+use read_source::load;
 use spelling::is_built_in;
 
 // What the writer returns: the reply's number and place, and the text's length.
@@ -138,7 +138,7 @@ pub fn write_list(
     time: i64,
     room: &mut [u8],
 ) -> Written
-    ensures { λ r. ⌜ WriterLeaves flat-names (writer-lent (now (source .entry)) (now (list .entry)) (wanted (now (sizes .entry)) (now (earlier .entry)) (now (later .entry)) time) (now (words .entry)) (now (names .entry)) (now (room .entry))) r (now (words .exit)) (now (names .exit)) (now (room .exit)) ⌝ }
+    ensures { λ r. ⌜ WriterLeaves flat-names (source-lent (now (source .entry)) (now (list .entry)) (now (words .entry)) (now (names .entry))) (wanted (now (sizes .entry)) (now (earlier .entry)) (now (later .entry)) time) (now (room .entry)) r (now (words .exit)) (now (names .exit)) (now (room .exit)) ⌝ }
 {
     if !is_built_in(list) {
         return Written {

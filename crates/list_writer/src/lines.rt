@@ -5,17 +5,17 @@ ghost use mathlib.Core.Option.{some};
 ghost use Prim.Native.Nat.{_+_, _*_, _<_, _≤_};
 ghost use lib.ListN.{length};
 ghost use Rattle.automaton.specs.Shape.{product};
-ghost use Rattle.lists.specs.Writing.{cell-line, shown, cells-text, written-text};
+ghost use Rattle.list_meaning.specs.Writing.{cell-line, shown, cells-text, written-text};
 ghost use Rattle.list_writer.specs.Contracts.Printing.{Puts};
 ghost use Rattle.list_writer.specs.Contracts.Lines.{Grids, changed-line};
 use crate::printing::put_byte;
 use crate::printing::put_digits;
 use crate::printing::put_numbers;
 use crate::printing::put_values;
-use marked_cells::places::set_place;
-use marking::marks::differs;
+use run_marked_cells::places::set_place;
+use run_marking::marks::differs;
 
-// Puts what stands between the coordinates of a cell and its values.
+// Puts what is between the coordinates of a cell and its values.
 fn put_between(room: &mut [u8], at: usize) -> usize
     requires { ⌜ at + 4 ≤ 4294967296 ⌝ }
     ensures { λ r. ⌜ Puts (now (room .entry)) at (93 ∷ 32 ∷ 61 ∷ 32 ∷ []) (now (room .exit)) r ⌝ }

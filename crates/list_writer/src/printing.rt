@@ -1,16 +1,15 @@
-// Numbers put into a room as text. Each function puts its text from a position on and returns the position behind it; a byte behind the room's end is
+// Numbers put into a room as text. Each function puts its text from a position on and returns the position after it; a byte after the room's end is
 // counted and not put.
 ghost use mathlib.Core.List.{[], _∷_, map};
 ghost use mathlib.Core.Option.{some};
 ghost use Prim.Native.Nat.{_+_, _<_, _≤_};
 ghost use lib.ListN.{length};
 ghost use Rattle.value.specs.Worked.{decode-of};
-ghost use Rattle.lists.specs.Writing.{print-number, print-value, print-field, listed, shown};
-ghost use Rattle.lists.specs.Showing.{field-shown};
+ghost use Rattle.list_meaning.specs.Writing.{print-number, print-value, print-field, listed, shown};
+ghost use Rattle.list_meaning.specs.Contracts.Showing.{field-shown};
 ghost use Rattle.list_writer.specs.Contracts.Printing.{Puts, PutsDigits, separator};
 use value::Value;
 
-// Puts a byte.
 pub fn put_byte(room: &mut [u8], at: usize, b: u8) -> usize
     requires { ⌜ at < 4294967296 ⌝ }
     ensures { λ r. ⌜ Puts (now (room .entry)) at (b ∷ []) (now (room .exit)) r ⌝ }
@@ -46,7 +45,6 @@ fn put_word(room: &mut [u8], at: usize, word: u32) -> usize
     put_digits(room, behind, 4294967295 - word + 1)
 }
 
-// Puts a value.
 fn put_value(room: &mut [u8], at: usize, z: i32) -> usize
     requires { ⌜ at + 11 ≤ 4294967296 ⌝ }
     ensures { λ r. ⌜ Puts (now (room .entry)) at (print-value z) (now (room .exit)) r ⌝ }
@@ -96,7 +94,7 @@ fn put_field(room: &mut [u8], at: usize, z: i32, flag: bool) -> usize
     put_value(room, at, z)
 }
 
-// Puts the values of a cell. `flag` is the number of the field that serves as flag; behind the last field it is none.
+// Puts the values of a cell. `flag` is the number of the field that serves as flag; after the last field it is none.
 pub fn put_values(room: &mut [u8], at: usize, values: &[i32], flag: usize) -> usize
     requires { ⌜ (length (now values) ≤ 64) × (at + 832 ≤ 4294967296) ⌝ }
     ensures { λ r. ⌜ Puts (now (room .entry)) at (listed (map print-field (shown (some flag) (now (values .entry))))) (now (room .exit)) r ⌝ }

@@ -14,34 +14,13 @@ use Rattle.token.specs.Bytes.{fold, same}
 use Rattle.names.specs.declared.Entry.{Entry}
 
 -- the kinds of names
-abbrev pub name-kind :
-    record {
-      constant : ℕ;
-      array : ℕ;
-      field : ℕ;
-      variable : ℕ;
-      index : ℕ;
-      const-field : ℕ;
-    }
+abbrev pub name-kind : record { constant : ℕ; array : ℕ; field : ℕ; variable : ℕ; index : ℕ; const-field : ℕ }
 name-kind = record { constant = 1; array = 2; field = 3; variable = 4; index = 5; const-field = 6 }
-
--- at most so many names
-abbrev pub most-names : ℕ
-most-names = 256
-
--- the words of the whole name list
-abbrev pub name-words : ℕ
-name-words = 4 * most-names
 
 -- the name in a slot
 unfoldable pub entry-at : List ℕ → ℕ → Entry
 entry-at names slot =
-    record {
-      start = getD names (4 * slot) 0;
-      len = getD names (4 * slot + 1) 0;
-      kind = getD names (4 * slot + 2) 0;
-      word = getD names (4 * slot + 3) 0;
-    }
+    record { start = getD names (4 * slot) 0; len = getD names (4 * slot + 1) 0; kind = getD names (4 * slot + 2) 0; word = getD names (4 * slot + 3) 0 }
 
 abbrev pub is : Entry → ℕ → Bool
 is e k = eqb (e .kind) k

@@ -2,8 +2,9 @@
 ghost use mathlib.Core.Path.{_≡_};
 ghost use Prim.Native.Nat.{_<_, _≤_};
 ghost use lib.ListN.{length, getD};
+ghost use Rattle.value.specs.Limits.{most-names, name-words};
 ghost use Rattle.token.specs.Bytes.{fold, same};
-ghost use Rattle.names.specs.Names.{most-names, name-words, entry-at, with-entry, with-value, without-entry, variables-in, is-field, in-space, letters};
+ghost use Rattle.names.specs.Names.{entry-at, with-entry, with-value, without-entry, variables-in, is-field, in-space, letters};
 ghost use Rattle.names.specs.Contracts.Finding.{Matches, Finds};
 
 pub mod kind;
@@ -48,7 +49,7 @@ pub fn write_entry(names: &mut [u32], slot: usize, e: Entry)
     names[4 * slot + 3] = e.word;
 }
 
-// Gives the name in a slot a new value.
+// Sets the value of the name in a slot.
 pub fn write_value(names: &mut [u32], slot: usize, v: u32)
     requires { ⌜ (slot < most-names) × (length (now names) ≡ name-words) ⌝ }
     ensures { λ _. ⌜ now (names .exit) ≡ with-value (now (names .entry)) slot v ⌝ }
@@ -56,7 +57,7 @@ pub fn write_value(names: &mut [u32], slot: usize, v: u32)
     names[4 * slot + 3] = v;
 }
 
-// Takes the name in a slot out: those behind it move down by one, and the last slot is zero.
+// Takes the name in a slot out: those after it move down by one, and the last slot is zero.
 pub fn remove_entry(names: &mut [u32], slot: usize)
     requires { ⌜ (slot < most-names) × (length (now names) ≡ name-words) ⌝ }
     ensures { λ _. ⌜ now (names .exit) ≡ without-entry (now (names .entry)) slot ⌝ }
@@ -114,7 +115,7 @@ fn in_space(fields: bool, e: Entry) -> bool
 
 // ---- spelling
 
-// A byte of the source without letter case; 0 behind the source's end.
+// A byte of the source without letter case; 0 after the source's end.
 pub fn folded(source: &[u8], i: usize) -> u32
     ensures { λ r. ⌜ r ≡ fold (getD (now (source .entry)) i 0) ⌝ }
 {

@@ -6,8 +6,9 @@ use lib.ListN.{length, getD, List·getD-eq-default}
 use lib.Seq.{set-out}
 use native.Mathlib.Omega.{arith}
 use borrow.Author.Tests.{lt-ltb, le-ltb}
+use Rattle.value.specs.Limits.{most-tokens, table-words}
 use Rattle.token.specs.declared.Scan.{Scan}
-use Rattle.token.specs.Scanning.{most-tokens, table-words, token-at, stop-of, token-in, kind-in}
+use Rattle.token.specs.Scanning.{token-at, stop-of, token-in, kind-in}
 use Rattle.program.specs.Table.{word-at, with-word}
 use Rattle.program.specs.Contracts.Standing.{Stands}
 

@@ -7,9 +7,8 @@ use Prim.Native.Nat.{ℕ}
 use lib.IntN.{ℤ, pos}
 
 -- the values from low to high
-pub record Range : Type 0 where
-  pub low : ℤ
-  pub high : ℤ
+abbrev pub Range : Type 0
+Range = record { low : ℤ; high : ℤ }
 
 abbrev pub range : ℤ → ℤ → Range
 range low high = record { low = low; high = high }
@@ -32,7 +31,7 @@ pub data Expr : Type 0 where
   field : List Index → ℕ → Expr
   -- an array constant's element: the place of `[`, the array's values, the index
   element : (place : ℕ) → List ℤ → Expr → Expr
-  -- an operator's kind of token, its place, and what it stands on
+  -- an operator's kind of token, its place, and its operands
   unary : (op place : ℕ) → Expr → Expr
   binary : (op place : ℕ) → Expr → Expr → Expr
 
@@ -42,10 +41,8 @@ pub data Target : Type 0 where
   to-variable : ℕ → Target
 
 -- `:= e when c`, with the place of `:=`; without condition `:= e` alone, or `:= e otherwise`
-pub record Clause : Type 0 where
-  pub place : ℕ
-  pub expr : Expr
-  pub condition : Option Expr
+abbrev pub Clause : Type 0
+Clause = record { place : ℕ; expr : Expr; condition : Option Expr }
 
 -- a list of statements: empty, or a first statement and those after it, which are the last part of each.
 -- `elsif` is a `select` alone in the part after `else`; `loop` opens a loop one deeper; `constant` is a declaration, which does nothing
@@ -59,9 +56,5 @@ pub data Block : Type 0 where
 
 -- an accepted source: the number of dimensions, the range of each field, how many slots its variables need, the statements, and
 -- whether `time` stands in it outside comments
-pub record Program : Type 0 where
-  pub dims : ℕ
-  pub fields : List Range
-  pub slots : ℕ
-  pub body : Block
-  pub timed : Bool
+abbrev pub Program : Type 0
+Program = record { dims : ℕ; fields : List Range; slots : ℕ; body : Block; timed : Bool }

@@ -2,14 +2,15 @@
 ghost use mathlib.Core.Path.{_≡_};
 ghost use Prim.Native.Nat.{_<_, _≤_};
 ghost use lib.ListN.{length};
-ghost use Rattle.token.specs.Scanning.{most-tokens, table-words, kind-in};
+ghost use Rattle.value.specs.Limits.{most-tokens, table-words};
+ghost use Rattle.token.specs.Scanning.{kind-in};
 ghost use Rattle.program.specs.Table.{word-at, with-word};
 ghost use Rattle.program.specs.Contracts.Standing.{Stands};
 use token::Scan;
 use token::Token;
 use token::kind;
 
-// The token at position i, or the stop behind the last one.
+// The token at position i, or the stop after the last one.
 pub fn token_at(words: &[u32], scan: Scan, i: usize) -> Token
     requires { ⌜ (scan .count ≤ most-tokens) × (length (now words) ≡ table-words) ⌝ }
     ensures { λ r. ⌜ Stands (now (words .entry)) scan i r ⌝ }
@@ -31,7 +32,7 @@ pub fn token_at(words: &[u32], scan: Scan, i: usize) -> Token
     }
 }
 
-// The kind of the token at position i, also of the one behind the last at which the sequence stops.
+// The kind of the token at position i, also of the one after the last at which the sequence stops.
 pub fn kind_at(words: &[u32], scan: Scan, i: usize) -> u32
     requires { ⌜ (scan .count ≤ most-tokens) × (length (now words) ≡ table-words) ⌝ }
     ensures { λ r. ⌜ r ≡ kind-in (now (words .entry)) scan i ⌝ }
@@ -42,7 +43,7 @@ pub fn kind_at(words: &[u32], scan: Scan, i: usize) -> u32
     scan.kind
 }
 
-// Word w of the token at position i; 0 behind the table's end.
+// Word w of the token at position i; 0 after the table's end.
 pub fn word_at(words: &[u32], i: usize, w: usize) -> u32
     requires { ⌜ (w < 4) × (length (now words) ≡ table-words) ⌝ }
     ensures { λ r. ⌜ r ≡ word-at (now (words .entry)) i w ⌝ }
@@ -53,7 +54,7 @@ pub fn word_at(words: &[u32], i: usize, w: usize) -> u32
     0
 }
 
-// Writes word w of the token at position i; behind the table's end there is nothing to write.
+// Writes word w of the token at position i; after the table's end there is nothing to write.
 pub fn put_word(words: &mut [u32], i: usize, w: usize, v: u32)
     requires { ⌜ (w < 4) × (length (now words) ≡ table-words) ⌝ }
     ensures { λ _. ⌜ now (words .exit) ≡ with-word (now (words .entry)) i w v ⌝ }

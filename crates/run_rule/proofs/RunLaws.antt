@@ -8,16 +8,16 @@ use lib.IntN.{ℤ}
 use mir.Syntax.{w64}
 use mir.Val.{SFits, toZ, ofZ}
 use Rattle.token.specs.Lexeme.{is-built-in, built-in-names}
-use Rattle.stepper.specs.Report.{Manner}
-use Rattle.services.specs.Running.{Asked}
-use Rattle.services.specs.Services.{run-source, marks-after, counts-after}
-use Rattle.services.specs.Calls.{NameForm, Memory, memory, Lent, lent, fits, asked, run-left}
-use Rattle.iteration.specs.declared.Report.{Report}
-use Rattle.runner.specs.Contracts.Sourcewise.{RunLeaves}
-use Rattle.runner.proofs.RunLaws.{left-report, the-list, read-times}
-use Rattle.records.specs.declared.Name.{Name}
+use Rattle.run_meaning.specs.Report.{Manner}
+use Rattle.run_calls.specs.Running.{Asked}
+use Rattle.run_calls.specs.Services.{run-source, marks-after, counts-after}
+use Rattle.run_calls.specs.Calls.{NameForm, Memory, memory, Lent, lent, fits, asked, run-left}
+use Rattle.run_steps.specs.declared.Report.{Report}
+use Rattle.run_source.specs.Contracts.Public.{RunLeaves}
+use Rattle.run_source.proofs.RunLaws.{left-report, the-list, read-times}
+use Rattle.api_records.specs.declared.Name.{Name}
 use Rattle.cellang.specs.Left.{rows-fit, row-names}
-use Rattle.run_rule.specs.Contracts.Runs.{asked-of, Runs}
+use Rattle.run_rule.specs.Contracts.Runs.{asked-of, RunsRule}
 
 fit : {words names : ℕ} → 16384 ≡ words → 256 ≡ names → rows-fit words names ≡ true
 unfolding rows-fit
@@ -37,7 +37,7 @@ left-counts h = ap (λ x. x .memory .counts) (h .is)
 pub runs-of : {manner : Manner} {source ws : List ℕ} {ns : List Name} {sizes : List ℕ} {grid scratch : List ℤ} {marks values : List ℕ} {start steps : ℤ} {counted : Bool} {field : ℕ} {counts : List ℕ} {r : Report} {left : Memory Name}
     → 16384 ≡ length ws → 256 ≡ length ns → SFits w64 start → SFits w64 steps
     → RunLeaves row-names manner (lent source built-in-names sizes (memory ws ns grid scratch marks counts) values (toZ w64 (ofZ w64 start)) (toZ w64 (ofZ w64 steps)) counted field) r left
-    → Runs manner source sizes grid (length scratch) marks values start steps counted field counts r (left .grid) (left .marks) (left .counts)
+    → RunsRule manner source sizes grid (length scratch) marks values start steps counted field counts r (left .grid) (left .marks) (left .counts)
 runs-of {manner} {source} {ws} {ns} {sizes} {grid} {scratch} {marks} {values} {start} {steps} {counted} {field} {counts} w n h k leaves =
     let run = read-times h k leaves in
     let q : Asked = asked-of sizes grid (length scratch) (length marks) values start steps counted field (length counts) in

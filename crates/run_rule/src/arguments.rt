@@ -1,14 +1,14 @@
 // The arguments that are words and numbers.
-use console::numbers::Count;
-use console::numbers::Entry;
-use console::numbers::count_in;
-use console::numbers::value_in;
-use console::texts::argument;
-use console::texts::complain;
-use console::texts::is_argument;
-use iteration::Manner;
+use run_steps::Manner;
+use tool_console::numbers::Count;
+use tool_console::numbers::Entry;
+use tool_console::numbers::count_in;
+use tool_console::numbers::value_in;
+use tool_console::texts::argument;
+use tool_console::texts::complain;
+use tool_console::texts::is_argument;
 
-// What is asked of a run: the time it starts at, the steps, its manner, whether the zeros of a field are counted, the number of this field, whether it is made
+// The request of a run: the time it starts at, the steps, its manner, whether the zeros of a field are counted, the number of this field, whether it is made
 // of bands of rows, and how many rows can be held then.
 pub struct Order {
     pub start: i64,
@@ -20,7 +20,7 @@ pub struct Order {
     pub held: u32,
 }
 
-// What is asked, or an argument could not be taken.
+// The request, or an argument was refused.
 pub enum Orders {
     Taken(Order),
     Refused,
@@ -32,7 +32,7 @@ enum Way {
     Unknown,
 }
 
-// Whether an argument is an option, behind which its value stands.
+// Whether an argument is an option, which its value follows.
 fn is_option(i: usize) -> bool {
     is_argument(i, b"--rows") || is_argument(i, b"--zeros")
 }
@@ -53,7 +53,7 @@ fn plain_count() -> usize {
     without_option(without_option(os::arg_count()))
 }
 
-// The place of the value of an option that stands at the end of the first so many arguments, 0 if it does not.
+// The place of the value of an option at the end of the first so many arguments, 0 if there is none.
 fn value_place(count: usize, option: &[u8]) -> usize {
     if count < 10 {
         return 0;
@@ -169,7 +169,7 @@ fn count_argument(i: usize) -> Count {
     count_in(&text[..n])
 }
 
-// What is asked of a run, with the number of rows that can be held, if it is given. If it cannot be taken, or the run is not a full one, that is said.
+// The request of a run, with the number of rows that can be held, if there is one. If it is wrong, or the run is not a full one, the program says so.
 fn with_rows(order: Order) -> Orders {
     let place = option_place(b"--rows");
     if place == 0 {
@@ -195,7 +195,7 @@ fn with_rows(order: Order) -> Orders {
     })
 }
 
-// What a run from a start is asked, without the zeros.
+// The request of a run from a start, without the zeros.
 fn order_from(start: i32, steps: i32) -> Orders {
     let Way::Named(manner) = way_argument() else {
         complain(b"run_rule: the fifth argument is none of full, quiet, pause and resume\n");
@@ -212,7 +212,7 @@ fn order_from(start: i32, steps: i32) -> Orders {
     })
 }
 
-// What the arguments ask of a run. If one of them cannot be taken, that is said.
+// The request of a run from the arguments. If one of them is wrong, the program says so.
 pub fn order_arguments() -> Orders {
     let Entry::Is(start) = number_argument(3) else {
         complain(b"run_rule: START is not a whole number from -2147483648 to 2147483647\n");

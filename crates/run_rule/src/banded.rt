@@ -1,23 +1,23 @@
-// A full run by bands of rows, and what is told of it.
+// A full run by bands of rows, and what is reported of it.
 use crate::arguments::Order;
 use crate::fields;
 use crate::reports;
 use crate::write_left;
-use console::places::wide;
-use console::rooms;
-use console::shapes::fields_of;
-use console::texts::complain;
-use console::texts::say;
-use console::texts::say_number;
-use iteration::Report;
-use planned_run::plan_and_run;
+use run_steps::Report;
+use tool_console::places::wide;
+use tool_console::rooms;
+use tool_console::shapes::fields_of;
+use tool_console::texts::complain;
+use tool_console::texts::say;
+use tool_console::texts::say_number;
+use tool_planned_run::plan_and_run;
 
 // Whether the rows that can be held of a grid of so many entries have their room, if the run is made of bands. If not, that is said.
 pub fn can_be_held(sizes: &[u32], entries: usize, order: Order) -> bool {
     if !order.banded {
         return true;
     }
-    let fits = planned_run::can_be_held(sizes, entries, order.held);
+    let fits = tool_planned_run::can_be_held(sizes, entries, order.held);
     if !fits {
         complain(b"run_rule: R rows have more than 32768 entries\n");
     }
@@ -40,7 +40,7 @@ fn say_bands(number: u32, bands: u32, held: u32, needed: u64) {
     }
 }
 
-// Runs a source on a grid by bands of rows, reports, and writes what is left. Gives the report.
+// Runs a source on a grid by bands of rows, reports, and writes what is left. Returns the report.
 pub fn run_and_tell(
     source: &[u8],
     sizes: &[u32],

@@ -1,19 +1,19 @@
 // The value list that leads from the grid that is given to the grid that is left.
 use crate::arguments::is_given;
 use crate::reports::has_begun;
-use console::places::wide;
-use console::rooms;
-use console::rooms::ROOM;
-use console::texts::close_output;
-use console::texts::complain;
-use console::texts::complain_number;
-use console::texts::open_output;
-use iteration::Report;
 use list_writer::write_list;
+use run_steps::Report;
 use std::num::wrapping_add_u64;
 use std::num::wrapping_add_usize;
+use tool_console::places::wide;
+use tool_console::rooms;
+use tool_console::rooms::ROOM;
+use tool_console::texts::close_output;
+use tool_console::texts::complain;
+use tool_console::texts::complain_number;
+use tool_console::texts::open_output;
 
-// Whether the list of changes is asked for, by a ninth argument.
+// Whether the list of changes is requested, by a ninth argument.
 fn is_asked() -> bool {
     is_given(9)
 }
@@ -40,7 +40,7 @@ fn copy(room: &mut [i32], from: usize, entries: usize) {
     }
 }
 
-// Puts a copy of the first entries behind them, if the list of changes is asked for.
+// Puts a copy of the first entries after them, if the list of changes is requested.
 pub fn keep(room: &mut [i32], entries: usize) {
     if !is_asked() {
         return;
@@ -117,8 +117,8 @@ fn write_between(source: &[u8], sizes: &[u32], earlier: &[i32], later: &[i32], t
     write_text(&room[..length]);
 }
 
-// Writes the list of changes, if it is asked for and the run began. The grid stands at the start of the room, and the grid as it was before the
-// run behind it.
+// Writes the list of changes, if it is requested and the run began. The grid is at the start of the room, and the grid as it was before the
+// run after it.
 pub fn write(
     source: &[u8],
     sizes: &[u32],

@@ -1,12 +1,12 @@
 // The fields of a rule, and which of them a report speaks of.
-use console::places::remainder;
-use console::rooms;
-use iteration::Manner;
-use iteration::Report;
-use naming::Ran;
+use api_naming::Ran;
+use api_records::Name;
 use program::word_at;
-use records::Name;
+use run_steps::Manner;
+use run_steps::Report;
 use token::kind;
+use tool_console::places::remainder;
+use tool_console::rooms;
 
 // More than any field's number.
 const NONE: u32 = 8;
@@ -21,11 +21,11 @@ pub fn records_of(source: &[u8]) -> Ran {
     let mut marks = [0u8; 1];
     let values = [0u8; 1];
     let mut counts = [0u32; 1];
-    naming::run(
+    api_naming::run(
         source,
         &list,
         &mut words,
-        naming::no_names(),
+        api_naming::no_names(),
         &sizes,
         &mut grid,
         &mut scratch,
@@ -44,7 +44,7 @@ pub fn records_of(source: &[u8]) -> Ran {
 pub fn record_of(source: &[u8], field: u32) -> Name {
     let ran = records_of(source);
     let rows = ran.rows;
-    naming::field_record(rows, field)
+    api_naming::field_record(rows, field)
 }
 
 // The `:=` at a place, with the token i more.

@@ -6,8 +6,8 @@
 // 0 in a field. Where an argument or a file cannot be taken it says so on standard error, and writes nothing else.
 ghost use mathlib.Core.Path.{_≡_};
 ghost use lib.ListN.{length};
-ghost use Rattle.runner.specs.Contracts.Sourcewise.{manner-of};
-ghost use Rattle.run_rule.specs.Contracts.Runs.{Runs};
+ghost use Rattle.run_source.specs.Contracts.Public.{manner-of};
+ghost use Rattle.run_rule.specs.Contracts.Runs.{RunsRule};
 
 mod arguments;
 mod banded;
@@ -19,26 +19,26 @@ mod rows;
 mod values;
 mod zeros;
 
+use api_naming::Ran;
 use arguments::Order;
 use arguments::Orders;
-use console::grids;
-use console::grids::Grid;
-use console::rooms;
-use console::shapes;
-use console::shapes::fields_of;
-use console::texts;
-use console::texts::Text;
-use iteration::Report;
-use naming::Ran;
 use rows::write_grid;
+use run_steps::Report;
+use tool_console::grids;
+use tool_console::grids::Grid;
+use tool_console::rooms;
+use tool_console::shapes;
+use tool_console::shapes::fields_of;
+use tool_console::texts;
+use tool_console::texts::Text;
 
-// What became of a run: it gave a report, or it could not be begun, which was said.
+// What became of a run: it returned a report, or it could not be begun, and the program said so.
 enum Outcome {
     Told(Report),
     Refused,
 }
 
-// A run of a source on a grid with a value list, as it was asked for. The report, the grid, the marks and the counts that are left are those of the
+// A run of a source on a grid with a value list, as requested. The report, the grid, the marks and the counts that are left are those of the
 // definition.
 fn run(
     source: &[u8],
@@ -52,12 +52,12 @@ fn run(
     counts: &mut [u32],
 ) -> Ran
     requires { ⌜ 16384 ≡ length (now words) ⌝ }
-    ensures { λ r. ⌜ Runs (manner-of (order .manner) (now (marks .entry))) (now (source .entry)) (now (sizes .entry)) (now (grid .entry)) (length (now (scratch .entry))) (now (marks .entry)) (now (values .entry)) (order .start) (order .steps) (order .counted) (order .field) (now (counts .entry)) (r .report) (now (grid .exit)) (now (marks .exit)) (now (counts .exit)) ⌝ }
+    ensures { λ r. ⌜ RunsRule (manner-of (order .manner) (now (marks .entry))) (now (source .entry)) (now (sizes .entry)) (now (grid .entry)) (length (now (scratch .entry))) (now (marks .entry)) (now (values .entry)) (order .start) (order .steps) (order .counted) (order .field) (now (counts .entry)) (r .report) (now (grid .exit)) (now (marks .exit)) (now (counts .exit)) ⌝ }
 {
     let list = spelling::BUILT_IN;
-    let names = naming::no_names();
+    let names = api_naming::no_names();
     let manner = order.manner;
-    naming::run(
+    api_naming::run(
         source,
         &list,
         words,
@@ -76,7 +76,7 @@ fn run(
     )
 }
 
-// Writes where a run paused and which cells are left with 0 in a field, if that is asked for, and then what is left.
+// Writes where a run paused and which cells are left with 0 in a field, if requested, and then what is left.
 fn write_left(
     report: Report,
     sizes: &[u32],
@@ -92,7 +92,7 @@ fn write_left(
     pauses::write(report, sizes, scratch, marks, order, written);
 }
 
-// Runs a source on a grid, reports, and writes what is left. Gives the report.
+// Runs a source on a grid, reports, and writes what is left. Returns the report.
 fn run_and_tell(
     source: &[u8],
     sizes: &[u32],
@@ -120,13 +120,13 @@ fn run_and_tell(
     let report = ran.report;
     let field = fields::field_told(report, &words, fields_of(entries, cells));
     let rows = ran.rows;
-    let name = naming::field_record(rows, field);
+    let name = api_naming::field_record(rows, field);
     reports::tell(report, name, source, values, sizes, entries, cells);
     write_left(report, sizes, grid, scratch, marks, order, counts);
     report
 }
 
-// Runs a source on a grid, by bands of rows if that is asked for, with a count for each row if zeros are counted, else with none.
+// Runs a source on a grid, by bands of rows if requested, with a count for each row if zeros are counted, else with none.
 fn run_counted(
     source: &[u8],
     sizes: &[u32],
@@ -162,7 +162,7 @@ fn run_counted(
     )
 }
 
-// Runs a source on a grid, from the marks of PAUSE if it is resumed, with as much of two rooms as it asks for. They are given back when it ends.
+// Runs a source on a grid, from the marks of PAUSE if it is resumed, with as much of two rooms as it needs. They are free again when it ends.
 fn run_in_rooms(
     source: &[u8],
     sizes: &[u32],
@@ -189,7 +189,7 @@ fn run_in_rooms(
     ))
 }
 
-// Runs a source on the grid at the start of a room, and writes what changed, if that is asked for: the grid as it is given stands behind it then.
+// Runs a source on the grid at the start of a room, and writes what changed, if requested: then a copy of the grid as given follows it.
 fn run_and_compare(
     source: &[u8],
     sizes: &[u32],

@@ -6,20 +6,20 @@ use crate::arguments::wide;
 use crate::changes::time_after;
 use crate::reports::is_fault;
 use crate::rows::write_rows;
-use console::grids;
-use console::grids::Grid;
-use console::rooms;
-use console::shapes;
-use console::texts::close_output;
-use console::texts::complain;
-use console::texts::complain_number;
-use console::texts::open_output;
-use console::texts::say;
-use console::texts::say_number;
-use iteration::Manner;
-use iteration::Report;
+use run_steps::Manner;
+use run_steps::Report;
 use std::num::wrapping_add_u64;
-use text::put_value;
+use tool_console::grids;
+use tool_console::grids::Grid;
+use tool_console::rooms;
+use tool_console::shapes;
+use tool_console::texts::close_output;
+use tool_console::texts::complain;
+use tool_console::texts::complain_number;
+use tool_console::texts::open_output;
+use tool_console::texts::say;
+use tool_console::texts::say_number;
+use tool_text::put_value;
 
 // Whether a run begins from the marks of the file.
 fn begins_from_marks(manner: Manner) -> bool {
@@ -111,7 +111,7 @@ fn take_mark(n: i32, marks: &mut [u8], i: usize) -> bool {
     n == 1
 }
 
-// Takes the numbers behind the time as marks; whether all of them are.
+// Takes the numbers after the time as marks; whether all of them are.
 fn take_marks(numbers: &[i32], marks: &mut [u8]) -> bool {
     let mut good = true;
     let mut i = 1;

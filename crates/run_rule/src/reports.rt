@@ -1,18 +1,17 @@
 // The report of a run in words.
 use crate::values::say_list_line;
-use console::lines::say_line;
-use console::places::position_of;
-use console::places::say_cell;
-use console::places::say_field;
-use console::places::wide;
-use console::replies::say_meaning;
-use console::shapes::fields_of;
-use console::texts::say;
-use console::texts::say_number;
-use iteration::Report;
-use records::Name;
+use api_records::Name;
+use run_steps::Report;
+use tool_console::lines::say_line;
+use tool_console::places::position_of;
+use tool_console::places::say_cell;
+use tool_console::places::say_field;
+use tool_console::places::wide;
+use tool_console::replies::say_meaning;
+use tool_console::shapes::fields_of;
+use tool_console::texts::say;
+use tool_console::texts::say_number;
 
-// Whether a reply is a fault.
 pub fn is_fault(number: u32) -> bool {
     number >= 30 && number <= 33
 }

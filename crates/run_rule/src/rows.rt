@@ -1,16 +1,16 @@
 // A grid that is written as text: a line for each row.
-use console::texts::close_output;
-use console::texts::open_output;
-use text::put_byte;
-use text::put_value;
+use tool_console::texts::close_output;
+use tool_console::texts::open_output;
+use tool_text::put_byte;
+use tool_text::put_value;
 
-// A file that is written by way of a buffer: how many bytes stand in the buffer, and whether all could be written so far.
+// A file that is written by way of a buffer: how many bytes are in the buffer, and whether all could be written so far.
 struct Sink {
     at: usize,
     good: bool,
 }
 
-// Writes what stands in the buffer.
+// Writes what is in the buffer.
 fn flush(file: i32, buffer: &[u8], sink: Sink) -> Sink {
     let n = sink.at;
     if n > buffer.len() {
@@ -23,7 +23,7 @@ fn flush(file: i32, buffer: &[u8], sink: Sink) -> Sink {
     }
 }
 
-// Makes room for an entry, which takes 12 bytes at most with the byte behind it.
+// Makes room for an entry, which takes 12 bytes at most with the byte after it.
 fn roomy(file: i32, buffer: &[u8], sink: Sink) -> Sink {
     if sink.at < 4000 {
         return sink;
@@ -31,7 +31,7 @@ fn roomy(file: i32, buffer: &[u8], sink: Sink) -> Sink {
     flush(file, buffer, sink)
 }
 
-// The byte behind an entry: a line feed behind the last of a row and behind the last of all, else a blank.
+// The byte after an entry: a line feed after the last of a row and after the last of all, else a blank.
 fn behind(i: usize, entries: usize, row: usize) -> u8 {
     if i < entries {
         if entries - i == 1 {
@@ -47,7 +47,6 @@ fn behind(i: usize, entries: usize, row: usize) -> u8 {
     32
 }
 
-// Writes an entry.
 fn write_entry(file: i32, buffer: &mut [u8], sink: Sink, n: i32, behind: u8) -> Sink {
     let s = roomy(file, buffer, sink);
     let end = put_value(buffer, s.at, n);

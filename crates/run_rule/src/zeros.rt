@@ -1,20 +1,20 @@
-// The cells that are left with 0 in a field, which is named behind `--zeros`.
+// The cells that are left with 0 in a field, which is named after `--zeros`.
 use crate::arguments::Order;
 use crate::arguments::Orders;
 use crate::arguments::option_place;
 use crate::fields::records_of;
 use crate::reports::has_begun;
-use console::places::wide;
-use console::shapes::rows_of;
-use console::texts::argument;
-use console::texts::complain;
-use console::texts::say;
-use console::texts::say_number;
-use iteration::Report;
+use api_records::Name;
 use names::folded;
-use records::Name;
-use row_counts::queries::first_zero_row;
-use row_counts::queries::zeros_in_rows;
+use run_row_counts::queries::first_zero_row;
+use run_row_counts::queries::zeros_in_rows;
+use run_steps::Report;
+use tool_console::places::wide;
+use tool_console::shapes::rows_of;
+use tool_console::texts::argument;
+use tool_console::texts::complain;
+use tool_console::texts::say;
+use tool_console::texts::say_number;
 
 // More than any field's number: no field has the name; or it is `cell`, the name of the field of a rule that names none; or the rule is refused.
 const NONE: u32 = 4294967295;
@@ -23,7 +23,7 @@ const UNNAMED: u32 = 4294967294;
 
 const UNREAD: u32 = 4294967293;
 
-// The place of the name of the field among the arguments, 0 if the zeros are not asked for.
+// The place of the name of the field among the arguments, 0 if the zeros are not requested.
 fn name_place() -> usize {
     option_place(b"--zeros")
 }
@@ -80,7 +80,7 @@ fn find_field(source: &[u8], rows: [Name; 256], name: &[u8]) -> u32 {
     let mut field = field_without(name);
     let mut k = 0;
     while k < 64 {
-        field = field_with(source, naming::field_record(rows, k), name, k, field);
+        field = field_with(source, api_naming::field_record(rows, k), name, k, field);
         k += 1;
     }
     field
@@ -105,8 +105,8 @@ fn complain_name(name: &[u8]) {
     complain(b"`\n");
 }
 
-// What is asked of a run, with the field that is named, if any. If there is no such field, that is said. A rule that is refused has no
-// fields, and is run to tell why.
+// The request of a run, with the field that is named, if any. If there is no such field, the program says so. A rule that is refused has no
+// fields, and is run to report why.
 pub fn with_zeros(source: &[u8], order: Order) -> Orders {
     let place = name_place();
     if place == 0 {
@@ -131,7 +131,7 @@ pub fn with_zeros(source: &[u8], order: Order) -> Orders {
     })
 }
 
-// How many counts a run is lent: one for each row, if zeros are counted.
+// How many counts a run is passed: one for each row, if zeros are counted.
 pub fn counts_of(sizes: &[u32], order: Order) -> usize {
     if !order.counted {
         return 0;

@@ -15,7 +15,8 @@ use Rattle.token.specs.Lexeme.{built-in-names, read-token}
 use Rattle.token.specs.declared.Lexed.{Lexed}
 use Rattle.token.specs.Contracts.Promises as token
 use Rattle.spelling.specs.declared.Part.{Part}
-use Rattle.spelling.specs.Spelling.{names-token, part, token-part, part-at, part-entries, told-entries, taken, spelling-of, Parts}
+use Rattle.spelling.specs.Spelling.{names-token, part, token-part, part-at, part-entries}
+use Rattle.spelling.specs.Contracts.Parts.{told-entries, taken, spelling-of, IsPart}
 
 -- ---- replies that name a token
 
@@ -84,25 +85,25 @@ module _ (k len place : ℕ) where
 -- ---- where a spelling stands
 
 module _ (source : List ℕ) (number place : ℕ) where
-  none : part false 0 0 ≡ part-at source number place → Parts source number place (part false 0 0)
+  none : part false 0 0 ≡ part-at source number place → IsPart source number place (part false 0 0)
   none e = record { is = e; within = λ _. omega arith; few = omega arith; in-list = λ _. omega arith }
 
-  pub at-no-token : names-token number ≡ false → Parts source number place (part false 0 0)
+  pub at-no-token : names-token number ≡ false → IsPart source number place (part false 0 0)
   unfolding part-at
   at-no-token e = none (simp e)
 
   module _ (e : names-token number ≡ true) where
-    pub at-end : length source ≤ place → Parts source number place (part false 0 0)
+    pub at-end : length source ≤ place → IsPart source number place (part false 0 0)
     unfolding part-at
     at-end h = none (simp (e, le-leb (length source) place h))
 
     module _ (h : place < length source) where
-      pub at-long : 65535 < length source → Parts source number place (part false 0 0)
+      pub at-long : 65535 < length source → IsPart source number place (part false 0 0)
       unfolding part-at
       at-long l = none (simp (e, lt-leb (length source) place h, lt-ltb 65535 (length source) l))
 
       module _ (l : length source ≤ 65535) where
-        pub at-byte : number ≡ 3 → Parts source number place (part false place 1)
+        pub at-byte : number ≡ 3 → IsPart source number place (part false place 1)
         unfolding part-at
         at-byte q =
             record {
@@ -112,7 +113,7 @@ module _ (source : List ℕ) (number place : ℕ) where
               in-list = λ z. absurd (let y : _≡_ {A = ℕ} 0 1 = cc in omega arith);
             }
 
-        pub at-token : (number ≡ 3 → ⊥) → {r : Lexed} {p : Part} → token.Reads source place r → p ≡ token-part (r .token .kind) (r .token .len) place → Parts source number place p
+        pub at-token : (number ≡ 3 → ⊥) → {r : Lexed} {p : Part} → token.ReadsToken source place r → p ≡ token-part (r .token .kind) (r .token .len) place → IsPart source number place p
         unfolding part-at
         at-token q {r} {p} x y =
             let f = part-fits (r .token .kind) (r .token .len) place (length source) (omega (arith, x .behind, x .within)) l in
@@ -181,7 +182,7 @@ module _ (source list : List ℕ) (number place : ℕ) where
   unfolding spelling-of
   no-list e = simp e
 
-  module _ (e : same list built-in-names ≡ true) {p : Part} (x : Parts source number place p) where
+  module _ (e : same list built-in-names ≡ true) {p : Part} (x : IsPart source number place p) where
     pub sixteen : length list ≡ 16
     sixteen = same-length list built-in-names e
 
@@ -197,7 +198,7 @@ module _ (source list : List ℕ) (number place : ℕ) where
 
 -- ---- the spelling in numbers
 
-module _ (source : List ℕ) (number place : ℕ) {p : Part} (x : Parts source number place p) where
+module _ (source : List ℕ) (number place : ℕ) {p : Part} (x : IsPart source number place p) where
   told-by : part-entries p ≡ part-entries (part-at source number place)
   told-by = ap part-entries (x .is)
 

@@ -1,16 +1,15 @@
--- The spelling that is handed back with a refusal: a part of the source, or of the built-in list that is lent beside it.
-use mathlib.Core.Path.{_≡_}
+-- The spelling that is returned with a refusal: a part of the source, or of the built-in list that is lent beside it.
 use mathlib.Core.Bool.{Bool, true, false, not, _&&_, _||_}
 use mathlib.Core.List.{List, [], _∷_}
-use Prim.Native.Nat.{ℕ, _+_, _≤_}
-use lib.ListN.{length, take, drop}
+use Prim.Native.Nat.{ℕ}
+use lib.ListN.{length, drop}
 use lib.Dec.{eqb, leb, ltb}
+use Rattle.value.specs.Limits.{most-bytes}
 use Rattle.value.specs.Choice.{if_then_else_}
 use Rattle.token.specs.Bytes.{between}
 use Rattle.token.specs.Kind.{kind}
-use Rattle.token.specs.Lexeme.{is-built-in, read-token}
+use Rattle.token.specs.Lexeme.{read-token}
 use Rattle.spelling.specs.declared.Part.{Part}
-use Rattle.spelling.specs.declared.Told.{Told}
 
 -- the replies that name a token
 unfoldable pub names-token : ℕ → Bool
@@ -32,28 +31,10 @@ token-part k len place =
 -- that names no token
 unfoldable pub part-at : List ℕ → ℕ → ℕ → Part
 part-at source number place =
-    if not (names-token number) || leb (length source) place || ltb 65535 (length source) then part false 0 0
+    if not (names-token number) || leb (length source) place || ltb most-bytes (length source) then part false 0 0
     else if eqb number 3 then part false place 1
     else token-part (read-token (drop place source) .kind) (read-token (drop place source) .len) place
 
--- a part of the source, or of the list
-abbrev pub taken : List ℕ → List ℕ → Part → List ℕ
-taken source list p = take (p .len) (drop (p .start) (if p .listed then list else source))
-
--- the spelling of a reply. With another built-in list every source is refused 1, and there is none
-unfoldable pub spelling-of : List ℕ → List ℕ → ℕ → ℕ → List ℕ
-spelling-of source list number place = if is-built-in list then taken source list (part-at source number place) else []
-
--- how the spelling of a reply is told in numbers: where it stands, 0 nowhere, 1 in the source, 2 in the built-in list; its first byte; its length
+-- the spelling of a reply as three numbers: where it is, 0 nowhere, 1 in the source, 2 in the built-in list; its first byte; its length
 abbrev pub part-entries : Part → List ℕ
 part-entries p = if eqb (p .len) 0 then 0 ∷ 0 ∷ 0 ∷ [] else (if p .listed then 2 else 1) ∷ p .start ∷ p .len ∷ []
-
-abbrev pub told-entries : Told → List ℕ
-told-entries t = t .stands ∷ t .start ∷ t .len ∷ []
-
--- what `part_at` promises: the part, which lies within the list or the source
-pub record Parts (source : List ℕ) (number place : ℕ) (p : Part) : Type 0 where
-  pub is : p ≡ part-at source number place
-  pub within : p .listed ≡ false → p .start + p .len ≤ length source
-  pub few : p .start + p .len ≤ 65535
-  pub in-list : p .listed ≡ true → p .start + p .len ≤ 16

@@ -1,19 +1,19 @@
-// The spelling that is handed back with a refusal: a part of the source, or of the built-in list that is lent beside it.
+// The spelling that is returned with a refusal: a part of the source, or of the built-in list that is passed beside it.
 ghost use mathlib.Core.Path.{_≡_};
 ghost use Prim.Native.Nat.{_+_, _≤_, _<_};
 ghost use lib.ListN.{length};
 ghost use Rattle.token.specs.Lexeme.{is-built-in};
-ghost use Rattle.spelling.specs.Spelling.{names-token, token-part, part-at, part-entries, told-entries, spelling-of, Parts};
+ghost use Rattle.spelling.specs.Spelling.{names-token, token-part, part-at, part-entries};
+ghost use Rattle.spelling.specs.Contracts.Parts.{told-entries, spelling-of, IsPart};
 use token::kind;
 
-// Where a spelling stands: in the built-in list or in the source.
+// Where a spelling is: in the built-in list or in the source.
 pub struct Part {
     pub listed: bool,
     pub start: usize,
     pub len: usize,
 }
 
-// Whether a reply names a token.
 fn names_token(number: u32) -> bool
     ensures { λ r. ⌜ r ≡ names-token number ⌝ }
 {
@@ -63,9 +63,9 @@ fn token_part(k: u32, len: usize, place: usize) -> Part
     }
 }
 
-// Where the spelling of a reply stands, within the source or the built-in list.
+// Where the spelling of a reply is, within the source or the built-in list.
 fn part_at(source: &[u8], number: u32, place: u32) -> Part
-    ensures { λ r. ⌜ Parts (now (source .entry)) number place r ⌝ }
+    ensures { λ r. ⌜ IsPart (now (source .entry)) number place r ⌝ }
 {
     let at = place as usize;
     if !names_token(number) {
@@ -101,14 +101,14 @@ fn part_at(source: &[u8], number: u32, place: u32) -> Part
     token_part(t.kind, t.len as usize, at)
 }
 
-// Where a spelling stands, as it is told in numbers: 0 nowhere, 1 in the source, 2 in the built-in list; its first byte, and its length.
+// Where a spelling is, as numbers: 0 nowhere, 1 in the source, 2 in the built-in list; its first byte, and its length.
 pub struct Told {
     pub stands: u32,
     pub start: u32,
     pub len: u32,
 }
 
-// Where the spelling of a reply stands, in numbers.
+// Where the spelling of a reply is, in numbers.
 pub fn told_part(source: &[u8], number: u32, place: u32) -> Told
     ensures { λ r. ⌜ told-entries r ≡ part-entries (part-at (now (source .entry)) number place) ⌝ }
 {
@@ -139,7 +139,6 @@ pub fn told_part(source: &[u8], number: u32, place: u32) -> Told
 // The built-in list.
 pub const BUILT_IN: [u8; 16] = *b"cell time random";
 
-// Whether a list is the built-in list.
 pub fn is_built_in(list: &[u8]) -> bool
     ensures { λ r. ⌜ r ≡ is-built-in (now (list .entry)) ⌝ }
 {

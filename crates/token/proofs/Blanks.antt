@@ -10,7 +10,7 @@ use borrow.Author.Tests.{ne-eqb}
 use Rattle.value.specs.Choice.{if_then_else_}
 use Rattle.token.specs.Bytes.{kind-of}
 use Rattle.token.specs.Scanning.{blanks}
-use Rattle.token.specs.Contracts.Promises.{Walks, Skips, head-kind, blank-turn}
+use Rattle.token.specs.Contracts.Promises.{WalksTokens, Skips, head-kind, blank-turn}
 use Rattle.token.proofs.Heads.{walks, drop-here}
 
 -- ---- the turn that a byte takes
@@ -89,10 +89,10 @@ module _ (s : List ℕ) (at : ℕ) where
   pass-start = record { left = refl }
 
   module _ {i : ℕ} {inside : Bool} (w : Passing s at i inside) where
-    ends : blanks inside (drop i s) ≡ 0 → Walks (blanks false (drop at s)) s at i
+    ends : blanks inside (drop i s) ≡ 0 → WalksTokens (blanks false (drop at s)) s at i
     ends e = walks s at (blanks-within false (drop at s)) (omega (arith, w .left, e))
 
-    pub pass-all : length s ≤ i → Walks (blanks false (drop at s)) s at i
+    pub pass-all : length s ≤ i → WalksTokens (blanks false (drop at s)) s at i
     unfolding blanks
     pass-all h = ends (rw (drop-of-length-le s h))
 
@@ -100,7 +100,7 @@ module _ (s : List ℕ) (at : ℕ) where
       turn : blanks inside (drop i s) ≡ walked t (λ (u : Bool). blanks u (drop (i + 1) s))
       turn = rw (q, e) (step inside (drop-here s i h))
 
-      pub pass-stop : t ≡ 0 → Walks (blanks false (drop at s)) s at i
+      pub pass-stop : t ≡ 0 → WalksTokens (blanks false (drop at s)) s at i
       pass-stop p = ends (turn ∙ rw p)
 
       pub pass-more : (t ≡ 0 → ⊥) → {j : ℕ} → Skips (eqb t 2) s (i + 1) j → Passing s at j (eqb t 2)

@@ -11,7 +11,7 @@ use lib.Dec.{eqb}
 use borrow.Author.Tests.{ne-eqb}
 use Rattle.token.specs.Bytes.{kind-of}
 use Rattle.token.specs.Lexeme.{starts, in-name, in-literal, extent}
-use Rattle.token.specs.Contracts.Promises.{Walks, head-kind, run-test, goes-on}
+use Rattle.token.specs.Contracts.Promises.{WalksTokens, head-kind, run-test, goes-on}
 use Rattle.token.proofs.Heads.{walks, starts-as, drop-here}
 
 -- ---- the test of one byte
@@ -90,10 +90,10 @@ module _ (test : List ℕ → Bool) (s : List ℕ) (at : ℕ) where
   run-start = record { left = refl }
 
   module _ {i : ℕ} (w : Running test s at i) where
-    ends : extent test (drop i s) ≡ 0 → Walks (extent test (drop at s)) s at i
+    ends : extent test (drop i s) ≡ 0 → WalksTokens (extent test (drop at s)) s at i
     ends e = walks s at (extent-within test (drop at s)) (omega (arith, w .left, e))
 
-    pub run-all : length s ≤ i → Walks (extent test (drop at s)) s at i
+    pub run-all : length s ≤ i → WalksTokens (extent test (drop at s)) s at i
     unfolding extent
     run-all h = ends (rw (drop-of-length-le s h))
 
@@ -104,7 +104,7 @@ module _ (test : List ℕ → Bool) (s : List ℕ) (at : ℕ) where
       pub run-more : b ≡ true → Running test s at (i + 1)
       run-more p = let q : extent test (drop i s) ≡ suc (extent test (drop (i + 1) s)) = turn ∙ rw p in record { left = omega (arith, w .left) }
 
-      pub run-stop : b ≡ false → Walks (extent test (drop at s)) s at i
+      pub run-stop : b ≡ false → WalksTokens (extent test (drop at s)) s at i
       run-stop p = ends (turn ∙ rw p)
 
 pub ruleset Walk = (run-start, run-all, run-more, run-stop)

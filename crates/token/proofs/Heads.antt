@@ -10,14 +10,14 @@ use lib.Dec.{eqb}
 use borrow.Author.Tests.{ne-eqb}
 use Rattle.token.specs.Bytes.{kind-of}
 use Rattle.token.specs.Lexeme.{starts}
-use Rattle.token.specs.Contracts.Promises.{Walks, head-kind}
+use Rattle.token.specs.Contracts.Promises.{WalksTokens, head-kind}
 
 -- what stands at a position, and what stands behind it
 pub drop-here : (s : List ℕ) (i : ℕ) → i < length s → drop i s ≡ getD s i 0 ∷ drop (i + 1) s
 drop-here s i h = rw (add-one, drop-cons s i 0)
 
 -- a walk over no more bytes than there are
-pub walks : (s : List ℕ) (at : ℕ) {n r : ℕ} → n ≤ length (drop at s) → r ≡ at + n → Walks n s at r
+pub walks : (s : List ℕ) (at : ℕ) {n r : ℕ} → n ≤ length (drop at s) → r ≡ at + n → WalksTokens n s at r
 walks s at h e = record { is = e; within = omega (arith, length-drop at s) }
 
 -- the kind at a position, inside and past the end

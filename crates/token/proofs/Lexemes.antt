@@ -14,14 +14,14 @@ use Rattle.token.specs.Bytes.{kind-of, member, fold}
 use Rattle.token.specs.Lexeme.{Lexeme, find-kind, keywords, two-byte-tokens, starts, in-name, in-literal, extent, decimal, lexeme-of, unreadable, word, digits, punctuation, read-token}
 use Rattle.token.specs.declared.Lexed.{Lexed}
 use Rattle.token.specs.declared.spelling.Group.{Group}
-use Rattle.token.specs.Contracts.Promises.{Walks, head-kind, too-large, spellings, Groups, word-here, digits-here, lexed-of, Reads}
+use Rattle.token.specs.Contracts.Promises.{WalksTokens, head-kind, too-large, spellings, Groups, word-here, digits-here, lexed-of, ReadsToken}
 use Rattle.token.proofs.Heads.{drop-here, starts-as}
 use Rattle.token.proofs.Extents.{extent-within, extent-first}
 use Rattle.token.proofs.Words.{bytes-of, size-a, by-length, some-kind, signs-fold, too-short}
 
 -- ---- a word
 
-pub word-read : (s : List ℕ) (at : ℕ) {end k : ℕ} {g : Group} {r : Lexed} → Walks (extent in-name (drop at s)) s at end → at < length s → Groups (end - at) g → k ≡ find-kind (bytes-of s at (end - at)) (slice (g .from) (g .to) spellings) 1 → r ≡ lexed-of (lexeme-of k (end - at) 0) at → r ≡ lexed-of (word-here (drop at s)) at
+pub word-read : (s : List ℕ) (at : ℕ) {end k : ℕ} {g : Group} {r : Lexed} → WalksTokens (extent in-name (drop at s)) s at end → at < length s → Groups (end - at) g → k ≡ find-kind (bytes-of s at (end - at)) (slice (g .from) (g .to) spellings) 1 → r ≡ lexed-of (lexeme-of k (end - at) 0) at → r ≡ lexed-of (word-here (drop at s)) at
 unfolding word
 word-read s at {end} {k} {g} e l h q p =
     let n : end - at ≡ extent in-name (drop at s) = omega (arith, e .is) in
@@ -31,7 +31,7 @@ word-read s at {end} {k} {g} e l h q p =
 
 -- ---- a literal
 
-module _ (s : List ℕ) (at : ℕ) {end k : ℕ} (e : Walks (extent in-literal (drop at s)) s at end) (q : k ≡ head-kind (drop end s)) where
+module _ (s : List ℕ) (at : ℕ) {end k : ℕ} (e : WalksTokens (extent in-literal (drop at s)) s at end) (q : k ≡ head-kind (drop end s)) where
   size : end - at ≡ extent in-literal (drop at s)
   size = omega (arith, e .is)
 
@@ -143,7 +143,7 @@ module _ (s : List ℕ) (h : 0 < length s) where
 
 -- ---- the token at a place
 
-read : (s : List ℕ) (at : ℕ) {r : Lexed} → at < length s → r ≡ lexed-of (read-token (drop at s)) at → Reads s at r
+read : (s : List ℕ) (at : ℕ) {r : Lexed} → at < length s → r ≡ lexed-of (read-token (drop at s)) at → ReadsToken s at r
 read s at h p =
     let z = sound (drop at s) (simp length-drop (omega arith)) in
     record {
@@ -156,20 +156,20 @@ read s at h p =
     }
 
 module _ (s : List ℕ) (at : ℕ) {k : ℕ} (e : k ≡ head-kind (drop at s)) where
-  pub reads-word : at < length s → {r : Lexed} → k ≡ 3 → r ≡ lexed-of (word-here (drop at s)) at → Reads s at r
+  pub reads-word : at < length s → {r : Lexed} → k ≡ 3 → r ≡ lexed-of (word-here (drop at s)) at → ReadsToken s at r
   unfolding read-token
   reads-word h a p = read s at h (p ∙ simp (starts-as (drop at s) e 3 (omega arith), a))
 
-  pub reads-digits : at < length s → {r : Lexed} → (k ≡ 3 → ⊥) → k ≡ 4 → r ≡ lexed-of (digits-here (drop at s)) at → Reads s at r
+  pub reads-digits : at < length s → {r : Lexed} → (k ≡ 3 → ⊥) → k ≡ 4 → r ≡ lexed-of (digits-here (drop at s)) at → ReadsToken s at r
   unfolding read-token
   reads-digits h a b p = read s at h (p ∙ simp (starts-as (drop at s) e 3 (omega arith), starts-as (drop at s) e 4 (omega arith), b))
 
   module _ (a : k ≡ 3 → ⊥) (b : k ≡ 4 → ⊥) where
-    pub reads-sign : at < length s → {r : Lexed} → k ≡ 7 → r ≡ lexed-of (punctuation (drop at s)) at → Reads s at r
+    pub reads-sign : at < length s → {r : Lexed} → k ≡ 7 → r ≡ lexed-of (punctuation (drop at s)) at → ReadsToken s at r
     unfolding read-token
     reads-sign h c p = read s at h (p ∙ simp (starts-as (drop at s) e 3 (omega arith), starts-as (drop at s) e 4 (omega arith), starts-as (drop at s) e 7 (omega arith), c))
 
-    pub reads-none : at < length s → {r : Lexed} → (k ≡ 7 → ⊥) → r ≡ lexed-of unreadable at → Reads s at r
+    pub reads-none : at < length s → {r : Lexed} → (k ≡ 7 → ⊥) → r ≡ lexed-of unreadable at → ReadsToken s at r
     unfolding read-token
     reads-none h c p = read s at h (p ∙ simp (starts-as (drop at s) e 3 (omega arith), starts-as (drop at s) e 4 (omega arith), starts-as (drop at s) e 7 (omega arith), ne-eqb k 3 a, ne-eqb k 4 b, ne-eqb k 7 c))
 

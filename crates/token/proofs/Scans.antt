@@ -10,11 +10,11 @@ use lib.Seq.{sets-eq, take-at, drop-drop}
 use borrow.Author.Fill.{fill-more}
 use borrow.Author.Tests.{eq-eqb, ne-eqb, le-leb, lt-leb}
 use Rattle.token.specs.Lexeme.{Lexeme, read-token}
-use Rattle.token.specs.Scanning.{Scanned, blanks, stop-number, stopped, token-of, scan-from, scan, token-words, scanned-words, scan-of}
+use Rattle.token.specs.Scanning.{Scanned, blanks, stop-number, stopped, token-from, scan-from, scan, token-words, scanned-words, scan-of}
 use Rattle.token.specs.declared.Token.{Token}
 use Rattle.token.specs.declared.Scan.{Scan}
 use Rattle.token.specs.declared.Lexed.{Lexed}
-use Rattle.token.specs.Contracts.Promises.{Walks, Reads, Stops, Fills, Scans}
+use Rattle.token.specs.Contracts.Promises.{WalksTokens, ReadsToken, Stops, Fills, Scans}
 
 -- ---- the number of the stop
 
@@ -104,7 +104,7 @@ module _ (turns place count : ℕ) (s : List ℕ) where
   scan-stop [] e h d = absurd (not-suc-le-zero h)
   scan-stop (b ∷ bs) e h d = rw (scan-from, e, ne-eqb (stop-number count (read-token (b ∷ bs))) 0 d)
 
-  scan-on : (rest : List ℕ) → drop (blanks false s) s ≡ rest → 0 < length rest → stop-number count (read-token rest) ≡ 0 → scan-from (suc turns) place count s ≡ behind (token-of (read-token rest) (place + blanks false s) ∷ []) (scan-from turns (place + blanks false s + read-token rest .len) (suc count) (drop (read-token rest .len) rest))
+  scan-on : (rest : List ℕ) → drop (blanks false s) s ≡ rest → 0 < length rest → stop-number count (read-token rest) ≡ 0 → scan-from (suc turns) place count s ≡ behind (token-from (read-token rest) (place + blanks false s) ∷ []) (scan-from turns (place + blanks false s + read-token rest .len) (suc count) (drop (read-token rest .len) rest))
   unfolding scan-from
   scan-on [] e h d = absurd (not-suc-le-zero h)
   scan-on (b ∷ bs) e h d = rw (scan-from, e, eq-eqb (stop-number count (read-token (b ∷ bs))) 0 d)
@@ -149,7 +149,7 @@ stops {source} {ws} {place} {count} {n} {at} {k} g e h =
       within = h;
     }
 
-module _ (source ws : List ℕ) {place count : ℕ} (g : Going source ws place count) {at : ℕ} (w : Walks (blanks false (drop place source)) source place at) where
+module _ (source ws : List ℕ) {place count : ℕ} (g : Going source ws place count) {at : ℕ} (w : WalksTokens (blanks false (drop place source)) source place at) where
   rest : drop (blanks false (drop place source)) (drop place source) ≡ drop at source
   rest = drop-drop (blanks false (drop place source)) place source ∙ rw (← w .is)
 
@@ -159,7 +159,7 @@ module _ (source ws : List ℕ) {place count : ℕ} (g : Going source ws place c
   pub go-end : length source ≤ at → Fills source (record { count = count; number = 7; place = at; kind = 0 }) ws
   go-end h = stops g (scan-end (g .turns) place count (drop place source) (rest ∙ drop-of-length-le source h) ∙ rw (← w .is)) inside
 
-  module _ (h : at < length source) {r : Lexed} (p : Reads source at r) {n : ℕ} (q : Stops count (r .token) n) where
+  module _ (h : at < length source) {r : Lexed} (p : ReadsToken source at r) {n : ℕ} (q : Stops count (r .token) n) where
     some : 0 < length (drop at source)
     some = simp length-drop (omega arith)
 
@@ -177,7 +177,7 @@ module _ (source ws : List ℕ) {place count : ℕ} (g : Going source ws place c
     go-on z {ws′} e =
         let read : Lexeme = read-token (drop at source) in
         let turn = scan-on (g .turns) place count (drop place source) (drop at source) rest some (sym number ∙ z) in
-        let token : token-of read (place + blanks false (drop place source)) ≡ r .token = rw (← w .is, p .is) in
+        let token : token-from read (place + blanks false (drop place source)) ≡ r .token = rw (← w .is, p .is) in
         let more : g .turns ≡ suc (g .turns - 1) = omega (arith, g .enough, p .onward, p .within, w .is) in
         let len : r .token .len ≡ read .len = rw (p .is) in
         let there : place + blanks false (drop place source) + read .len ≡ r .next .at = omega (arith, p .behind, w .is, len) in

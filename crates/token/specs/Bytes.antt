@@ -31,16 +31,7 @@ same (x ∷ xs) (y ∷ ys) = eqb x y && same xs ys
 
 -- the numbers of the byte kinds
 abbrev pub byte-kind :
-    record {
-      other : ℕ;
-      blank : ℕ;
-      line-end : ℕ;
-      letter : ℕ;
-      digit : ℕ;
-      underscore : ℕ;
-      comment : ℕ;
-      sign : ℕ;
-    }
+    record { other : ℕ; blank : ℕ; line-end : ℕ; letter : ℕ; digit : ℕ; underscore : ℕ; comment : ℕ; sign : ℕ }
 byte-kind = record { other = 0; blank = 1; line-end = 2; letter = 3; digit = 4; underscore = 5; comment = 6; sign = 7 }
 
 -- the single-byte tokens

@@ -7,14 +7,13 @@ use lib.ListN.{take, drop, getD}
 use lib.Dec.{eqb, ltb}
 use Rattle.value.specs.Choice.{if_then_else_}
 use Rattle.token.specs.Bytes.{as-bytes, byte-kind, kind-of, fold, same}
-use Rattle.token.specs.Kind.{kind}
+use Rattle.token.specs.Kind.{kind, keyword, relation, delimiter}
 
 -- ---- fixed spellings
 
 -- a fixed spelling and its kind
-pub record Spelled : Type 0 where
-  pub letters : List ℕ
-  pub kind : ℕ
+abbrev pub Spelled : Type 0
+Spelled = record { letters : List ℕ; kind : ℕ }
 
 abbrev pub spelled : String → ℕ → Spelled
 spelled s k = record { letters = as-bytes s; kind = k }
@@ -22,10 +21,10 @@ spelled s k = record { letters = as-bytes s; kind = k }
 -- the keywords and the predefined names
 abbrev pub keywords : List Spelled
 keywords =
-    spelled "agent" (kind .refused) ∷ spelled "const" (kind .const-word) ∷ spelled "dimensions" (kind .dimensions-word)
-    ∷ spelled "else" (kind .else-word) ∷ spelled "elsif" (kind .elsif-word) ∷ spelled "end" (kind .end-word) ∷ spelled "exit" (kind .exit-word)
-    ∷ spelled "for" (kind .for-word) ∷ spelled "forall" (kind .forall-word) ∷ spelled "if" (kind .if-word) ∷ spelled "of" (kind .of-word)
-    ∷ spelled "otherwise" (kind .otherwise-word) ∷ spelled "then" (kind .then-word) ∷ spelled "when" (kind .when-word)
+    spelled "agent" (kind .refused) ∷ spelled "const" (keyword .const) ∷ spelled "dimensions" (keyword .dimensions)
+    ∷ spelled "else" (keyword .else) ∷ spelled "elsif" (keyword .elsif) ∷ spelled "end" (keyword .end) ∷ spelled "exit" (keyword .exit)
+    ∷ spelled "for" (keyword .for) ∷ spelled "forall" (keyword .forall) ∷ spelled "if" (keyword .if) ∷ spelled "of" (keyword .of)
+    ∷ spelled "otherwise" (keyword .otherwise) ∷ spelled "then" (keyword .then) ∷ spelled "when" (keyword .when)
     ∷ spelled "cell" (kind .cell) ∷ spelled "time" (kind .time) ∷ spelled "random" (kind .refused) ∷ []
 
 -- the built-in list, which is lent beside a source: the predefined names, in lower case
@@ -38,8 +37,8 @@ is-built-in list = same list built-in-names
 
 abbrev pub two-byte-tokens : List Spelled
 two-byte-tokens =
-    spelled ":=" (kind .assign) ∷ spelled ".." (kind .dots) ∷ spelled "<=" (kind .at-most) ∷ spelled ">=" (kind .at-least)
-    ∷ spelled "!=" (kind .unequal) ∷ spelled "->" (kind .refused) ∷ spelled "+%" (kind .refused) ∷ spelled "-%" (kind .refused) ∷ []
+    spelled ":=" (delimiter .assign) ∷ spelled ".." (delimiter .dots) ∷ spelled "<=" (relation .at-most) ∷ spelled ">=" (relation .at-least)
+    ∷ spelled "!=" (relation .unequal) ∷ spelled "->" (kind .refused) ∷ spelled "+%" (kind .refused) ∷ spelled "-%" (kind .refused) ∷ []
 
 -- the kind of a spelling in a table, and `other` if it is not there
 unfoldable pub find-kind : List ℕ → List Spelled → ℕ → ℕ
@@ -74,10 +73,8 @@ decimal n (b ∷ bs) = decimal (if eqb b 95 then n else n * 10 + (b - 48)) bs
 -- ---- a token without its place
 
 -- its kind, its length, and a literal's value (else 0); where no token can be read, a stop, whose value is its number
-pub record Lexeme : Type 0 where
-  pub kind : ℕ
-  pub len : ℕ
-  pub value : ℕ
+abbrev pub Lexeme : Type 0
+Lexeme = record { kind : ℕ; len : ℕ; value : ℕ }
 
 abbrev pub lexeme-of : ℕ → ℕ → ℕ → Lexeme
 lexeme-of k n v = record { kind = k; len = n; value = v }

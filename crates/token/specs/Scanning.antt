@@ -4,6 +4,7 @@ use mathlib.Core.List.{List, [], _∷_, _++_}
 use Prim.Native.Nat.{ℕ, zero, suc, _+_, _-_, _*_, _/_, _%_}
 use lib.ListN.{length, drop, getD, replicate}
 use lib.Dec.{eqb, leb, ltb}
+use Rattle.value.specs.Limits.{most-tokens, table-words}
 use Rattle.value.specs.Choice.{if_then_else_}
 use Rattle.token.specs.declared.Token.{Token}
 use Rattle.token.specs.declared.Scan.{Scan}
@@ -23,10 +24,6 @@ blanks inside (b ∷ bs) =
       ]
     ]
 
--- at most so many tokens
-abbrev pub most-tokens : ℕ
-most-tokens = 4096
-
 -- the number at which the sequence stops where w stands after `count` tokens, and 0 if it goes on:
 -- 3 and 4 go before 5, and 5 before 6
 unfoldable pub stop-number : ℕ → Lexeme → ℕ
@@ -37,17 +34,14 @@ stop-number count w =
     else 0
 
 -- the tokens, the number and place of the stop behind them, and the kind of the token at which their sequence stops
-pub record Scanned : Type 0 where
-  pub tokens : List Token
-  pub number : ℕ
-  pub place : ℕ
-  pub kind : ℕ
+abbrev pub Scanned : Type 0
+Scanned = record { tokens : List Token; number : ℕ; place : ℕ; kind : ℕ }
 
 abbrev pub stopped : ℕ → ℕ → ℕ → Scanned
 stopped number place kind = record { tokens = []; number = number; place = place; kind = kind }
 
-abbrev pub token-of : Lexeme → ℕ → Token
-token-of w place = record { kind = w .kind; start = place; len = w .len; value = w .value }
+abbrev pub token-from : Lexeme → ℕ → Token
+token-from w place = record { kind = w .kind; start = place; len = w .len; value = w .value }
 
 -- the tokens from a place on, whose bytes are s, after `count` tokens. Each turn takes at least one byte, so that as many
 -- turns as bytes, and one for the end, are enough. The end of the source stops the sequence with number 7 and no token
@@ -63,7 +57,7 @@ scan-from (suc turns) place count s =
           elim (eqb (stop-number count w) 0) [
             | true ↦
                 let after = scan-from turns (here + w .len) (suc count) (drop (w .len) (b ∷ bs)) in
-                record { tokens = token-of w here ∷ after .tokens; number = after .number; place = after .place; kind = after .kind }
+                record { tokens = token-from w here ∷ after .tokens; number = after .number; place = after .place; kind = after .kind }
             | false ↦ stopped (stop-number count w) here (w .kind)
           ]
     ]
@@ -74,10 +68,6 @@ scan source = scan-from (suc (length source)) 0 0 source
 
 -- ---- tokens in the word table: four words a token, of which word 0 is the kind, word 1 the place of the first byte plus 65536 times
 -- the length, and word 2 a literal's value
-
--- the words of the whole table
-abbrev pub table-words : ℕ
-table-words = 4 * most-tokens
 
 -- the words of tokens; word 3 is 0
 unfoldable pub token-words : List Token → List ℕ
@@ -95,12 +85,8 @@ scan-of s = record { count = length (s .tokens); number = s .number; place = s .
 -- the token at position i of a table
 abbrev pub token-at : List ℕ → ℕ → Token
 token-at words i =
-    record {
-      kind = getD words (4 * i) 0;
-      start = getD words (4 * i + 1) 0 % 65536;
-      len = getD words (4 * i + 1) 0 / 65536;
-      value = getD words (4 * i + 2) 0;
-    }
+    let span = getD words (4 * i + 1) 0 in
+    record { kind = getD words (4 * i) 0; start = span % 65536; len = span / 65536; value = getD words (4 * i + 2) 0 }
 
 -- the stop behind the last token, as a token: its value is its number
 abbrev pub stop-of : Scan → Token

@@ -40,14 +40,13 @@ const KINDS: [u8; 256] = *b"\
     \x00\x00\x00\x00\x00\x00\x00\x00\x00\x00\x00\x00\x00\x00\x00\x00\
     \x00\x00\x00\x00\x00\x00\x00\x00\x00\x00\x00\x00\x00\x00\x00\x00";
 
-// The kind of each byte, as a table to lend: each use of KINDS writes all of it anew.
+// The kind of each byte, as a table to pass by reference: each use of KINDS writes all of it anew.
 pub fn kind_table() -> [u8; 256]
     ensures { λ r. ⌜ Sorts r ⌝ }
 {
     KINDS
 }
 
-// The kind of a byte.
 fn kind_of_byte(kinds: &[u8; 256], b: u8) -> u8
     requires { ⌜ Sorts (now kinds) ⌝ }
     ensures { λ r. ⌜ r ≡ kind-of b ⌝ }

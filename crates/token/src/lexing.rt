@@ -1,4 +1,4 @@
-// One token, read at a position of the source where neither a separator nor a comment stands.
+// One token, read at a position of the source where there is neither a separator nor a comment.
 ghost use mathlib.Core.Path.{_≡_};
 ghost use Prim.Native.Nat.{_≤_, _<_};
 ghost use lib.ListN.{length, take, drop};
@@ -11,7 +11,7 @@ use crate::bytes;
 use crate::runs;
 use crate::spelling;
 
-// A token of a kind, a length and a value at a place, and the cursor behind it.
+// A token of a kind, a length and a value at a place, and the cursor after it.
 pub fn token_of(kind: u32, at: usize, len: usize, value: u32) -> Lexed
     requires { ⌜ (at ≤ 65535) × (len ≤ 65535) ⌝ }
     ensures { λ r. ⌜ r ≡ lexed-of (lexeme-of kind len value) at ⌝ }
@@ -45,7 +45,7 @@ pub fn read_word(source: &[u8], kinds: &[u8; 256], rows: &[u8; 300], at: usize) 
     token_of(kind, at, len, 0)
 }
 
-// A literal. A letter or an underscore right behind it is refused 3, a value over 2147483647 is refused 4.
+// A literal. A letter or an underscore right after it is refused 3, a value over 2147483647 is refused 4.
 pub fn read_digits(source: &[u8], kinds: &[u8; 256], at: usize) -> Lexed
     requires { ⌜ Sorts (now kinds) × (at < length (now source)) × (length (now source) ≤ 65535) ⌝ }
     ensures { λ r. ⌜ r ≡ lexed-of (digits-here (drop at (now (source .entry)))) at ⌝ }

@@ -1,10 +1,10 @@
-// Tokens: the bytes of a source sorted into tokens, and the stop behind the last of them.
+// Tokens: the bytes of a source sorted into tokens, and the stop after the last of them.
 ghost use mathlib.Core.Path.{_≡_};
 ghost use Prim.Native.Nat.{_≤_, _<_};
 ghost use lib.ListN.{length, drop};
 ghost use mathlib.Core.Bool.{false};
 ghost use Rattle.token.specs.Scanning.{blanks};
-ghost use Rattle.token.specs.Contracts.Promises.{Sorts, all-rows, Walks, Reads, Scans};
+ghost use Rattle.token.specs.Contracts.Promises.{Sorts, all-rows, WalksTokens, ReadsToken, Scans};
 
 pub mod bytes;
 pub mod kind;
@@ -24,7 +24,7 @@ pub struct Token {
     pub value: u32,
 }
 
-// What scanning a source finds: how many tokens, the number and the place of the stop behind them, and the kind of the token there.
+// What scanning a source finds: how many tokens, the number and the place of the stop after them, and the kind of the token there.
 pub struct Scan {
     pub count: usize,
     pub number: u32,
@@ -32,12 +32,12 @@ pub struct Scan {
     pub kind: u32,
 }
 
-// A reading position, handed by value from token to token.
+// A reading position, passed by value from token to token.
 pub struct Cursor {
     pub at: usize,
 }
 
-// A token that was read, and the position behind it.
+// A token that was read, and the position after it.
 pub struct Lexed {
     pub token: Token,
     pub next: Cursor,
@@ -51,19 +51,19 @@ impl Cursor {
         Cursor { at: 0 }
     }
 
-    // The position behind the separators and comments that stand here.
+    // The position after the separators and comments here.
     pub fn past_blanks(self, source: &[u8], kinds: &[u8; 256]) -> Cursor
         requires { ⌜ Sorts (now kinds) ⌝ }
-        ensures { λ r. ⌜ Walks (blanks false (drop (self .at) (now (source .entry)))) (now (source .entry)) (self .at) (r .at) ⌝ }
+        ensures { λ r. ⌜ WalksTokens (blanks false (drop (self .at) (now (source .entry)))) (now (source .entry)) (self .at) (r .at) ⌝ }
     {
         let at = runs::blanks_end(source, kinds, self.at);
         Cursor { at }
     }
 
-    // The token that stands here, where neither a separator nor a comment stands; where no token can be read, a stop with its number.
+    // The token here, where there is neither a separator nor a comment; where no token can be read, a stop with its number.
     pub fn next(self, source: &[u8], kinds: &[u8; 256], rows: &[u8; 300]) -> Lexed
         requires { ⌜ Sorts (now kinds) × (now rows ≡ all-rows) × (self .at < length (now source)) × (length (now source) ≤ 65535) ⌝ }
-        ensures { λ r. ⌜ Reads (now (source .entry)) (self .at) r ⌝ }
+        ensures { λ r. ⌜ ReadsToken (now (source .entry)) (self .at) r ⌝ }
     {
         let at = self.at;
         let kind = bytes::kind_at(source, kinds, at);
@@ -80,10 +80,10 @@ impl Cursor {
     }
 }
 
-// The token that stands at a place of a source.
+// The token at a place of a source.
 pub fn read_at(source: &[u8], at: usize) -> Lexed
     requires { ⌜ (at < length (now source)) × (length (now source) ≤ 65535) ⌝ }
-    ensures { λ r. ⌜ Reads (now (source .entry)) at r ⌝ }
+    ensures { λ r. ⌜ ReadsToken (now (source .entry)) at r ⌝ }
 {
     let kinds = bytes::kind_table();
     let rows = spelling::row_table();
@@ -91,7 +91,7 @@ pub fn read_at(source: &[u8], at: usize) -> Lexed
     here.next(source, &kinds, &rows)
 }
 
-// Scans a source: its tokens stand in the word table, four words a token, with zeros behind them, whatever the table held before.
+// Scans a source: its tokens are written to the word table, four words a token, with zeros after them, whatever the table held before.
 pub fn scan_source(source: &[u8], words: &mut [u32]) -> Scan
     requires { ⌜ (length (now source) ≤ 65535) × (length (now words) ≡ 16384) ⌝ }
     ensures { λ r. ⌜ Scans (now (source .entry)) r (now (words .exit)) ⌝ }

@@ -5,7 +5,7 @@ ghost use Prim.Native.Nat.{_-_, _≤_, _<_, min};
 ghost use lib.ListN.{length, take, drop};
 ghost use Rattle.token.specs.Lexeme.{extent, decimal};
 ghost use Rattle.token.specs.Scanning.{blanks};
-ghost use Rattle.token.specs.Contracts.Promises.{Sorts, Walks, Skips, run-test, goes-on, blank-turn, with-digit, too-large};
+ghost use Rattle.token.specs.Contracts.Promises.{Sorts, WalksTokens, Skips, run-test, goes-on, blank-turn, with-digit, too-large};
 use crate::bytes;
 
 // The least value that is too large for a literal.
@@ -26,7 +26,7 @@ fn fits_run(source: &[u8], kinds: &[u8; 256], i: usize, named: bool) -> bool
     false
 }
 
-// Whether the byte at i is in a run: it goes on the run, or it is an underscore and the byte behind it does.
+// Whether the byte at i is in a run: it goes on the run, or it is an underscore and the byte after it does.
 fn in_run(source: &[u8], kinds: &[u8; 256], i: usize, named: bool) -> bool
     requires { ⌜ Sorts (now kinds) × (i < length (now source)) ⌝ }
     ensures { λ r. ⌜ r ≡ goes-on (run-test named) (drop i (now (source .entry))) ⌝ }
@@ -43,7 +43,7 @@ fn in_run(source: &[u8], kinds: &[u8; 256], i: usize, named: bool) -> bool
 // The end of the longest run from a position on.
 pub fn run_end(source: &[u8], kinds: &[u8; 256], at: usize, named: bool) -> usize
     requires { ⌜ Sorts (now kinds) ⌝ }
-    ensures { λ r. ⌜ Walks (extent (run-test named) (drop at (now (source .entry)))) (now (source .entry)) at r ⌝ }
+    ensures { λ r. ⌜ WalksTokens (extent (run-test named) (drop at (now (source .entry)))) (now (source .entry)) at r ⌝ }
 {
     let mut end = at;
     while end < source.len() {
@@ -66,7 +66,7 @@ fn digit_of(b: u8) -> u64
     (b - b'0') as u64
 }
 
-// A value with one byte more behind it, and TOO_LARGE if that is more; an underscore changes nothing.
+// A value with one byte more after it, and TOO_LARGE if that is more; an underscore changes nothing.
 fn with_byte(value: u64, b: u8) -> u64
     requires { ⌜ value ≤ too-large ⌝ }
     ensures { λ r. ⌜ r ≡ min too-large (with-digit value b) ⌝ }
@@ -114,7 +114,7 @@ fn blank_turn(kind: u8, inside: bool) -> u8
     0
 }
 
-// Inside a comment, the position of the line end behind it, or the end of the source; outside one, the position itself.
+// Inside a comment, the position of the line end after it, or the end of the source; outside one, the position itself.
 fn comment_end(source: &[u8], kinds: &[u8; 256], at: usize, inside: bool) -> usize
     requires { ⌜ Sorts (now kinds) ⌝ }
     ensures { λ r. ⌜ Skips inside (now (source .entry)) at r ⌝ }
@@ -135,7 +135,7 @@ fn comment_end(source: &[u8], kinds: &[u8; 256], at: usize, inside: bool) -> usi
 // The end of the separators and comments from a position on.
 pub fn blanks_end(source: &[u8], kinds: &[u8; 256], at: usize) -> usize
     requires { ⌜ Sorts (now kinds) ⌝ }
-    ensures { λ r. ⌜ Walks (blanks false (drop at (now (source .entry)))) (now (source .entry)) at r ⌝ }
+    ensures { λ r. ⌜ WalksTokens (blanks false (drop at (now (source .entry)))) (now (source .entry)) at r ⌝ }
 {
     let mut end = at;
     let mut inside = false;

@@ -1,4 +1,4 @@
-// The fixed spellings: the keywords and the predefined names by their length, and behind them the two-byte tokens.
+// The fixed spellings: the keywords and the predefined names by their length, and after them the two-byte tokens.
 ghost use mathlib.Core.Path.{_≡_};
 ghost use mathlib.Core.List.{map};
 ghost use Prim.Native.Nat.{_+_, _<_, _≤_};
@@ -41,14 +41,14 @@ const ROWS: [u8; 300] = *b"\
     \x02\x12+%        \
     \x02\x12-%        ";
 
-// A fixed spelling: where its letters stand, how many they are, and its kind.
+// A fixed spelling: where its letters begin, how many they are, and its kind.
 pub struct Fixed {
     pub start: usize,
     pub len: usize,
     pub kind: u32,
 }
 
-// The rows, as a table to lend: each use of ROWS writes all of it anew.
+// The rows, as a table to pass by reference: each use of ROWS writes all of it anew.
 pub fn row_table() -> [u8; 300]
     ensures { λ r. ⌜ r ≡ all-rows ⌝ }
 {

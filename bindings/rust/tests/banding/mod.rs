@@ -1,4 +1,4 @@
-//! The library on cases of the second program on bands of rows: what it tells and
+//! The library on cases of the second program on bands of rows: what it returns and
 //! leaves, in the form in which the second program answers.
 
 use crate::told::report_of;

@@ -1,10 +1,10 @@
-//! Outcomes of runs as the second program tells them, and how often each reply
-//! was given.
+//! Outcomes of runs as the second program returns them, and how often each reply
+//! occurred.
 
 use cellang::{Objection, Outcome, Stop};
 use reference::Report;
 
-/// How many cases gave each number.
+/// How many cases had each number.
 pub type Seen = [usize; 63];
 
 /// The six numbers of an outcome.

@@ -13,14 +13,16 @@ use lib.IntN.{ℤ, pos, negsuc, subℕ, _+ℤ_, +ℤ-assoc}
 use Rattle.value.specs.Number.{modZ}
 use Rattle.value.specs.Worked.{wrap-of}
 use Rattle.value.proofs.Theorems.Laws.{and-both, wrap-below}
-use Rattle.automaton.specs.Listed.{list-of, list-of-ext, length-list-of}
+use Rattle.automaton.specs.Listed.{list-of}
+use Rattle.automaton.specs.Contracts.ListedLaws.{list-of-ext, length-list-of}
 use Rattle.automaton.specs.Step.{Outcome, state, fault, Fault, no-fault, fault-at, fault-of, state-or, or-else, first-fault, Step, grid-after, up-to, step-of}
 use Rattle.automaton.specs.Shape.{product, cell-number, coordinates, shift, neighbour, Bound}
-use Rattle.automaton.specs.ShapeLaws.{Inside, Positive, Alike, product-pos, coordinates-inside, number-lt, shift-inside, Within}
+use Rattle.automaton.specs.Contracts.ShapeLaws.{Inside, Positive, Alike, product-pos, coordinates-inside, number-lt, shift-inside, Within}
 use Rattle.automaton.proofs.Theorems.Quiet.{first-fault-ext, first-fault-none}
 use Rattle.automaton.specs.Grid.{cell-of, grid-of, Rule, automaton}
 use Rattle.automaton.proofs.Theorems.GridLaws.{Bounded, cell-of-grid-of, some-field}
-use Rattle.automaton.specs.Bands.{Band, rows-in, rows-with, runs-on, accepts, plannable, longest, plan-of, reached, next-rows, part-step, band-outcome, band-step, rows-lent, combined, combine, band-of, bands-of, kept-at, step-under}
+use Rattle.automaton.specs.Bands.{Band, rows-in, rows-with, runs-on, accepts, plannable, longest, plan-of, reached, next-rows, part-step, band-outcome, band-step}
+use Rattle.automaton.specs.Contracts.BandSteps.{rows-lent, combined, combine, band-of, bands-of, kept-at, step-under}
 
 -- ---- integers
 

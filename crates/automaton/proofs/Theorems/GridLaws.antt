@@ -11,10 +11,10 @@ use lib.IntN.{ℤ, pos, negsuc}
 use borrow.Author.Tests.{not-false, eq-eqb}
 use Rattle.value.specs.Number.{eqZ}
 use Rattle.value.proofs.Theorems.Laws.{eqZ-true}
-use Rattle.automaton.specs.Listed.{length-list-of, getD-list-of, list-of-ext}
+use Rattle.automaton.specs.Contracts.ListedLaws.{length-list-of, getD-list-of, list-of-ext}
 use Rattle.automaton.specs.Step.{state}
 use Rattle.automaton.specs.Shape.{product, neighbour, reach-of}
-use Rattle.automaton.specs.ShapeLaws.{Positive, zeros, neighbour-zeros}
+use Rattle.automaton.specs.Contracts.ShapeLaws.{Positive, zeros, neighbour-zeros}
 use Rattle.automaton.proofs.Theorems.Quiet.{Lawful, or-false}
 use Rattle.automaton.specs.Grid.{cell-of, grid-of, differ, Rule, automaton}
 

@@ -6,7 +6,7 @@ use mathlib.Core.Path.{_≡_, refl, sym, ap, ap₂, _∙_, subst}
 use mathlib.Core.Logic.{_⊎_, inl, inr}
 use mathlib.Core.Bool.{Bool, true, false, _||_, cond, true≢false}
 use mathlib.Core.List.{List, [], _∷_, _++_}
-use Rattle.automaton.specs.Listed.{list-of-ext}
+use Rattle.automaton.specs.Contracts.ListedLaws.{list-of-ext}
 use Rattle.automaton.specs.Step.{Fault, no-fault, fault-at, Automaton, any-of, changed, touched, open-in, marks-of, marked, Step, Run, Quiet, one-more, one-more-quiet, every-cell, no-cell, Blocks, quiet-step, quiet-run, run-of, open-count, full-count}
 use Rattle.automaton.proofs.Theorems.Quiet.{Lawful, quiet-then, quiet-from, quiet-run-from, any-none, marked-marks-of, Settled, Agree, quiet-run-agrees, open-le-full}
 use Rattle.automaton.proofs.Theorems.Blocks.{Block, blocks-of, Between, Rises, Joined, lists-join, rises-right}

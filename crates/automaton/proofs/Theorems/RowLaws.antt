@@ -11,10 +11,12 @@ use lib.ListN.{length, getD, set, length-set}
 use lib.Dec.{eqb}
 use borrow.Author.Tests.{eqb-true, eqb-false}
 use lib.Seq.{getD-set-same, getD-set-other, ext-getD}
-use Rattle.automaton.specs.Listed.{list-of, length-list-of, getD-list-of, last-or-below}
+use Rattle.automaton.specs.Listed.{list-of}
+use Rattle.automaton.specs.Contracts.ListedLaws.{length-list-of, getD-list-of, last-or-below}
 use Rattle.automaton.specs.Step.{how-many, non-zero}
 use Rattle.automaton.proofs.Theorems.Quiet.{how-many-ext}
-use Rattle.automaton.specs.Rows.{counts-by, in-rows, or-later, lowest, first-row, cells-in-rows, some-below, first-row-with}
+use Rattle.automaton.specs.Rows.{counts-by, in-rows, or-later, lowest, first-row}
+use Rattle.automaton.specs.Contracts.RowsOfGrid.{cells-in-rows, some-below, first-row-with}
 
 -- ---- numbers below n that pass a test
 

@@ -9,10 +9,10 @@ use lib.IntN.{ℤ, pos, negsuc}
 use Rattle.automaton.specs.Grid.{differ}
 use Rattle.automaton.specs.Bands
 use Rattle.token.specs.Bytes.{as-bytes}
-use Rattle.services.proofs.Theorems.Cases
-use Rattle.bands.specs.Edge
-use Rattle.bands.specs.OnSizes
-use Rattle.bands.specs.Plans.{band}
+use Rattle.run_calls.proofs.Theorems.Cases
+use Rattle.band_meaning.specs.Edge
+use Rattle.band_meaning.specs.OnSizes
+use Rattle.band_meaning.specs.Plans.{band}
 use Rattle.band_call.specs.BandCall
 use Rattle.band_call.specs.BandCall.{band-source}
 

@@ -5,17 +5,18 @@ use mathlib.Core.List.{List, _∷_}
 use lib.ListN.{length}
 use lib.IntN.{ℤ, natAbs}
 use Rattle.automaton.specs.Shape.{product, neighbour}
-use Rattle.automaton.specs.ShapeLaws.{Positive}
+use Rattle.automaton.specs.Contracts.ShapeLaws.{Positive}
 use Rattle.automaton.specs.Grid.{cell-of}
-use Rattle.automaton.specs.Bands.{Band, rows-in, rows-with, part-step, rows-lent, band-of}
+use Rattle.automaton.specs.Bands.{Band, rows-in, rows-with, part-step}
+use Rattle.automaton.specs.Contracts.BandSteps.{rows-lent, band-of}
 use Rattle.automaton.proofs.Theorems.BandLaws.{band-is}
 use Rattle.program.specs.Syntax.{Program}
-use Rattle.semantics.specs.Evaluation.{evaluate}
-use Rattle.stepper.specs.Reach.{reach}
-use Rattle.stepper.proofs.Theorems.Locality.{Flagged, evaluate-bounded}
-use Rattle.stepper.proofs.Theorems.Covering.{reach-covers}
-use Rattle.bands.specs.Edge.{edge}
-use Rattle.bands.proofs.Theorems.EdgeTheorems.{edged}
+use Rattle.cell_meaning.specs.Evaluation.{evaluate}
+use Rattle.run_meaning.specs.Reach.{reach}
+use Rattle.run_meaning.proofs.Theorems.Locality.{Flagged, evaluate-bounded}
+use Rattle.run_meaning.proofs.Theorems.Covering.{reach-covers}
+use Rattle.band_meaning.specs.Edge.{edge}
+use Rattle.band_meaning.proofs.Theorems.EdgeTheorems.{edged}
 use Rattle.band_call.specs.BandCall.{BandAsked, band-stepped}
 
 -- a call with the rows of a grid

@@ -10,8 +10,8 @@ use lib.Dec.{eqb, leb, ltb}
 use borrow.Author.Tests.{eq-eqb, eqb-true, le-leb, leb-true, lt-ltb}
 use Rattle.automaton.specs.Shape.{Bound}
 use Rattle.automaton.specs.Bands.{Band, rows-in, rows-with, runs-on, accepts}
-use Rattle.bands.specs.Plans.{band}
-use Rattle.banding.proofs.AllBands.{and4, runs-within}
+use Rattle.band_meaning.specs.Plans.{band}
+use Rattle.band_step.proofs.AllBands.{and4, runs-within}
 use Rattle.band_call.specs.BandCall.{band-right}
 use Rattle.band_call.proofs.AskingLaws.{right-knows, by-held}
 

@@ -7,11 +7,11 @@ use lib.ListN.{length, getD}
 use lib.IntN.{ℤ, pos}
 use Rattle.automaton.specs.Shape.{product, Bound}
 use Rattle.automaton.specs.Bands.{Band}
-use Rattle.stepper.specs.Admission.{all-between, good-times}
+use Rattle.run_meaning.specs.Admission.{all-between, good-times}
 use Rattle.band_call.specs.BandCall.{band-right, band-rooms}
 
 -- what `row_cells` asks
-pub record Divisible (sizes : List ℕ) : Type 0 where
+pub record RowsDivide (sizes : List ℕ) : Type 0 where
   pub some-dims : 0 < length sizes
   pub few-dims : length sizes ≤ 3
   pub each-size : all-between 1 4096 sizes ≡ true

@@ -7,20 +7,20 @@ use lib.ListN.{length, getD, drop}
 use lib.IntN.{ℤ}
 use Rattle.automaton.specs.Step as automaton
 use Rattle.automaton.specs.Shape.{product, Bound}
-use Rattle.automaton.specs.ShapeLaws.{Positive}
+use Rattle.automaton.specs.Contracts.ShapeLaws.{Positive}
 use Rattle.automaton.specs.Bands.{Band, rows-in, rows-with, band-step}
-use Rattle.token.specs.Lexeme.{is-built-in}
 use Rattle.program.specs.Syntax.{Program}
-use Rattle.grammar.specs.Checking.{words-after, names-after}
-use Rattle.semantics.specs.declared.Rule.{Rule}
-use Rattle.semantics.specs.Evaluation.{evaluate}
-use Rattle.semantics.specs.Stands.{Holds}
-use Rattle.stepper.specs.Contracts.Fitting.{Sized}
-use Rattle.stepper.specs.Report as report
-use Rattle.services.specs.Calls.{NameForm}
-use Rattle.iteration.specs.declared.Report.{Report}
-use Rattle.iteration.specs.Contracts.Stepwise.{told}
-use Rattle.band_call.specs.BandCall.{row-cells, BandAsked, band-ended, band-source, BandLent, band-left}
+use Rattle.grammar.specs.Checking.{words-after}
+use Rattle.grammar.specs.Contracts.Flat.{names-after}
+use Rattle.cell_meaning.specs.declared.Rule.{Rule}
+use Rattle.cell_meaning.specs.Evaluation.{evaluate}
+use Rattle.cell_meaning.specs.Contracts.Stands.{Holds}
+use Rattle.run_meaning.specs.Contracts.Fitting.{Sized}
+use Rattle.run_meaning.specs.Report as report
+use Rattle.run_calls.specs.Calls.{NameForm, SourceLent}
+use Rattle.run_steps.specs.declared.Report.{Report}
+use Rattle.run_steps.specs.Told.{told}
+use Rattle.band_call.specs.BandCall.{row-cells, BandAsked, band-ended, band-source, band-left}
 
 -- `step_lent`: what is asked of an admitted call
 pub record LentFits (words : List ℕ) (rule : Rule) (sizes : List ℕ) (row : ℕ) (border : Bound) (b : Band) (rows room time : ℕ) : Type 0 where
@@ -53,12 +53,5 @@ pub record StepsSource (fit : Bool) (source words names : List ℕ) (q : BandAsk
   pub names-are : names′ ≡ names-after fit source names
 
 -- `step_band`: the report, and the memory that it leaves, are those of the definition
-pub record BandLeaves {N : Type 0} (form : NameForm N) (l : BandLent N) (r : Report) (words : List ℕ) (names : List N) (room : List ℤ) : Type 0 where
-  pub is : record { report = told r room; words = words; names = names } ≡ band-left form l
-
--- what is asked, and what is lent
-abbrev pub band-asked : List ℕ → (first last held : ℕ) → List ℤ → List ℤ → ℤ → BandAsked
-band-asked sizes first last held rows room time = record { sizes = sizes; band = record { first = first; last = last }; held = held; rows = rows; room = room; time = time }
-
-abbrev pub band-lent : {N : Type 0} → List ℕ → List ℕ → List ℕ → List N → BandAsked → BandLent N
-band-lent source list words names q = record { source = source; list = list; words = words; names = names; asked = q }
+pub record BandLeaves {N : Type 0} (form : NameForm N) (l : SourceLent N) (q : BandAsked) (r : Report) (words : List ℕ) (names : List N) (room : List ℤ) : Type 0 where
+  pub is : record { answer = told r room; words = words; names = names } ≡ band-left form l q

@@ -9,15 +9,15 @@ use lib.IntN.{pos}
 use borrow.Author.Tests.{eqb-true, eqb-false, ne-eqb}
 use Rattle.grammar.specs.Source.{Accepted}
 use Rattle.grammar.specs.Checking.{accepted, read-source}
-use Rattle.one_move.specs.Profile.{profile-flag}
-use Rattle.stepper.specs.Report.{full}
-use Rattle.lists.specs.ListChecking.{Turned}
-use Rattle.services.specs.Running.{admitted}
-use Rattle.services.proofs.Theorems.RunningLaws.{run-refused}
-use Rattle.services.specs.Services.{run-begins, run-read, run-source}
-use Rattle.services.specs.Calls.{NameForm, fits, asked, read-lent, run-left}
-use Rattle.bands.specs.Plans.{plan-fits}
-use Rattle.runner.proofs.RunLaws.{left-by, room-kept, marks-kept, counts-kept}
+use Rattle.move_meaning.specs.Profile.{profile-flag}
+use Rattle.run_meaning.specs.Report.{full}
+use Rattle.list_meaning.specs.ListChecking.{Turned}
+use Rattle.run_calls.specs.Running.{admitted}
+use Rattle.run_calls.proofs.Theorems.RunningLaws.{run-refused}
+use Rattle.run_calls.specs.Services.{run-begins, run-read, run-source}
+use Rattle.run_calls.specs.Calls.{NameForm, fits, asked, read-lent, run-left}
+use Rattle.band_meaning.specs.Plans.{plan-fits}
+use Rattle.run_source.proofs.RunLaws.{left-by, room-kept, marks-kept, counts-kept}
 use Rattle.band_run.specs.BandedRun.{room-right, admitted-under, BandedLent, BandedLeft, under, left-refused, banded-left}
 use Rattle.band_run.proofs.RefusalLaws.{under-as}
 use Rattle.band_run.proofs.LeavingLaws.{refused-with, left-none, left-some}

@@ -10,13 +10,13 @@ use Rattle.automaton.specs.Grid.{differ}
 use Rattle.automaton.specs.Bands
 use Rattle.token.specs.Bytes.{as-bytes, same}
 use Rattle.token.specs.Lexeme.{built-in-names}
-use Rattle.services.proofs.Theorems.Cases
-use Rattle.services.proofs.Theorems.Cases.{same-report, report}
-use Rattle.services.specs.Calls
-use Rattle.services.specs.Calls.{NameForm, memory, lent}
-use Rattle.bands.specs.Edge
-use Rattle.bands.specs.Plans
-use Rattle.stepper.specs.Report.{Report}
+use Rattle.run_calls.proofs.Theorems.Cases
+use Rattle.run_calls.proofs.Theorems.Cases.{same-report, report}
+use Rattle.run_calls.specs.Calls
+use Rattle.run_calls.specs.Calls.{NameForm, memory, lent}
+use Rattle.band_meaning.specs.Edge
+use Rattle.band_meaning.specs.Plans
+use Rattle.run_meaning.specs.Report.{Report}
 use Rattle.band_run.specs.BandedRun
 use Rattle.band_run.specs.BandedRun.{BandedLent, banded-left}
 

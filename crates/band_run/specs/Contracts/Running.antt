@@ -8,13 +8,14 @@ use lib.IntN.{ℤ}
 use Rattle.automaton.specs.Shape.{product, Bound}
 use Rattle.token.specs.Lexeme.{is-built-in}
 use Rattle.program.specs.Syntax.{Program}
-use Rattle.semantics.specs.declared.Rule.{Rule}
-use Rattle.stepper.specs.declared.Reach.{Reach}
-use Rattle.services.specs.Calls.{NameForm, flat-names, Memory, Lent}
-use Rattle.bands.specs.Edge.{edge}
-use Rattle.bands.specs.Plans.{plan-right}
-use Rattle.iteration.specs.declared.Report.{Report}
-use Rattle.iteration.specs.Contracts.Stepwise.{Runs, told}
+use Rattle.cell_meaning.specs.declared.Rule.{Rule}
+use Rattle.run_meaning.specs.declared.Reach.{Reach}
+use Rattle.run_calls.specs.Calls.{NameForm, flat-names, Memory}
+use Rattle.band_meaning.specs.Edge.{edge}
+use Rattle.band_meaning.specs.Plans.{plan-right}
+use Rattle.run_steps.specs.declared.Report.{Report}
+use Rattle.run_steps.specs.Contracts.Stepwise.{Runs}
+use Rattle.run_steps.specs.Told.{told}
 use Rattle.band_run.specs.BandedRun.{BandedLent, banded-left}
 
 -- `run_admitted`: what is asked beside a run: the border rows are those of the program and no more than the grid's rows, the plan is accepted, and the
@@ -33,6 +34,3 @@ pub record BandedLeaves {N : Type 0} (form : NameForm N) (l : BandedLent N) (r :
 -- `run_planned`: the same of every built-in list; `lends` is what is lent, by the list
 pub record BandsListed (lends : List ℕ → BandedLent ℕ) (r : Report) (m : Memory ℕ) (room : List ℤ) : Type 0 where
   pub each : (list : List ℕ) → is-built-in list ≡ true → BandedLeaves flat-names (lends list) r m room
-
-abbrev pub banded-lent : {N : Type 0} → Lent N → ℕ → List ℕ → List ℤ → BandedLent N
-banded-lent run held plan room = record { run = run; held = held; plan = plan; room = room }

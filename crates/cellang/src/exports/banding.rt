@@ -1,22 +1,24 @@
 // Plans of bands of rows, one band's call, and a run under a plan.
-ghost use Rattle.bands.specs.BorderCall.{borders-lent};
-ghost use Rattle.bands.specs.PlanCalls.{plan-lent};
-ghost use Rattle.band_call.specs.Contracts.Calling.{band-asked, band-lent};
-ghost use Rattle.services.specs.Calls.{memory, lent};
-ghost use Rattle.band_run.specs.Contracts.Running.{banded-lent};
-ghost use Rattle.cellang.specs.Contracts.Told.{TellsBorders, TellsPlanCheck, TellsPlanned, TellsBand, is-asked, TellsBanded};
+ghost use Rattle.run_calls.specs.Calls.{flat-names, source-lent, memory, lent};
+ghost use Rattle.run_meaning.specs.Report.{Report};
+ghost use Rattle.band_meaning.specs.BorderCall.{borders-left};
+ghost use Rattle.band_meaning.specs.Plans.{Planned};
+ghost use Rattle.band_meaning.specs.PlanCalls.{plan-check-left, planner-left};
+ghost use Rattle.band_call.specs.BandCall.{band-asked, band-left};
+ghost use Rattle.band_run.specs.BandedRun.{banded-lent};
+ghost use Rattle.cellang.specs.Contracts.Told.{TellsSource, TellsRoom, reply-entries, border-entries, planned-entries, report-entries, is-asked, TellsBanded};
+use api_entries::put_borders;
+use api_entries::put_planned;
+use api_entries::put_reply;
+use api_entries::put_report;
 use band_call::step_band;
+use band_planner::borders_of;
+use band_planner::check_plan;
+use band_planner::plan_bands;
 use band_run::run_banded;
-use entries::put_borders;
-use entries::put_planned;
-use entries::put_reply;
-use entries::put_report;
-use planner::borders_of;
-use planner::check_plan;
-use planner::plan_bands;
 use spelling::told_part;
 
-// How many border rows a band has: gives the reply's number. `reply` is told number, place, the rows before and behind, and the spelling: where it stands, its
+// How many border rows a band has: returns the reply's number. `reply` gets number, place, the rows before and behind, and the spelling: where it is, its
 // first byte and its length.
 #[no_mangle]
 pub extern "C" fn cellang_border_rows(
@@ -27,7 +29,7 @@ pub extern "C" fn cellang_border_rows(
     sizes: &[u32],
     reply: &mut [u32],
 ) -> u32
-    ensures { λ r. ⌜ TellsBorders (borders-lent (now (source .entry)) (now (list .entry)) (now (words .entry)) (now (names .entry)) (now (sizes .entry))) (now (reply .entry)) r (now (words .exit)) (now (names .exit)) (now (reply .exit)) ⌝ }
+    ensures { λ r. ⌜ TellsSource (borders-left flat-names (source-lent (now (source .entry)) (now (list .entry)) (now (words .entry)) (now (names .entry))) (now (sizes .entry))) (border-entries (now (source .entry))) (now (reply .entry)) r (now (words .exit)) (now (names .exit)) (now (reply .exit)) ⌝ }
 {
     let told = borders_of(source, list, words, names, sizes);
     let part = told_part(source, told.number, told.place);
@@ -44,7 +46,7 @@ pub extern "C" fn cellang_border_rows(
     told.number
 }
 
-// Checks a plan, and gives the reply's number. `reply` is told number and place, and the spelling: where it stands, its first byte and its length.
+// Checks a plan, and returns the reply's number. `reply` gets number and place, and the spelling: where it is, its first byte and its length.
 #[no_mangle]
 pub extern "C" fn cellang_check_plan(
     source: &[u8],
@@ -56,7 +58,7 @@ pub extern "C" fn cellang_check_plan(
     plan: &[u32],
     reply: &mut [u32],
 ) -> u32
-    ensures { λ r. ⌜ TellsPlanCheck (plan-lent (now (source .entry)) (now (list .entry)) (now (words .entry)) (now (names .entry)) (now (sizes .entry)) held (now (plan .entry))) (now (reply .entry)) r (now (words .exit)) (now (names .exit)) (now (reply .exit)) ⌝ }
+    ensures { λ r. ⌜ TellsSource (plan-check-left flat-names (source-lent (now (source .entry)) (now (list .entry)) (now (words .entry)) (now (names .entry))) (now (sizes .entry)) held (now (plan .entry))) (λ c. reply-entries (now (source .entry)) (c .number) (c .place)) (now (reply .entry)) r (now (words .exit)) (now (names .exit)) (now (reply .exit)) ⌝ }
 {
     let told = check_plan(source, list, words, names, sizes, held, plan);
     let part = told_part(source, told.number, told.place);
@@ -71,7 +73,7 @@ pub extern "C" fn cellang_check_plan(
     told.number
 }
 
-// Plans the bands, and gives the reply's number. `reply` is told number, place and how many bands there are, and the spelling: where it stands, its first byte
+// Plans the bands, and returns the reply's number. `reply` gets number, place and how many bands there are, and the spelling: where it is, its first byte
 // and its length.
 #[no_mangle]
 pub extern "C" fn cellang_plan_bands(
@@ -84,7 +86,7 @@ pub extern "C" fn cellang_plan_bands(
     bands: &mut [u32],
     reply: &mut [u32],
 ) -> u32
-    ensures { λ r. ⌜ TellsPlanned (plan-lent (now (source .entry)) (now (list .entry)) (now (words .entry)) (now (names .entry)) (now (sizes .entry)) held (now (bands .entry))) (now (reply .entry)) r (now (words .exit)) (now (names .exit)) (now (bands .exit)) (now (reply .exit)) ⌝ }
+    ensures { λ r. ⌜ TellsRoom (planner-left flat-names (source-lent (now (source .entry)) (now (list .entry)) (now (words .entry)) (now (names .entry))) (now (sizes .entry)) held (now (bands .entry))) (planned-entries (now (source .entry))) (λ (x : Planned). x .room) (now (reply .entry)) r (now (words .exit)) (now (names .exit)) (now (bands .exit)) (now (reply .exit)) ⌝ }
 {
     let told = plan_bands(source, list, words, names, sizes, held, bands);
     let part = told_part(source, told.number, told.place);
@@ -100,7 +102,7 @@ pub extern "C" fn cellang_plan_bands(
     told.number
 }
 
-// One band's step, from the band's old rows with borders and the time alone: gives the reply's number. `report` is told as that of a run of one step.
+// One band's step, from the band's old rows with borders and the time alone: returns the reply's number. `report` gets that of a run of one step.
 #[no_mangle]
 pub extern "C" fn cellang_step_band(
     source: &[u8],
@@ -116,7 +118,7 @@ pub extern "C" fn cellang_step_band(
     time: i64,
     report: &mut [u64],
 ) -> u32
-    ensures { λ r. ⌜ TellsBand (band-lent (now (source .entry)) (now (list .entry)) (now (words .entry)) (now (names .entry)) (band-asked (now (sizes .entry)) first last held (now (rows .entry)) (now (room .entry)) time)) (now (report .entry)) r (now (words .exit)) (now (names .exit)) (now (room .exit)) (now (report .exit)) ⌝ }
+    ensures { λ r. ⌜ TellsRoom (band-left flat-names (source-lent (now (source .entry)) (now (list .entry)) (now (words .entry)) (now (names .entry))) (band-asked (now (sizes .entry)) first last held (now (rows .entry)) (now (room .entry)) time)) (report-entries (now (source .entry))) (λ (x : Report). x .grid) (now (report .entry)) r (now (words .exit)) (now (names .exit)) (now (room .exit)) (now (report .exit)) ⌝ }
 {
     let told = step_band(
         source,
@@ -147,7 +149,7 @@ pub extern "C" fn cellang_step_band(
     told.number
 }
 
-// A full run under a plan, with a value list; it keeps row counts if `counted` is not 0: gives the reply's number. `report` is told as that of a run.
+// A full run under a plan, with a value list; it keeps row counts if `counted` is not 0: returns the reply's number. `report` gets that of a run.
 #[no_mangle]
 pub extern "C" fn cellang_run_banded(
     source: &[u8],

@@ -1,13 +1,13 @@
 // Checking a source.
-ghost use lib.ListN.{length};
-ghost use Rattle.grammar.specs.Checking.{lent-fit};
-ghost use Rattle.cellang.specs.Contracts.Told.{TellsCheck};
-use checker::check;
-use entries::put_reply;
+ghost use Rattle.grammar.specs.Checking.{check};
+ghost use Rattle.run_calls.specs.Calls.{flat-names, source-lent, source-left};
+ghost use Rattle.cellang.specs.Contracts.Told.{TellsSource, reply-entries};
+use api_entries::put_reply;
+use read_source::check;
 use spelling::told_part;
 
-// Checks a source, and gives the reply's number. `reply` is told number and place, and the spelling: where it
-// stands, its first byte and its length.
+// Checks a source, and returns the reply's number. `reply` gets number and place, and the spelling: where it
+// is, its first byte and its length.
 #[no_mangle]
 pub extern "C" fn cellang_check(
     source: &[u8],
@@ -16,7 +16,7 @@ pub extern "C" fn cellang_check(
     names: &mut [u32],
     reply: &mut [u32],
 ) -> u32
-    ensures { λ r. ⌜ TellsCheck (lent-fit (now (list .entry)) (length (now (words .entry))) (length (now (names .entry)))) (now (source .entry)) (now (words .entry)) (now (names .entry)) (now (reply .entry)) r (now (words .exit)) (now (names .exit)) (now (reply .exit)) ⌝ }
+    ensures { λ r. ⌜ TellsSource (source-left flat-names (source-lent (now (source .entry)) (now (list .entry)) (now (words .entry)) (now (names .entry))) check) (λ c. reply-entries (now (source .entry)) (c .number) (c .place)) (now (reply .entry)) r (now (words .exit)) (now (names .exit)) (now (reply .exit)) ⌝ }
 {
     let told = check(source, list, words, names);
     let part = told_part(source, told.number, told.place);

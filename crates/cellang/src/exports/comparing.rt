@@ -1,9 +1,9 @@
 // Comparing two grids.
 ghost use Rattle.cellang.specs.Contracts.Told.{TellsComparison};
-use comparison::compare;
-use entries::put_comparison;
+use api_comparison::compare;
+use api_entries::put_comparison;
 
-// Lists the entries in which two grids differ, as `compare` does, and gives the reply's number. `reply` is told number and total.
+// Lists the entries in which two grids differ, as `compare` does, and returns the reply's number. Writes number and total to `reply`.
 #[no_mangle]
 pub extern "C" fn cellang_compare(
     left: &[i32],

@@ -1,12 +1,12 @@
 // The runs that keep row counts: how many cells of each row of the first dimension have 0 in the field with a number.
 ghost use mathlib.Core.Bool.{true};
-ghost use Rattle.stepper.specs.Report.{full, quiet, pausing, resuming};
-ghost use Rattle.services.specs.Calls.{flat-names, memory, lent, asked, read-lent, run-report};
-ghost use Rattle.services.specs.RangesKept.{RangesKept};
-ghost use Rattle.runner.specs.Contracts.Agreement.{Agree};
+ghost use Rattle.run_meaning.specs.Report.{full, quiet, pausing, resuming};
+ghost use Rattle.run_calls.specs.Calls.{flat-names, memory, lent, asked, read-lent, run-report};
+ghost use Rattle.run_calls.specs.RangesKept.{RangesKept};
+ghost use Rattle.run_source.specs.Contracts.Agreement.{Agree};
 ghost use Rattle.cellang.specs.Contracts.Told.{TellsRun};
 use crate::exports::telling::run_told;
-use iteration::Manner;
+use run_steps::Manner;
 
 // The full run with a value list. The counts are those of the grid that is left; after a refusal they are as they were.
 #[no_mangle]

@@ -1,16 +1,16 @@
 // Running a source with a value list.
 ghost use mathlib.Core.Bool.{false};
 ghost use mathlib.Core.List.{[]};
-ghost use Rattle.stepper.specs.Report.{full, quiet};
-ghost use Rattle.services.specs.Calls.{flat-names, memory, lent, asked, read-lent, run-report};
-ghost use Rattle.services.specs.RangesKept.{RangesKept};
-ghost use Rattle.runner.specs.Contracts.Agreement.{Agree};
+ghost use Rattle.run_meaning.specs.Report.{full, quiet};
+ghost use Rattle.run_calls.specs.Calls.{flat-names, memory, lent, asked, read-lent, run-report};
+ghost use Rattle.run_calls.specs.RangesKept.{RangesKept};
+ghost use Rattle.run_source.specs.Contracts.Agreement.{Agree};
 ghost use Rattle.cellang.specs.Contracts.Told.{TellsRun};
 use crate::exports::telling::run_told;
-use iteration::Manner;
+use run_steps::Manner;
 
-// Runs a source on a grid with the blocks of a value list. Each step evaluates every cell, and gives the reply's number.
-// `report` is told as by the run without a list.
+// Runs a source on a grid with the blocks of a value list. Each step evaluates every cell. Returns the reply's number.
+// `report` is written as by the run without a list.
 #[no_mangle]
 pub extern "C" fn cellang_run_full_list(
     source: &[u8],
@@ -50,8 +50,8 @@ pub extern "C" fn cellang_run_full_list(
     )
 }
 
-// Runs a source on a grid with the blocks of a value list. Each step evaluates the open cells alone, and gives the reply's number.
-// `report` is told as by the full run; but for the count its numbers are the full run's, and so is the grid.
+// Runs a source on a grid with the blocks of a value list. Each step evaluates the open cells alone. Returns the reply's number.
+// `report` is written as by the full run; but for the count its numbers are the full run's, and so is the grid.
 #[no_mangle]
 pub extern "C" fn cellang_run_quiet_list(
     source: &[u8],

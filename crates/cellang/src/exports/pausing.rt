@@ -1,16 +1,16 @@
 // A quiet run that is paused, and one that is resumed.
 ghost use mathlib.Core.Bool.{false};
 ghost use mathlib.Core.List.{[]};
-ghost use Rattle.stepper.specs.Report.{full, pausing, resuming};
-ghost use Rattle.services.specs.Calls.{flat-names, memory, lent, asked, read-lent, run-report};
-ghost use Rattle.services.specs.RangesKept.{RangesKept};
-ghost use Rattle.runner.specs.Contracts.Agreement.{Agree};
+ghost use Rattle.run_meaning.specs.Report.{full, pausing, resuming};
+ghost use Rattle.run_calls.specs.Calls.{flat-names, memory, lent, asked, read-lent, run-report};
+ghost use Rattle.run_calls.specs.RangesKept.{RangesKept};
+ghost use Rattle.run_source.specs.Contracts.Agreement.{Agree};
 ghost use Rattle.cellang.specs.Contracts.Told.{TellsRun};
 use crate::exports::telling::run_told;
-use iteration::Manner;
+use run_steps::Manner;
 
-// Runs a source on a grid with the blocks of a value list. Each step evaluates the open cells alone, and gives the reply's number. After success the marks
-// are left standing: 1 for a cell that one more step would open, else 0. `report` is told as by the quiet run, and is the same.
+// Runs a source on a grid with the blocks of a value list. Each step evaluates the open cells alone. Returns the reply's number. After success the marks
+// are left standing: 1 for a cell that one more step would open, else 0. `report` is written as by the quiet run, and is the same.
 #[no_mangle]
 pub extern "C" fn cellang_run_pausing(
     source: &[u8],
@@ -51,7 +51,7 @@ pub extern "C" fn cellang_run_pausing(
     )
 }
 
-// The same, begun from the marks that are lent: in the first step those cells are open whose mark is not 0, and those that its block or `time` opens. The
+// The same, begun from the marks that are passed: in the first step those cells are open whose mark is not 0, and those that its block or `time` opens. The
 // marks may be any; what joins an earlier run are those that it left.
 #[no_mangle]
 pub extern "C" fn cellang_run_resuming(

@@ -1,16 +1,16 @@
 // Running a source.
 ghost use mathlib.Core.Bool.{false};
 ghost use mathlib.Core.List.{[]};
-ghost use Rattle.stepper.specs.Report.{full, quiet};
-ghost use Rattle.services.specs.Calls.{flat-names, memory, lent, asked, read-lent, run-report};
-ghost use Rattle.services.specs.RangesKept.{RangesKept};
-ghost use Rattle.runner.specs.Contracts.Agreement.{Agree};
+ghost use Rattle.run_meaning.specs.Report.{full, quiet};
+ghost use Rattle.run_calls.specs.Calls.{flat-names, memory, lent, asked, read-lent, run-report};
+ghost use Rattle.run_calls.specs.RangesKept.{RangesKept};
+ghost use Rattle.run_source.specs.Contracts.Agreement.{Agree};
 ghost use Rattle.cellang.specs.Contracts.Told.{TellsRun};
 use crate::exports::telling::run_told;
-use iteration::Manner;
+use run_steps::Manner;
 
-// Runs a source on a grid, each step of which evaluates every cell, and gives the reply's number.
-// `report` is told number, place, cell, steps and count, the spelling: where it stands, its first byte and its length, and the line of a value list.
+// Runs a source on a grid, each step of which evaluates every cell, and returns the reply's number.
+// `report` gets number, place, cell, steps and count, the spelling: where it is, its first byte and its length, and the line of a value list.
 #[no_mangle]
 pub extern "C" fn cellang_run_full(
     source: &[u8],
@@ -49,8 +49,8 @@ pub extern "C" fn cellang_run_full(
     )
 }
 
-// Runs a source on a grid, each step of which evaluates the open cells alone, and gives the reply's number.
-// `report` is told as by the full run; but for the count its numbers are the full run's, and so is the grid.
+// Runs a source on a grid, each step of which evaluates the open cells alone, and returns the reply's number.
+// `report` is written as by the full run; but for the count its numbers are the full run's, and so is the grid.
 #[no_mangle]
 pub extern "C" fn cellang_run_quiet(
     source: &[u8],

@@ -1,16 +1,16 @@
-// A run that is told in a slice.
-ghost use Rattle.stepper.specs.Report.{full};
-ghost use Rattle.services.specs.Calls.{flat-names, memory, lent, asked, read-lent, run-report};
-ghost use Rattle.services.specs.RangesKept.{RangesKept};
-ghost use Rattle.runner.specs.Contracts.Sourcewise.{manner-of};
-ghost use Rattle.runner.specs.Contracts.Agreement.{AgreesFresh};
+// A run whose report is written to a slice.
+ghost use Rattle.run_meaning.specs.Report.{full};
+ghost use Rattle.run_calls.specs.Calls.{flat-names, memory, lent, asked, read-lent, run-report};
+ghost use Rattle.run_calls.specs.RangesKept.{RangesKept};
+ghost use Rattle.run_source.specs.Contracts.Public.{manner-of};
+ghost use Rattle.run_source.specs.Contracts.Agreement.{AgreesFresh};
 ghost use Rattle.cellang.specs.Contracts.Told.{TellsRun};
-use entries::put_report;
-use iteration::Manner;
-use runner::run;
+use api_entries::put_report;
+use run_source::run;
+use run_steps::Manner;
 use spelling::told_part;
 
-// Runs a source, tells the report in a slice, and gives the reply's number.
+// Runs a source, writes the report to a slice, and returns the reply's number.
 pub fn run_told(
     source: &[u8],
     list: &[u8],

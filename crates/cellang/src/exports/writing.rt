@@ -1,12 +1,14 @@
 // Writing a value list.
-ghost use Rattle.list_writer.specs.WriterCalls.{wanted, writer-lent};
-ghost use Rattle.cellang.specs.Contracts.Told.{TellsWritten};
-use entries::put_written;
+ghost use Rattle.run_calls.specs.Calls.{flat-names, source-lent};
+ghost use Rattle.list_meaning.specs.Writing.{Wrote};
+ghost use Rattle.list_writer.specs.WriterCalls.{wanted, writer-left};
+ghost use Rattle.cellang.specs.Contracts.Told.{TellsRoom, written-entries};
+use api_entries::put_written;
 use list_writer::write_list;
 use spelling::told_part;
 
-// Writes the list that leads from the earlier grid to the later at a time, and gives the reply's number.
-// `reply` is told number, place and the text's length, and the spelling: where it stands, its first byte and its length.
+// Writes the list that leads from the earlier grid to the later at a time, and returns the reply's number.
+// `reply` gets number, place and the text's length, and the spelling: where it is, its first byte and its length.
 #[no_mangle]
 pub extern "C" fn cellang_write_list(
     source: &[u8],
@@ -20,7 +22,7 @@ pub extern "C" fn cellang_write_list(
     room: &mut [u8],
     reply: &mut [u64],
 ) -> u32
-    ensures { λ r. ⌜ TellsWritten (writer-lent (now (source .entry)) (now (list .entry)) (wanted (now (sizes .entry)) (now (earlier .entry)) (now (later .entry)) time) (now (words .entry)) (now (names .entry)) (now (room .entry))) (now (reply .entry)) r (now (words .exit)) (now (names .exit)) (now (room .exit)) (now (reply .exit)) ⌝ }
+    ensures { λ r. ⌜ TellsRoom (writer-left flat-names (source-lent (now (source .entry)) (now (list .entry)) (now (words .entry)) (now (names .entry))) (wanted (now (sizes .entry)) (now (earlier .entry)) (now (later .entry)) time) (now (room .entry))) (written-entries (now (source .entry))) (λ (w : Wrote). w .room) (now (reply .entry)) r (now (words .exit)) (now (names .exit)) (now (room .exit)) (now (reply .exit)) ⌝ }
 {
     let told = write_list(
         source,

@@ -5,9 +5,9 @@ use mathlib.Core.Option.{Option, some, none}
 use Prim.Native.Nat.{ℕ, zero, suc, _<_}
 use lib.ListN.{drop}
 use Rattle.program.specs.Syntax.{Range}
-use Rattle.lists.specs.Text.{Piece, literal, with-piece, pieces}
-use Rattle.lists.specs.Lines.{Said, bad, indices, cell-of-index, said-in}
-use Rattle.lists.specs.ListChecking.{Limits, time-number, line-number, time-behind, verdict, check-list}
+use Rattle.list_meaning.specs.Text.{Piece, literal, with-piece, pieces}
+use Rattle.list_meaning.specs.Lines.{Said, bad, indices, cell-of-index, said-in}
+use Rattle.list_meaning.specs.ListChecking.{Limits, time-number, line-number, time-behind, verdict, check-list}
 use Rattle.list_reader.specs.declared.checking.LineRead.{LineRead}
 use Rattle.list_reader.specs.declared.checking.LineRead.the-variants.{Right, Refused}
 use Rattle.list_reader.specs.declared.checking.Verdict as declared
@@ -59,5 +59,5 @@ abbrev pub answer : ℕ → ℕ → declared.Verdict
 answer number line = record { number = number; line = line }
 
 -- r is the verdict on a list
-pub record Checks (q : Limits) (text : List ℕ) (r : declared.Verdict) : Type 0 where
+pub record ChecksLines (q : Limits) (text : List ℕ) (r : declared.Verdict) : Type 0 where
   pub is : verdict (r .number) (r .line) ≡ check-list q text

@@ -5,10 +5,10 @@ use mathlib.Core.List.{List}
 use mathlib.Core.Option.{Option, some, none}
 use Prim.Native.Nat.{ℕ, _≤_, _<_}
 use lib.ListN.{length, drop}
-use Rattle.stepper.specs.Admission.{all-between}
+use Rattle.run_meaning.specs.Admission.{all-between}
 use Rattle.token.specs.Contracts.Promises.{too-large}
-use Rattle.lists.specs.Text.{Piece, literal, sign, with-piece, pieces}
-use Rattle.lists.specs.Walking.{Placed, wrong, placed, place-from}
+use Rattle.list_meaning.specs.Text.{Piece, literal, sign, with-piece, pieces}
+use Rattle.list_meaning.specs.Contracts.Walking.{Placed, wrong, placed, place-from}
 use Rattle.list_reader.specs.declared.places.Coordinate.{Coordinate}
 use Rattle.list_reader.specs.declared.places.Coordinate.the-variants as coordinate
 use Rattle.list_reader.specs.declared.places.Place.{Place}

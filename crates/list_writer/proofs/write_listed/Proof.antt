@@ -1,6 +1,6 @@
 -- `list_writer::write_listed` meets its contract.
 use borrow.Author.Tests.{not-false}
-use Rattle.profile.proofs.FlagLaws.{can-miss}
+use Rattle.move_profile.proofs.FlagLaws.{can-miss}
 use Rattle.list_writer.proofs.SourceLaws.{source-read}
 use Rattle.list_writer.proofs.WritingLaws.{source-refused, source-written, read-written}
 use borrow.Author.Needs.{needs}

@@ -7,14 +7,15 @@ use lib.ListN.{length}
 use lib.IntN.{ℤ, pos, natAbs}
 use Rattle.automaton.specs.Shape.{product}
 use Rattle.program.specs.Syntax.{Program}
-use Rattle.semantics.specs.declared.Rule.{Rule}
-use Rattle.semantics.specs.Stands.{Holds}
-use Rattle.semantics.specs.Written.{relatives-in}
-use Rattle.stepper.specs.Admission.{refusal, all-between, admission}
-use Rattle.stepper.specs.Contracts.Fitting.{Shaped}
-use Rattle.admission.specs.declared.Refusal.{Refusal}
-use Rattle.admission.specs.Contracts.Admitting.{request-of, Lists}
-use Rattle.lists.specs.Writing.{Wanted, writing-admission}
+use Rattle.cell_meaning.specs.declared.Rule.{Rule}
+use Rattle.cell_meaning.specs.Contracts.Stands.{Holds}
+use Rattle.cell_meaning.specs.Written.{relatives-in}
+use Rattle.program.specs.Refusal.{refusal}
+use Rattle.run_meaning.specs.Admission.{all-between, admission}
+use Rattle.run_meaning.specs.Contracts.Fitting.{Shaped}
+use Rattle.run_admission.specs.declared.Refusal.{Refusal}
+use Rattle.run_admission.specs.Contracts.Admitting.{request-of, Lists}
+use Rattle.list_meaning.specs.Writing.{Wanted, writing-admission}
 use Rattle.list_writer.specs.Contracts.Lines.{Grids}
 
 -- the number of cells, where a run could have these sizes
@@ -36,7 +37,7 @@ pub record AdmitsGrid (words : List ℕ) (rule : Rule) (sizes : List ℕ) (grid 
   pub timely : r .number ≡ 0 → Timely time
 
 -- what is known where both are admitted
-pub record Ready (rule : Rule) (q : Wanted) (count : ℕ) : Type 0 where
+pub record WriterReady (rule : Rule) (q : Wanted) (count : ℕ) : Type 0 where
   pub grids : Grids (q .sizes) (rule .fields) (q .earlier) (q .later)
   pub counted : count ≡ product (q .sizes)
   pub timely : Timely (q .time)
@@ -44,4 +45,4 @@ pub record Ready (rule : Rule) (q : Wanted) (count : ℕ) : Type 0 where
 -- the check of both is the definition's
 pub record AdmitsBoth (words : List ℕ) (rule : Rule) (q : Wanted) (count : ℕ) (r : Refusal) : Type 0 where
   pub says : (p : Program) → Holds words rule p → Lists words rule (relatives-in p) → refusal (r .number) (r .place) ≡ writing-admission p q
-  pub ready : r .number ≡ 0 → Ready rule q count
+  pub ready : r .number ≡ 0 → WriterReady rule q count

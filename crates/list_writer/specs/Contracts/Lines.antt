@@ -7,9 +7,9 @@ use Prim.Native.Nat.{ℕ, _*_, _≤_}
 use lib.ListN.{length}
 use lib.IntN.{ℤ}
 use Rattle.automaton.specs.Shape.{product, coordinates}
-use Rattle.automaton.specs.ShapeLaws.{Positive}
+use Rattle.automaton.specs.Contracts.ShapeLaws.{Positive}
 use Rattle.automaton.specs.Grid.{cell-of, differ}
-use Rattle.lists.specs.Writing.{cell-line, shown}
+use Rattle.list_meaning.specs.Writing.{cell-line, shown}
 
 -- two grids of these sizes with so many fields
 pub record Grids (sizes : List ℕ) (fields : ℕ) (earlier later : List ℤ) : Type 0 where

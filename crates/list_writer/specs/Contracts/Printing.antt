@@ -4,7 +4,7 @@ use mathlib.Core.List.{List, [], _∷_}
 use Prim.Native.Nat.{ℕ, zero, suc, _+_, _^_, _<_}
 use lib.ListN.{length}
 use lib.Seq.{sets}
-use Rattle.grammar.specs.Answer.{digits-of}
+use Rattle.grammar.specs.Decimal.{digits-of}
 
 -- a text is put into a room from position `at` on, as far as the room goes; r is the position behind it
 pub record Puts (old : List ℕ) (at : ℕ) (text new : List ℕ) (r : ℕ) : Type 0 where

@@ -5,22 +5,19 @@ use mathlib.Core.List.{List}
 use mathlib.Core.Option.{Option}
 use Prim.Native.Nat.{ℕ}
 use Rattle.program.specs.Syntax.{Program}
-use Rattle.grammar.specs.Checking.{words-after, names-after}
-use Rattle.semantics.specs.declared.Rule.{Rule}
-use Rattle.semantics.specs.Stands.{Holds}
-use Rattle.semantics.specs.Written.{relatives-in}
-use Rattle.services.specs.Calls.{NameForm}
-use Rattle.admission.specs.Contracts.Admitting.{Lists}
-use Rattle.one_move.specs.Profile.{flag-told}
-use Rattle.lists.specs.Writing.{Wanted, Wrote, write, write-source}
+use Rattle.grammar.specs.Checking.{words-after}
+use Rattle.grammar.specs.Contracts.Flat.{names-after}
+use Rattle.cell_meaning.specs.declared.Rule.{Rule}
+use Rattle.cell_meaning.specs.Contracts.Stands.{Holds}
+use Rattle.cell_meaning.specs.Written.{relatives-in}
+use Rattle.run_calls.specs.Calls.{NameForm, SourceLent}
+use Rattle.run_admission.specs.Contracts.Admitting.{Lists}
+use Rattle.move_meaning.specs.Contracts.Flags.{flag-told}
+use Rattle.list_meaning.specs.Writing.{Wanted, write, write-source}
 use Rattle.list_writer.specs.declared.Written.{Written}
-use Rattle.list_writer.specs.WriterCalls.{WriterLent, writer-left}
+use Rattle.list_writer.specs.WriterCalls.{writer-left, wrote-of}
 
--- the numbers that are returned, with the room
-abbrev pub wrote-of : Written → List ℕ → Wrote
-wrote-of r room = record { number = r .number; place = r .place; length = r .length; room = room }
-
--- the writer writes what the definition says, for every program that stands in the table, and the flag that the number tells
+-- the writer writes what the definition says, for every program that stands in the table, and the flag that the number stands for
 pub record WritesLoaded (words : List ℕ) (rule : Rule) (told : ℕ) (q : Wanted) (room : List ℕ) (r : Written) (room′ : List ℕ) : Type 0 where
   pub is : (p : Program) (flag : Option ℕ) → Holds words rule p → Lists words rule (relatives-in p) → told ≡ flag-told (rule .fields) flag
       → wrote-of r room′ ≡ write p flag q room
@@ -32,5 +29,5 @@ pub record WritesSource (fit : Bool) (source : List ℕ) (q : Wanted) (words nam
   pub names-are : names′ ≡ names-after fit source names
 
 -- the numbers that the writer returns, and the memory that it leaves, are those of the definition
-pub record WriterLeaves {N : Type 0} (form : NameForm N) (l : WriterLent N) (r : Written) (words : List ℕ) (names : List N) (room : List ℕ) : Type 0 where
-  pub is : record { wrote = wrote-of r room; words = words; names = names } ≡ writer-left form l
+pub record WriterLeaves {N : Type 0} (form : NameForm N) (l : SourceLent N) (q : Wanted) (room : List ℕ) (r : Written) (words : List ℕ) (names : List N) (room′ : List ℕ) : Type 0 where
+  pub is : record { answer = wrote-of r room′; words = words; names = names } ≡ writer-left form l q room

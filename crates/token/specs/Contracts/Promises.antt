@@ -6,10 +6,11 @@ use Prim.Native.Nat.{ℕ, _+_, _-_, _*_, _≤_, _<_}
 use lib.ListN.{length, take, drop, getD, replicate}
 use lib.Seq.{slice}
 use lib.Dec.{eqb}
+use Rattle.value.specs.Limits.{most-tokens}
 use Rattle.value.specs.Choice.{if_then_else_}
 use Rattle.token.specs.Bytes.{byte-kind, kind-of}
 use Rattle.token.specs.Lexeme.{Lexeme, Spelled, spelled, keywords, two-byte-tokens, starts, in-name, in-literal, extent, lexeme-of, word, digits, read-token}
-use Rattle.token.specs.Scanning.{blanks, most-tokens, token-of, stop-number, scan, token-words, scanned-words, scan-of}
+use Rattle.token.specs.Scanning.{blanks, token-from, stop-number, scan, token-words, scanned-words, scan-of}
 use Rattle.token.specs.declared.Token.{Token}
 use Rattle.token.specs.declared.Scan.{Scan}
 use Rattle.token.specs.declared.Lexed.{Lexed}
@@ -28,7 +29,7 @@ head-kind (b ∷ bs) = kind-of b
 -- ---- runs
 
 -- r is n bytes behind `at`, and within the source if `at` is
-pub record Walks (n : ℕ) (source : List ℕ) (at r : ℕ) : Type 0 where
+pub record WalksTokens (n : ℕ) (source : List ℕ) (at r : ℕ) : Type 0 where
   pub is : r ≡ at + n
   pub within : r - at ≤ length source - at
 
@@ -114,10 +115,10 @@ digits-here s = digits s (extent in-literal s)
 
 -- a token at a place, and the place behind it
 abbrev pub lexed-of : Lexeme → ℕ → Lexed
-lexed-of w place = record { token = token-of w place; next = record { at = place + w .len } }
+lexed-of w place = record { token = token-from w place; next = record { at = place + w .len } }
 
 -- the token that stands at a place of the source, and the place behind it, which is further on and within the source
-pub record Reads (source : List ℕ) (at : ℕ) (r : Lexed) : Type 0 where
+pub record ReadsToken (source : List ℕ) (at : ℕ) (r : Lexed) : Type 0 where
   pub is : r ≡ lexed-of (read-token (drop at source)) at
   pub start : r .token .start ≡ at
   pub behind : r .next .at ≡ at + r .token .len

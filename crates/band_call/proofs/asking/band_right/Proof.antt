@@ -1,6 +1,6 @@
 use native.Mathlib.Omega.{arith}
-use Rattle.bands.specs.Plans.{band}
-use Rattle.bands.specs.Edge.{bound}
+use Rattle.band_meaning.specs.Plans.{band}
+use Rattle.band_meaning.specs.Bounds.{bound}
 use Rattle.band_call.proofs.AskingLaws.{reversed, past-end, by-held}
 use borrow.Author.Needs.{needs}
 use Rattle.band_call.proofs.asking.band_right.Statement.{statement}

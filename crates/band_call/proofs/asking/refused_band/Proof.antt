@@ -1,9 +1,9 @@
 use mathlib.Core.Path.{ap, _∙_}
 use lib.IntN.{ℤ, pos}
 use mir.Facts.{toZ-ofZ}
-use Rattle.stepper.specs.Admission.{good-times}
-use Rattle.bands.specs.Plans.{band}
-use Rattle.bands.specs.Edge.{bound}
+use Rattle.run_meaning.specs.Admission.{good-times}
+use Rattle.band_meaning.specs.Plans.{band}
+use Rattle.band_meaning.specs.Bounds.{bound}
 use Rattle.band_call.proofs.AskingLaws.{right-knows, is-right, refuses-60, refuses-21, refuses-22, refuses-none}
 use borrow.Author.Needs.{needs}
 use Rattle.band_call.proofs.asking.refused_band.Statement.{statement}

@@ -1,7 +1,7 @@
 use Prim.Native.Nat.{_+_, _-_}
 use native.Mathlib.Omega.{arith}
-use Rattle.bands.specs.Plans.{band}
-use Rattle.bands.specs.Edge.{bound}
+use Rattle.band_meaning.specs.Plans.{band}
+use Rattle.band_meaning.specs.Bounds.{bound}
 use Rattle.band_call.proofs.AskingLaws.{small-product, own-product, lent-product, rows-wrong, by-room}
 use borrow.Author.Needs.{needs}
 use Rattle.band_call.proofs.asking.rooms_right.Statement.{statement}

@@ -6,8 +6,8 @@ use mathlib.Core.Path.{refl, sym, ap, subst, _∙_}
 use native.Mathlib.Omega.{arith}
 use lib.IntN.{ℤ, natAbs}
 use mir.Facts.{toZ-ofZ}
-use Rattle.band_call.specs.Contracts.Calling.{band-asked}
-use Rattle.admission.proofs.RequestLaws.{cast-in}
+use Rattle.band_call.specs.BandCall.{band-asked}
+use Rattle.run_admission.proofs.RequestLaws.{cast-in}
 use Rattle.band_call.proofs.CallLaws.{band-closed, divisible, row-few, read-refuses, band-refused, band-far, band-fits, rows-few, band-time, band-out, band-done}
 use borrow.Author.Needs.{needs}
 use Rattle.band_call.proofs.calling.band_listed.Statement.{statement}

@@ -1,5 +1,5 @@
-use Rattle.services.specs.Calls.{memory, lent}
-use Rattle.band_run.specs.Contracts.Running.{banded-lent}
+use Rattle.run_calls.specs.Calls.{memory, lent}
+use Rattle.band_run.specs.BandedRun.{banded-lent}
 use Rattle.band_run.proofs.LeavingLaws.{read-times, unlisted, listed}
 use borrow.Author.Needs.{needs}
 use Rattle.band_run.proofs.running.run_banded.Statement.{statement}

@@ -2,10 +2,10 @@ use native.Mathlib.Omega.{arith}
 use mathlib.Core.Path.{refl}
 use lib.ListN.{length}
 use Rattle.token.specs.Lexeme.{built-in-names}
-use Rattle.services.specs.Calls.{memory, lent}
-use Rattle.iteration.specs.declared.Manner.the-variants.{Full}
-use Rattle.runner.proofs.RunLaws.{run-ready, run-done, cast-start, cast-steps, the-list}
-use Rattle.band_run.specs.Contracts.Running.{banded-lent}
+use Rattle.run_calls.specs.Calls.{memory, lent}
+use Rattle.run_steps.specs.declared.Manner.the-variants.{Full}
+use Rattle.run_source.proofs.RunLaws.{run-ready, run-done, cast-start, cast-steps, the-list}
+use Rattle.band_run.specs.BandedRun.{banded-lent}
 use Rattle.band_run.proofs.LeavingLaws.{closed-run, some-sizes, opened-full, other-plan, under-plan, planned-done, read-times}
 use borrow.Author.Needs.{needs}
 use Rattle.band_run.proofs.running.run_planned.Statement.{statement}

@@ -38,21 +38,25 @@ use denote.Triple.Table.{entered, cited}
 use denote.Triple.Clauses.{ensured, lasts}
 use denote.Triple.Walked.{says, Stays, stay-none-slice, gave-slice, walkOf, goes-none-slice, goes-gave-slice, Walks, ends-at, walked, walk-meets}
 use denote.Exit.{yes}
-use Rattle.records.specs.declared.Name.{Name}
+use Rattle.api_records.specs.declared.Name.{Name}
 use Rattle.cellang.specs.declared.profiling.ProfileAnswer.{ProfileAnswer}
-use Rattle.cellang.specs.Left.{lent-rows-fit}
-use Rattle.cellang.specs.Contracts.Promises.{ProfilesOver, ProfilesRows}
+use Rattle.move_meaning.specs.Profile.{missed, one-move}
+use Rattle.run_calls.specs.Calls.{source-lent, source-left}
+use Rattle.cellang.specs.Left.{row-names}
+use Rattle.cellang.specs.Storing.{lent-rows-fit}
+use Rattle.cellang.specs.Contracts.Rows.{LeavesRows}
+use Rattle.cellang.specs.Contracts.Promises.{ProfilesOver}
 use Rattle.cellang.proofs.profiling.ProfileAnswer.Laws as O′
-use Rattle.records.proofs.NameRow.{Row, vals, makes}
+use Rattle.api_records.proofs.NameRow.{Row, vals, makes}
 use Rattle.cellang.proofs.ProfileAnswerRow.{OutRow, ProfileRow, profile-mach, out-tells, rows-is, count-fits, profile-is, profile-makes, out-typed, profile-typed}
 use Rattle.cellang.proofs.profiling.profiled as ck
 use Rattle.cellang.proofs.profiling.profiled.Symbol as ck-def
 use Rattle.cellang.proofs.profiling.profiled.Symbol.{name as #ck}
 use Rattle.cellang.proofs.profiling.profiled.Met as ck-thm
-use Rattle.records.proofs.rows.store_first as sf
-use Rattle.records.proofs.rows.store_first.Symbol as sf-def
-use Rattle.records.proofs.rows.store_first.Symbol.{name as #sf}
-use Rattle.records.proofs.rows.store_first.Met as sf-thm
+use Rattle.api_records.proofs.rows.store_first as sf
+use Rattle.api_records.proofs.rows.store_first.Symbol as sf-def
+use Rattle.api_records.proofs.rows.store_first.Symbol.{name as #sf}
+use Rattle.api_records.proofs.rows.store_first.Met as sf-thm
 use Rattle.cellang.proofs.profiling.check_one_move.Key.{name as #f}
 use Rattle.cellang.proofs.profiling.check_one_move as f
 use Rattle.cellang.proofs.profiling.check_one_move.Statement as stated
@@ -124,8 +128,8 @@ module _ {M : Type 1} (𝓤 : URA M) (H : Heap 𝓤) (A : Atoms 𝓤) (W : Given
   abbrev Stored : ProfileAnswer → List Name → Type 0
   Stored r ns = ns ≡ take (r .count) (r .rows) ++ skip (r .count) v3
 
-  all-said : (r : ProfileAnswer) (z2 : List ℕ) (ns : List Name) → Said r z2 → Stored r ns → ProfilesRows (lent-rows-fit v1 (length v2) (length v3)) v0 v2 v3 (r .profile) z2 ns
-  all-said r z2 ns e h = record { answer = e .answer; words = e .words; names = h ∙ e .stores v3 refl }
+  all-said : (r : ProfileAnswer) (z2 : List ℕ) (ns : List Name) → Said r z2 → Stored r ns → LeavesRows (source-left row-names (source-lent v0 v1 v2 v3) one-move) (missed (r .profile .rule) (r .profile .number) (r .profile .place)) z2 ns
+  all-said r z2 ns e h = record { is = λ i. record { answer = e .answer i; words = e .words i; names = (h ∙ e .stores v3 refl) i } }
 
   may-store : (r : ProfileAnswer) (z2 : List ℕ) → Said r z2 → (r .count ≤ 256) × (r .count ≤ length v3)
   may-store r z2 e = e .few
@@ -213,4 +217,4 @@ check-one-move-spec 𝓤 H 𝓜 𝓖 𝓡 =
     (tables 𝓤 H 𝓜 𝓡 code.env .C) (tables 𝓤 H 𝓜 𝓡 code.env .Λ) #f code.function (code.unfolded 𝓤 H 𝓜 𝓡)
     (meets 𝓤 H (𝓖 .A) (givenOf 𝓤 H 𝓜 𝓖) (𝓜 .mem) (𝓡 .run) (tablesOf 𝓤 H 𝓜 (tables 𝓤 H 𝓜 𝓡 code.env))
     (cited 𝓤 H (Ck 𝓤 H (𝓖 .A) (𝓜 .mem) (𝓡 .run)) 𝓜 𝓡 code.env #ck ck-def.routine code.calls-cellang·profiling·profiled (ck-thm.met 𝓤 H 𝓜 𝓖 𝓡))
-    (cited 𝓤 H (Sf 𝓤 H (𝓖 .A) (𝓜 .mem) (𝓡 .run)) 𝓜 𝓡 code.env #sf sf-def.routine code.calls-records·rows·store-first (sf-thm.met 𝓤 H 𝓜 𝓖 𝓡)))
+    (cited 𝓤 H (Sf 𝓤 H (𝓖 .A) (𝓜 .mem) (𝓡 .run)) 𝓜 𝓡 code.env #sf sf-def.routine code.calls-api-records·rows·store-first (sf-thm.met 𝓤 H 𝓜 𝓖 𝓡)))

@@ -1,7 +1,7 @@
 use mathlib.Core.Path.{ap, sym, _∙_}
 use mathlib.Core.Bool.{not}
 use borrow.Author.Needs.{needs}
-use Rattle.runner.proofs.RunLaws.{read-times}
+use Rattle.run_source.proofs.RunLaws.{read-times}
 use Rattle.cellang.proofs.StoreLaws.{no-row-run, row-run}
 use Rattle.cellang.proofs.running.ran.Statement.{statement}
 use Rattle.cellang.proofs.running.ran.Tie as tie

@@ -41,30 +41,30 @@ use denote.Triple.Table.{entered, cited}
 use denote.Triple.Clauses.{ensured, lasts}
 use denote.Triple.Walked.{says, Stays, stay-none, stay-none-slice, gave-slice, walkOf, goes-none, goes-none-slice, goes-gave-slice, Walks, ends-at, walked, walk-meets}
 use denote.Exit.{yes}
-use Rattle.stepper.specs.Report.{full}
-use Rattle.services.specs.Calls.{memory, lent, asked, read-lent, run-report}
-use Rattle.services.specs.RangesKept.{RangesKept}
-use Rattle.iteration.specs.declared.Manner.{Manner}
-use Rattle.iteration.specs.Contracts.Stepwise.{told}
-use Rattle.runner.specs.Contracts.Sourcewise.{manner-of, RunLeaves}
-use Rattle.runner.specs.Contracts.Agreement.{AgreesFresh}
-use Rattle.runner.proofs.RunLaws.{run-agrees, run-ranges}
-use Rattle.records.specs.declared.Name.{Name}
+use Rattle.run_meaning.specs.Report.{full}
+use Rattle.run_calls.specs.Calls.{memory, lent, asked, read-lent, run-report}
+use Rattle.run_calls.specs.RangesKept.{RangesKept}
+use Rattle.run_steps.specs.declared.Manner.{Manner}
+use Rattle.run_steps.specs.Told.{told}
+use Rattle.run_source.specs.Contracts.Public.{manner-of, RunLeaves}
+use Rattle.run_source.specs.Contracts.Agreement.{AgreesFresh}
+use Rattle.run_source.proofs.RunLaws.{run-agrees, run-ranges}
+use Rattle.api_records.specs.declared.Name.{Name}
 use Rattle.cellang.specs.declared.running.RunAnswer.{RunAnswer}
 use Rattle.cellang.specs.Left.{row-names}
 use Rattle.cellang.specs.Contracts.Promises.{RunsOver}
 use Rattle.cellang.proofs.running.RunAnswer.Laws as O′
-use Rattle.records.proofs.NameRow.{Row, vals, makes}
+use Rattle.api_records.proofs.NameRow.{Row, vals, makes}
 use Rattle.cellang.proofs.MannerRow.{MannerRow, manner-val, manner-vals, manner-tells, manner-makes, manner-lawful}
 use Rattle.cellang.proofs.RunAnswerRow.{OutRow, ReportRow, report-mach, out-tells, rows-is, count-fits, report-is, report-makes, out-typed, report-typed}
 use Rattle.cellang.proofs.running.ran as ck
 use Rattle.cellang.proofs.running.ran.Symbol as ck-def
 use Rattle.cellang.proofs.running.ran.Symbol.{name as #ck}
 use Rattle.cellang.proofs.running.ran.Met as ck-thm
-use Rattle.records.proofs.rows.store_first as sf
-use Rattle.records.proofs.rows.store_first.Symbol as sf-def
-use Rattle.records.proofs.rows.store_first.Symbol.{name as #sf}
-use Rattle.records.proofs.rows.store_first.Met as sf-thm
+use Rattle.api_records.proofs.rows.store_first as sf
+use Rattle.api_records.proofs.rows.store_first.Symbol as sf-def
+use Rattle.api_records.proofs.rows.store_first.Symbol.{name as #sf}
+use Rattle.api_records.proofs.rows.store_first.Met as sf-thm
 use Rattle.cellang.proofs.running.run.Key.{name as #f}
 use Rattle.cellang.proofs.running.run as f
 use Rattle.cellang.proofs.running.run.Statement as stated
@@ -287,4 +287,4 @@ run-spec 𝓤 H 𝓜 𝓖 𝓡 =
     (tables 𝓤 H 𝓜 𝓡 code.env .C) (tables 𝓤 H 𝓜 𝓡 code.env .Λ) #f code.function (code.unfolded 𝓤 H 𝓜 𝓡)
     (meets 𝓤 H (𝓖 .A) (givenOf 𝓤 H 𝓜 𝓖) (𝓜 .mem) (𝓡 .run) (tablesOf 𝓤 H 𝓜 (tables 𝓤 H 𝓜 𝓡 code.env))
     (cited 𝓤 H (Ck 𝓤 H (𝓖 .A) (𝓜 .mem) (𝓡 .run)) 𝓜 𝓡 code.env #ck ck-def.routine code.calls-cellang·running·ran (ck-thm.met 𝓤 H 𝓜 𝓖 𝓡))
-    (cited 𝓤 H (Sf 𝓤 H (𝓖 .A) (𝓜 .mem) (𝓡 .run)) 𝓜 𝓡 code.env #sf sf-def.routine code.calls-records·rows·store-first (sf-thm.met 𝓤 H 𝓜 𝓖 𝓡)))
+    (cited 𝓤 H (Sf 𝓤 H (𝓖 .A) (𝓜 .mem) (𝓡 .run)) 𝓜 𝓡 code.env #sf sf-def.routine code.calls-api-records·rows·store-first (sf-thm.met 𝓤 H 𝓜 𝓖 𝓡)))

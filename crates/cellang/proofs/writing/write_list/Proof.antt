@@ -40,23 +40,25 @@ use denote.Triple.Table.{entered, cited}
 use denote.Triple.Clauses.{ensured, lasts}
 use denote.Triple.Walked.{says, Stays, stay-none, stay-none-slice, gave-slice, walkOf, goes-none, goes-none-slice, goes-gave-slice, Walks, ends-at, walked, walk-meets}
 use denote.Exit.{yes}
-use Rattle.list_writer.specs.WriterCalls.{wanted, writer-lent}
+use Rattle.run_calls.specs.Calls.{source-lent}
+use Rattle.list_writer.specs.WriterCalls.{wanted, writer-left, wrote-of}
 use Rattle.list_writer.specs.Contracts.Writing.{WriterLeaves}
-use Rattle.records.specs.declared.Name.{Name}
+use Rattle.api_records.specs.declared.Name.{Name}
 use Rattle.cellang.specs.declared.writing.WriteAnswer.{WriteAnswer}
 use Rattle.cellang.specs.Left.{row-names}
+use Rattle.cellang.specs.Contracts.Rows.{LeavesRows}
 use Rattle.cellang.specs.Contracts.Promises.{WritesOver}
 use Rattle.cellang.proofs.writing.WriteAnswer.Laws as O′
-use Rattle.records.proofs.NameRow.{Row, vals, makes}
+use Rattle.api_records.proofs.NameRow.{Row, vals, makes}
 use Rattle.cellang.proofs.WriteAnswerRow.{OutRow, WrittenRow, written-mach, out-tells, rows-is, count-fits, written-is, written-makes, out-typed, written-typed}
 use Rattle.cellang.proofs.writing.wrote as ck
 use Rattle.cellang.proofs.writing.wrote.Symbol as ck-def
 use Rattle.cellang.proofs.writing.wrote.Symbol.{name as #ck}
 use Rattle.cellang.proofs.writing.wrote.Met as ck-thm
-use Rattle.records.proofs.rows.store_first as sf
-use Rattle.records.proofs.rows.store_first.Symbol as sf-def
-use Rattle.records.proofs.rows.store_first.Symbol.{name as #sf}
-use Rattle.records.proofs.rows.store_first.Met as sf-thm
+use Rattle.api_records.proofs.rows.store_first as sf
+use Rattle.api_records.proofs.rows.store_first.Symbol as sf-def
+use Rattle.api_records.proofs.rows.store_first.Symbol.{name as #sf}
+use Rattle.api_records.proofs.rows.store_first.Met as sf-thm
 use Rattle.cellang.proofs.writing.write_list.Key.{name as #f}
 use Rattle.cellang.proofs.writing.write_list as f
 use Rattle.cellang.proofs.writing.write_list.Statement as stated
@@ -159,13 +161,13 @@ module _ {M : Type 1} (𝓤 : URA M) (H : Heap 𝓤) (A : Atoms 𝓤) (W : Given
 
   -- what the core and `store_first` say, and what this function says
   abbrev Said : WriteAnswer → List ℕ → List ℕ → Type 0
-  Said r z2 z8 = WritesOver (length v3) (λ m. (writer-lent v0 v1 (wanted v4 v5 v6 v7) v2 m v8)) r z2 z8
+  Said r z2 z8 = WritesOver (length v3) (source-lent v0 v1 v2) (wanted v4 v5 v6 v7) v8 r z2 z8
 
   abbrev Stored : WriteAnswer → List Name → Type 0
   Stored r ns = ns ≡ take (r .count) (r .rows) ++ skip (r .count) v3
 
-  all-said : (r : WriteAnswer) (z2 : List ℕ) (z8 : List ℕ) (ns : List Name) → Said r z2 z8 → Stored r ns → WriterLeaves row-names (writer-lent v0 v1 (wanted v4 v5 v6 v7) v2 v3 v8) (r .written) z2 ns z8
-  all-said r z2 z8 ns e h = subst (λ m. WriterLeaves row-names (writer-lent v0 v1 (wanted v4 v5 v6 v7) v2 v3 v8) (r .written) z2 m z8) (sym h) (e .stores v3 refl)
+  all-said : (r : WriteAnswer) (z2 : List ℕ) (z8 : List ℕ) (ns : List Name) → Said r z2 z8 → Stored r ns → LeavesRows (writer-left row-names (source-lent v0 v1 v2 v3) (wanted v4 v5 v6 v7) v8) (wrote-of (r .written) z8) z2 ns
+  all-said r z2 z8 ns e h = record { is = subst (λ m. WriterLeaves row-names (source-lent v0 v1 v2 v3) (wanted v4 v5 v6 v7) v8 (r .written) z2 m z8) (sym h) (e .stores v3 refl) .is }
 
   may-store : (r : WriteAnswer) (z2 : List ℕ) (z8 : List ℕ) → Said r z2 z8 → (r .count ≤ 256) × (r .count ≤ length v3)
   may-store r z2 z8 e = e .few
@@ -255,4 +257,4 @@ write-list-spec 𝓤 H 𝓜 𝓖 𝓡 =
     (tables 𝓤 H 𝓜 𝓡 code.env .C) (tables 𝓤 H 𝓜 𝓡 code.env .Λ) #f code.function (code.unfolded 𝓤 H 𝓜 𝓡)
     (meets 𝓤 H (𝓖 .A) (givenOf 𝓤 H 𝓜 𝓖) (𝓜 .mem) (𝓡 .run) (tablesOf 𝓤 H 𝓜 (tables 𝓤 H 𝓜 𝓡 code.env))
     (cited 𝓤 H (Ck 𝓤 H (𝓖 .A) (𝓜 .mem) (𝓡 .run)) 𝓜 𝓡 code.env #ck ck-def.routine code.calls-cellang·writing·wrote (ck-thm.met 𝓤 H 𝓜 𝓖 𝓡))
-    (cited 𝓤 H (Sf 𝓤 H (𝓖 .A) (𝓜 .mem) (𝓡 .run)) 𝓜 𝓡 code.env #sf sf-def.routine code.calls-records·rows·store-first (sf-thm.met 𝓤 H 𝓜 𝓖 𝓡)))
+    (cited 𝓤 H (Sf 𝓤 H (𝓖 .A) (𝓜 .mem) (𝓡 .run)) 𝓜 𝓡 code.env #sf sf-def.routine code.calls-api-records·rows·store-first (sf-thm.met 𝓤 H 𝓜 𝓖 𝓡)))

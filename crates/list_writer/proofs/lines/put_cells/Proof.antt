@@ -5,7 +5,7 @@ use mathlib.Core.Option.{some}
 use native.Mathlib.Omega.{arith}
 use lib.ListN.{length}
 use borrow.Author.Needs.{needs}
-use Rattle.lists.specs.Writing.{cells-text}
+use Rattle.list_meaning.specs.Writing.{cells-text}
 use Rattle.list_writer.specs.Contracts.Printing.{Puts}
 use Rattle.list_writer.proofs.LineLaws.{changed-length, cells-start, cells-again, cells-end}
 use Rattle.list_writer.proofs.lines.put_cells.Statement.{statement}

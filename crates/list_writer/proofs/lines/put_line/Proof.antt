@@ -1,7 +1,7 @@
 -- `list_writer::lines::put_line` meets its contract.
 use mathlib.Core.Option.{some}
 use native.Mathlib.Omega.{arith}
-use Rattle.lists.specs.Writing.{shown}
+use Rattle.list_meaning.specs.Writing.{shown}
 use Rattle.list_writer.proofs.LineLaws.{numbers-length, values-length, line-put}
 use borrow.Author.Needs.{needs}
 use Rattle.list_writer.proofs.lines.put_line.Statement.{statement}

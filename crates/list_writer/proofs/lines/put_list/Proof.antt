@@ -1,7 +1,7 @@
 -- `list_writer::lines::put_list` meets its contract.
 use native.Mathlib.Omega.{arith}
 use mathlib.Core.Path.{refl, sym}
-use Rattle.reply_line.proofs.Lines.{digits-length}
+use Rattle.tool_reply_line.proofs.Lines.{digits-length}
 use Rattle.list_writer.proofs.PrintingLaws.{number-put}
 use Rattle.list_writer.proofs.LineLaws.{place-fits, text-put}
 use borrow.Author.Needs.{needs}

@@ -1,7 +1,7 @@
 -- `list_writer::printing::put_digits` meets its contract.
 use native.Mathlib.Omega.{arith}
 use mathlib.Core.Path.{_∙_}
-use Rattle.reply_line.proofs.Lines.{digits-length}
+use Rattle.tool_reply_line.proofs.Lines.{digits-length}
 use Rattle.list_writer.proofs.PrintingLaws.{one-put, more-put}
 use Prim.Native.Nat.{ℕ, _/_, _<_}
 use borrow.Fn.Kinds.{In}

@@ -5,8 +5,8 @@ use mathlib.Core.List.{map}
 use native.Mathlib.Omega.{arith}
 use lib.ListN.{length, take}
 use borrow.Author.Needs.{needs}
-use Rattle.reply_line.proofs.Lines.{digits-length}
-use Rattle.lists.specs.Writing.{print-number, listed}
+use Rattle.tool_reply_line.proofs.Lines.{digits-length}
+use Rattle.list_meaning.specs.Writing.{print-number, listed}
 use Rattle.list_writer.specs.Contracts.Printing.{Puts}
 use Rattle.list_writer.proofs.PrintingLaws.{number-put, separator-length, listed-bound, listed-start, listed-again, listed-end}
 use Rattle.list_writer.proofs.printing.put_numbers.Statement.{statement}

@@ -8,7 +8,7 @@ use lib.ListN.{length, getD, take}
 use lib.Dec.{eqb}
 use lib.IntN.{pos}
 use borrow.Author.Needs.{needs}
-use Rattle.lists.specs.Writing.{print-field, listed, shown}
+use Rattle.list_meaning.specs.Writing.{print-field, listed, shown}
 use Rattle.list_writer.specs.Contracts.Printing.{Puts}
 use Rattle.list_writer.proofs.PrintingLaws.{field-read, separator-length, fields-start, fields-bound, fields-again, fields-end}
 use Rattle.list_writer.proofs.printing.put_values.Statement.{statement}

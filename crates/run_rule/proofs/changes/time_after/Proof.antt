@@ -4,7 +4,7 @@ use mathlib.Core.Path.{sym, subst}
 use mir.Syntax.{w64}
 use mir.Val.{SFits, toZ, ofZ}
 use mir.Facts.{toZ-ofZ}
-use Rattle.admission.proofs.RequestLaws.{not-negative}
+use Rattle.run_admission.proofs.RequestLaws.{not-negative}
 use Rattle.run_rule.proofs.changes.time_after.Statement.{statement}
 use Rattle.run_rule.proofs.changes.time_after.Tie as tie
 

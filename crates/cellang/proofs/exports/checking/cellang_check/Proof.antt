@@ -6,7 +6,7 @@ use Rattle.cellang.proofs.exports.checking.cellang_check.Tie as tie
 returns : tie.Need-returns
 returns c =
     let t = c .before .before .before .before in
-    tells-check (t .before .before .before .before .before .check .ensures) (t .told-part .ensures) (c .before .before .put-reply .ensures)
+    tells-check _ (t .before .before .before .before .before .check .ensures) (t .told-part .ensures) (c .before .before .put-reply .ensures)
 
 pub cellang-check-spec : {M : Type 1} → statement M
 cellang-check-spec =

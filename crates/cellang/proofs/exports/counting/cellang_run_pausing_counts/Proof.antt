@@ -1,5 +1,5 @@
 use borrow.Author.Needs.{needs}
-use Rattle.runner.proofs.Theorems.Property3.{paused-agrees}
+use Rattle.run_source.proofs.Theorems.Property3.{paused-agrees}
 use Rattle.cellang.proofs.Telling.{told-on, tells-ranges}
 use Rattle.cellang.proofs.exports.counting.cellang_run_pausing_counts.Statement.{statement}
 use Rattle.cellang.proofs.exports.counting.cellang_run_pausing_counts.Tie as tie

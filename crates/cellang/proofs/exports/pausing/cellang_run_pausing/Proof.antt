@@ -1,5 +1,5 @@
 use borrow.Author.Needs.{needs}
-use Rattle.runner.proofs.Theorems.Property3.{paused-agrees}
+use Rattle.run_source.proofs.Theorems.Property3.{paused-agrees}
 use Rattle.cellang.proofs.Telling.{told-on, tells-ranges, told-plain}
 use Rattle.cellang.proofs.exports.pausing.cellang_run_pausing.Statement.{statement}
 use Rattle.cellang.proofs.exports.pausing.cellang_run_pausing.Tie as tie

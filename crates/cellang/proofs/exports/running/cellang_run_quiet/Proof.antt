@@ -1,5 +1,5 @@
 use borrow.Author.Needs.{needs}
-use Rattle.runner.proofs.Theorems.Property3.{property-3}
+use Rattle.run_source.proofs.Theorems.Property3.{property-3}
 use Rattle.cellang.proofs.Telling.{told-on, tells-ranges, told-plain}
 use Rattle.cellang.proofs.exports.running.cellang_run_quiet.Statement.{statement}
 use Rattle.cellang.proofs.exports.running.cellang_run_quiet.Tie as tie

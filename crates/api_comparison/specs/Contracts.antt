@@ -1,0 +1,3 @@
+-- What the functions promise.
+pub mod Comparing
+pub mod Public

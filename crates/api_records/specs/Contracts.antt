@@ -1,0 +1,2 @@
+-- What the functions that work on these definitions promise, and what that is stated with.
+pub mod Finding

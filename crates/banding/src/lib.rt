@@ -1,4 +1,0 @@
-// One step made of bands of rows, each by the rows that it is lent.
-
-pub mod lending;
-pub mod steps;

@@ -1,1 +1,0 @@
-// Plans of bands of rows: what the plan check and the planner give, and the border rows of a program. Definitions and theorems alone.

@@ -1,2 +1,0 @@
--- The loop over the steps of a run.
-pub mod Contracts

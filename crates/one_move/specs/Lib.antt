@@ -1,2 +1,0 @@
--- Sources that move a pixel once: their profile.
-pub mod Profile

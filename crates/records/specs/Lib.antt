@@ -1,2 +1,0 @@
--- The name list as a row of records.
-pub mod Rows

@@ -1,0 +1,25 @@
+use borrow.Author.Needs.{needs}
+use Rattle.run_marked_cells.proofs.PlaceLaws.{move-inside, move-next}
+use Rattle.run_marked_cells.proofs.places.move_place.Statement.{statement}
+use Rattle.run_marked_cells.proofs.places.move_place.Tie as tie
+
+advance-requires : tie.Need-advance-requires
+advance-requires c κs = move-inside (c .before .before .before .before .pre)
+
+returns : tie.Need-returns
+returns c =
+    let pre = c .before .before .before .before .before .before .before .pre in
+    move-next pre (c .before .before .before .before .if1 .taken) (c .before .before .advance .ensures)
+
+pub move-place-spec : {M : Type 1} → statement M
+move-place-spec =
+    tie.close
+    (tie.spec
+    (λ c. search needs)
+    advance-requires
+    (λ c. search needs)
+    (λ c κs. search needs)
+    (λ c. search needs)
+    returns
+    (λ c. search needs)
+    (λ c. search needs))

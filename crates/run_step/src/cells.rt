@@ -1,0 +1,123 @@
+// Evaluating one cell, with the count of the cells evaluated.
+ghost use mathlib.Core.Path.{_≡_};
+ghost use mathlib.Core.Bool.{true};
+ghost use Prim.Native.Nat.{_<_};
+ghost use lib.ListN.{length};
+ghost use Rattle.automaton.specs.Step.{marked};
+ghost use Rattle.cell_statements.specs.Contracts.Running.{Fit};
+ghost use Rattle.run_step.specs.Contracts.Turns.{CellsCounted, Turning, CellTurned};
+use crate::Evaluation;
+use cell_meaning::Rule;
+use cell_statements::Outcome;
+use cell_statements::cell::evaluate_cell;
+
+// Evaluates a cell, and counts it: the count returned is one higher, at a fault too. A cell is evaluated in no other way.
+fn evaluate_counted(
+    leaves: &[u32; 32776],
+    words: &[u32],
+    rule: Rule,
+    sizes: &[u32],
+    place: &[u32],
+    cell: usize,
+    grid: &[i32],
+    next: &mut [i32],
+    vars: &mut [i32; 256],
+    index: &mut [i32; 16],
+    time: u32,
+    count: u64,
+) -> Evaluation
+    requires { ⌜ Fit (now leaves) (now words) rule (now sizes) (now place) cell (now grid) (length (now next)) time × (count < 18446744073709551615) ⌝ }
+    ensures { λ r. ⌜ CellsCounted (now (words .entry)) rule (now (sizes .entry)) cell (now (grid .entry)) (now (next .exit)) time count r ⌝ }
+{
+    let outcome = evaluate_cell(
+        leaves,
+        words,
+        rule,
+        sizes,
+        place,
+        cell,
+        grid,
+        next,
+        vars,
+        index,
+        time,
+    );
+    match outcome {
+        Outcome::Done => Evaluation::Done(count + 1),
+        Outcome::Fault(number, at) => Evaluation::Fault(number, at, count + 1),
+    }
+}
+
+// Evaluates the cell `cell` of a grid into the part of `scratch` that the cell `to` has there. `place` is its coordinates.
+pub fn evaluate_into(
+    leaves: &[u32; 32776],
+    words: &[u32],
+    rule: Rule,
+    sizes: &[u32],
+    place: &[u32],
+    cell: usize,
+    to: usize,
+    grid: &[i32],
+    scratch: &mut [i32],
+    vars: &mut [i32; 256],
+    index: &mut [i32; 16],
+    time: u32,
+    count: u64,
+) -> Evaluation
+    requires { ⌜ Turning (now leaves) (now words) rule (now sizes) (now place) cell to (now grid) (length (now scratch)) time count ⌝ }
+    ensures { λ r. ⌜ CellTurned (now (words .entry)) rule (now (sizes .entry)) cell to (now (grid .entry)) (now (scratch .entry)) (now (scratch .exit)) time count r ⌝ }
+{
+    let fields = rule.fields as usize;
+    let from = to * fields;
+    let end = from + fields;
+    evaluate_counted(
+        leaves,
+        words,
+        rule,
+        sizes,
+        place,
+        cell,
+        grid,
+        &mut scratch[from..end],
+        vars,
+        index,
+        time,
+        count,
+    )
+}
+
+// Evaluates a marked cell into its own part of `scratch`: a step evaluates in no other way.
+pub fn evaluate_open(
+    leaves: &[u32; 32776],
+    words: &[u32],
+    rule: Rule,
+    sizes: &[u32],
+    place: &[u32],
+    cell: usize,
+    grid: &[i32],
+    scratch: &mut [i32],
+    marks: &[u8],
+    vars: &mut [i32; 256],
+    index: &mut [i32; 16],
+    time: u32,
+    count: u64,
+) -> Evaluation
+    requires { ⌜ (marked (now marks) cell ≡ true) × Turning (now leaves) (now words) rule (now sizes) (now place) cell cell (now grid) (length (now scratch)) time count ⌝ }
+    ensures { λ r. ⌜ CellTurned (now (words .entry)) rule (now (sizes .entry)) cell cell (now (grid .entry)) (now (scratch .entry)) (now (scratch .exit)) time count r ⌝ }
+{
+    evaluate_into(
+        leaves,
+        words,
+        rule,
+        sizes,
+        place,
+        cell,
+        cell,
+        grid,
+        scratch,
+        vars,
+        index,
+        time,
+        count,
+    )
+}

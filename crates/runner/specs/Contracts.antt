@@ -1,3 +1,0 @@
--- What the functions promise, in the order of the code.
-pub mod Sourcewise
-pub mod Agreement

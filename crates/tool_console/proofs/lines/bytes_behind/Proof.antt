@@ -1,0 +1,26 @@
+use Prim.Native.Nat.{_-_}
+use borrow.Author.Needs.{needs}
+use Rattle.tool_console.proofs.lines.bytes_behind.Statement.{statement}
+use Rattle.tool_console.proofs.lines.bytes_behind.Tie as tie
+
+abbrev Inv-loop : tie.InvT-loop
+Inv-loop source place most k₀ k = Unit {0}
+
+abbrev μ-loop : tie.MeasureT-loop
+μ-loop source place most k₀ k = most - k
+
+pub bytes-behind-spec : {M : Type 1} → statement M
+bytes-behind-spec =
+    tie.close
+    (tie.spec
+    Inv-loop
+    μ-loop
+    (λ c. search needs)
+    (λ c κs. search needs)
+    (λ c κs. search needs)
+    (λ c κs. search needs)
+    (λ c. search needs)
+    (λ c. search needs)
+    (λ c. search needs)
+    (λ c. search needs)
+    (λ c. search needs))

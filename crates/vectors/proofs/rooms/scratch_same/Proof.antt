@@ -1,0 +1,36 @@
+use Prim.Native.Nat.{_-_, _≤_}
+use borrow.Author.Needs.{needs}
+use lib.ListN.{length}
+use Rattle.vectors.proofs.rooms.scratch_same.Statement.{statement}
+use Rattle.vectors.proofs.rooms.scratch_same.Tie as tie
+
+abbrev Inv-loop : tie.InvT-loop
+Inv-loop scratch i₀ i = i ≤ length scratch
+
+abbrev μ-loop : tie.MeasureT-loop
+μ-loop scratch i₀ i = length scratch - i
+
+scratch-entry-requires : tie.Need-scratch-entry-requires Inv-loop μ-loop
+scratch-entry-requires c κs = tt
+
+returns : tie.Need-returns Inv-loop μ-loop
+returns c = tt
+
+returns-2 : tie.Need-returns-2 Inv-loop μ-loop
+returns-2 c = tt
+
+pub scratch-same-spec : {M : Type 1} → statement M
+scratch-same-spec =
+    tie.close
+    (tie.spec
+    Inv-loop
+    μ-loop
+    (λ c. search needs)
+    (λ c. search needs)
+    (λ c. search needs)
+    scratch-entry-requires
+    returns
+    (λ c. search needs)
+    (λ c. search needs)
+    (λ c. search needs)
+    returns-2)
