@@ -34,7 +34,8 @@ use Prim.Native.Nat.{ℕ}
 use lib.IntN.{ℤ, pos, negsuc}
 use Rattle.run_meaning.specs.Report.{Report}
 use Rattle.run_calls.specs.Running.{Asked}
-use Rattle.run_calls.proofs.Theorems.Cases.{Lent, Case, checks, runs, failing, holds}
+use Rattle.value.proofs.Theorems.Truth.{failing}
+use Rattle.run_calls.proofs.Theorems.Cases.{Lent, Case, checks, runs, holds}
 
 abbrev lent : List ℕ → ℕ → ℕ → Lent
 lent source words names = record { source = source; words = words; names = names }
@@ -80,7 +81,7 @@ def lists(cases, chunk):
     for k in range(0, len(cases), chunk):
         rows = "\n    ∷ ".join(case(c) for c in cases[k:k + chunk])
         out.append("list%d : List Case\nlist%d =\n    %s\n    ∷ []\n" % (k, k, rows))
-        out.append("claim%d : failing %d list%d ≡ []\nunfolding list%d failing holds\nclaim%d = refl\n" % (k, k, k, k, k))
+        out.append("claim%d : failing holds %d list%d ≡ []\nunfolding list%d failing holds\nclaim%d = refl\n" % (k, k, k, k, k))
     return "\n".join(out)
 
 

@@ -5,6 +5,7 @@ ghost use Prim.Native.Nat.{_+_, _*_, _<_, _≤_};
 ghost use lib.ListN.{length};
 ghost use lib.Seq.{sets};
 ghost use lib.IntN.{pos};
+ghost use Rattle.value.specs.Limits.{most-dims};
 ghost use Rattle.api_comparison.specs.Differences.{comparable};
 ghost use Rattle.api_comparison.specs.Contracts.Comparing.{ComparesEntry};
 ghost use Rattle.api_comparison.specs.Contracts.Public.{Compares};
@@ -48,7 +49,7 @@ fn write_difference(room: &mut [i32], n: usize, entry: usize, left: i32, right: 
 // Compares the values at an entry, before which there are n differences: how many there are then. A difference is written where
 // the room has a place for it.
 fn compare_entry(room: &mut [i32], k: usize, n: usize, entry: usize, left: i32, right: i32) -> usize
-    requires { ⌜ (length (now room) ≡ 3 * k) × (entry < 2147483647) × (n ≤ entry) ⌝ }
+    requires { ⌜ (length (now room) ≡ most-dims * k) × (entry < 2147483647) × (n ≤ entry) ⌝ }
     ensures { λ r. ⌜ ComparesEntry k n entry left right (now (room .entry)) r (now (room .exit)) ⌝ }
 {
     if left == right {

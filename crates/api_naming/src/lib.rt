@@ -11,15 +11,16 @@ use api_records::Name;
 use read_source::Reply;
 use run_steps::Manner;
 use run_steps::Report;
+use value::limits::MOST_NAMES;
 
 // What a run returns: the report, and the row of records.
 pub struct Ran {
     pub report: Report,
-    pub rows: [Name; 256],
+    pub rows: [Name; MOST_NAMES],
 }
 
 // Checks a source.
-pub fn check(source: &[u8], list: &[u8], words: &mut [u32], rows: [Name; 256]) -> Reply
+pub fn check(source: &[u8], list: &[u8], words: &mut [u32], rows: [Name; MOST_NAMES]) -> Reply
     ensures { λ r. ⌜ ChecksNamed (lent-rows-fit (now (list .entry)) (length (now (words .entry))) most-names) (now (source .entry)) (now (words .entry)) r (now (words .exit)) ⌝ }
 {
     let mut names = rows;
@@ -31,7 +32,7 @@ pub fn run(
     source: &[u8],
     list: &[u8],
     words: &mut [u32],
-    rows: [Name; 256],
+    rows: [Name; MOST_NAMES],
     sizes: &[u32],
     grid: &mut [i32],
     scratch: &mut [i32],
@@ -71,7 +72,7 @@ pub fn run(
 }
 
 // The record of the field that has a number, the zero record if there is none.
-pub fn field_record(rows: [Name; 256], number: u32) -> Name
+pub fn field_record(rows: [Name; MOST_NAMES], number: u32) -> Name
     ensures { λ r. ⌜ NamesField rows number r ⌝ }
 {
     let k = cellang::find_field(&rows, number);
@@ -79,7 +80,7 @@ pub fn field_record(rows: [Name; 256], number: u32) -> Name
 }
 
 // A row in which no name is declared.
-pub fn no_names() -> [Name; 256]
+pub fn no_names() -> [Name; MOST_NAMES]
     ensures { λ r. ⌜ 256 ≡ length r ⌝ }
 {
     [Name {
@@ -87,5 +88,5 @@ pub fn no_names() -> [Name; 256]
         length: 0,
         kind: 0,
         value: 0,
-    }; 256]
+    }; MOST_NAMES]
 }

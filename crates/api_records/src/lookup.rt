@@ -7,6 +7,10 @@ ghost use Rattle.api_records.specs.Rows.{no-name, counted-on, is-at, is-
 ghost use Rattle.api_records.specs.Contracts.Finding.{found-on};
 use crate::Name;
 use value::Value;
+use value::limits::MOST_NAMES;
+
+// How many records a row has; as an answer: none.
+const RECORDS: u32 = MOST_NAMES as u32;
 
 // The record k, zero past the end.
 pub fn record(names: &[Name], k: u32) -> Name
@@ -72,26 +76,26 @@ fn is_field(r: Name, number: u32) -> bool
 fn found(n: u32, r: Name, place: u32, k: u32) -> u32
     ensures { λ x. ⌜ x ≡ found-on (is-at place) n r k ⌝ }
 {
-    if n != 256 {
+    if n != RECORDS {
         return n;
     }
     if is_at(r, place) {
         return k;
     }
-    256
+    RECORDS
 }
 
 // The number of the first record of the field that has a number, 256 if there is none, with the record k more.
 fn field_found(n: u32, r: Name, number: u32, k: u32) -> u32
     ensures { λ x. ⌜ x ≡ found-on (is-field-record number) n r k ⌝ }
 {
-    if n != 256 {
+    if n != RECORDS {
         return n;
     }
     if is_field(r, number) {
         return k;
     }
-    256
+    RECORDS
 }
 
 // How many names are declared.
@@ -100,7 +104,7 @@ pub fn count(names: &[Name]) -> u32
 {
     let mut n: u32 = 0;
     let mut k: u32 = 0;
-    while k < 256 {
+    while k < RECORDS {
         let r = record(names, k);
         n = counted(n, r);
         k = k + 1;
@@ -112,9 +116,9 @@ pub fn count(names: &[Name]) -> u32
 pub fn find_by_place(names: &[Name], place: u32) -> u32
     ensures { λ r. ⌜ FindsPlace (now (names .entry)) place r ⌝ }
 {
-    let mut n: u32 = 256;
+    let mut n: u32 = RECORDS;
     let mut k: u32 = 0;
-    while k < 256 {
+    while k < RECORDS {
         let r = record(names, k);
         n = found(n, r, place, k);
         k = k + 1;
@@ -126,9 +130,9 @@ pub fn find_by_place(names: &[Name], place: u32) -> u32
 pub fn find_field(names: &[Name], number: u32) -> u32
     ensures { λ r. ⌜ FindsField (now (names .entry)) number r ⌝ }
 {
-    let mut n: u32 = 256;
+    let mut n: u32 = RECORDS;
     let mut k: u32 = 0;
-    while k < 256 {
+    while k < RECORDS {
         let r = record(names, k);
         n = field_found(n, r, number, k);
         k = k + 1;

@@ -7,9 +7,11 @@ ghost use Rattle.value.specs.Limits.{most-names};
 ghost use Rattle.api_records.specs.Rows.{row-at, rows-of};
 use crate::Name;
 use value::Value;
+use value::limits::MOST_NAMES;
+use value::limits::NAME_WORDS;
 
 // The record k of the flat words.
-fn row_at(flat: &[u32; 1024], k: usize) -> Name
+fn row_at(flat: &[u32; NAME_WORDS], k: usize) -> Name
     requires { ⌜ k < most-names ⌝ }
     ensures { λ r. ⌜ r ≡ row-at (now (flat .entry)) k ⌝ }
 {
@@ -23,7 +25,7 @@ fn row_at(flat: &[u32; 1024], k: usize) -> Name
 }
 
 // The records of the flat words.
-pub fn rows_of(flat: &[u32; 1024]) -> [Name; 256]
+pub fn rows_of(flat: &[u32; NAME_WORDS]) -> [Name; MOST_NAMES]
     ensures { λ r. ⌜ r ≡ rows-of (now (flat .entry)) ⌝ }
 {
     let mut rows = [Name {
@@ -31,9 +33,9 @@ pub fn rows_of(flat: &[u32; 1024]) -> [Name; 256]
         length: 0,
         kind: 0,
         value: 0,
-    }; 256];
+    }; MOST_NAMES];
     let mut k: usize = 0;
-    while k < 256 {
+    while k < MOST_NAMES {
         rows[k] = row_at(flat, k);
         k = k + 1;
     }
@@ -41,7 +43,7 @@ pub fn rows_of(flat: &[u32; 1024]) -> [Name; 256]
 }
 
 // The first records of `names` are replaced by those of `rows`, so many of them.
-pub fn store_first(names: &mut [Name], rows: [Name; 256], count: usize)
+pub fn store_first(names: &mut [Name], rows: [Name; MOST_NAMES], count: usize)
     requires { ⌜ (count ≤ most-names) × (count ≤ length (now names)) ⌝ }
     ensures { λ _. ⌜ now (names .exit) ≡ take count rows ++ drop count (now (names .entry)) ⌝ }
 {

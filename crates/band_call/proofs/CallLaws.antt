@@ -22,15 +22,15 @@ use Rattle.token.specs.Lexeme.{is-built-in}
 use Rattle.program.specs.Syntax.{Range, Program}
 use Rattle.grammar.specs.Checking.{rooms-fit, read-source, words-after}
 use Rattle.grammar.specs.Contracts.Flat.{names-after}
-use Rattle.cell_meaning.specs.declared.Rule.{Rule}
 use Rattle.cell_meaning.specs.Evaluation.{evaluate}
 use Rattle.cell_meaning.specs.Contracts.Leaves.{Leaves}
 use Rattle.cell_meaning.specs.Contracts.Stands.{Holds}
 use Rattle.cell_meaning.specs.Written.{written-in}
 use Rattle.program.specs.Refusal.{Refusal, refusal}
+use Rattle.program.specs.declared.Rule.{Rule}
 use Rattle.run_meaning.specs.Admission.{good-times, too-far, out-of-field}
 use Rattle.run_meaning.specs.Report as report
-use Rattle.run_meaning.specs.Contracts.Fitting.{Sized, held-fields}
+use Rattle.run_meaning.specs.Contracts.Fitting.{held-fields}
 use Rattle.run_calls.specs.Calls.{NameForm, flat-names, SourceLent, source-fits, names-left}
 use Rattle.run_admission.specs.Contracts.Admitting.{InFields}
 use Rattle.run_admission.specs.declared.Refusal as declared
@@ -43,7 +43,6 @@ use Rattle.band_planner.specs.Contracts.Opening.{RowsOpen, OpensRows}
 use Rattle.run_step.specs.declared.Step.{Step}
 use Rattle.run_step.specs.declared.Step.the-variants as Gives
 use Rattle.run_step.specs.Contracts.Stepping.{fault-in, count-in}
-use Rattle.run_step.specs.Contracts.Turns.{Roomed}
 use Rattle.run_step.specs.Contracts.Rows.{RowsReady, RowsStepped}
 use Rattle.band_step.proofs.OneBand.{by-rows, rest-positive}
 use Rattle.run_steps.specs.declared.Report.{Report}

@@ -2,6 +2,7 @@
 ghost use mathlib.Core.Path.{_≡_};
 ghost use Prim.Native.Nat.{_≤_};
 ghost use lib.ListN.{length};
+ghost use Rattle.value.specs.Limits.{most-cells, most-fields};
 ghost use Rattle.band_call.specs.BandCall.{row-cells, band-right, band-rooms};
 ghost use Rattle.band_meaning.specs.Plans.{band};
 ghost use Rattle.band_meaning.specs.Bounds.{bound};
@@ -42,7 +43,7 @@ fn rooms_right(
     rows: usize,
     room: usize,
 ) -> bool
-    requires { ⌜ (row ≤ 1048576) × (fields ≤ 8) × (first ≤ last) ⌝ }
+    requires { ⌜ (row ≤ most-cells) × (fields ≤ most-fields) × (first ≤ last) ⌝ }
     ensures { λ r. ⌜ r ≡ band-rooms row fields rows room (bound before behind) (band first last) ⌝ }
 {
     let own = last as u64 + 1 - first as u64;
@@ -68,7 +69,7 @@ pub fn refused_band(
     room: usize,
     time: i64,
 ) -> u32
-    requires { ⌜ (row ≤ 1048576) × (fields ≤ 8) ⌝ }
+    requires { ⌜ (row ≤ most-cells) × (fields ≤ most-fields) ⌝ }
     ensures { λ r. ⌜ RefusesBand rows row fields (bound before behind) held (band first last) lent room time r ⌝ }
 {
     if !band_right(rows, before, behind, held, first, last) {

@@ -16,13 +16,14 @@ use crate::asking::row_cells;
 use band_planner::opening::open_rows;
 use band_step::lending::room_shape;
 use cell_leaves::fill_leaves;
-use cell_meaning::Rule;
+use program::Rule;
 use run_admission::out_of_field;
 use run_marked_cells::rooms::clear_numbers;
 use run_step::Step;
 use run_step::rows::step_rows;
 use run_steps::Report;
 use spelling::is_built_in;
+use value::limits::LEAF_WORDS;
 
 // The report of a refused call.
 fn refused(number: u32, place: u32) -> Report
@@ -59,7 +60,7 @@ fn step_lent(
     let own = last + 1 - first;
     let shape = room_shape(sizes, before + own + behind);
     let dims = sizes.len();
-    let mut leaves = [0u32; 32776];
+    let mut leaves = [0u32; LEAF_WORDS];
     fill_leaves(
         words,
         &shape[..dims],

@@ -14,6 +14,7 @@ use Rattle.value.proofs.Theorems.Laws.{never, and-both}
 use Rattle.automaton.specs.Shape.{Bound, product}
 use Rattle.program.specs.Syntax.{Program}
 use Rattle.program.specs.Refusal.{Refusal, refusal}
+use Rattle.program.specs.declared.Rule.{Rule}
 use Rattle.grammar.specs.Checking as checking
 use Rattle.grammar.specs.Checking.{SourceRead, turned-away, refused, accepted, rooms-fit, read-source, check}
 use Rattle.cell_meaning.specs.Written.{relatives-in, written-of, written-in}
@@ -21,7 +22,6 @@ use Rattle.cell_meaning.specs.Places.{own-place, add-relatives, places}
 use Rattle.run_meaning.specs.Reach.{own-only, widened, box, reach-from, reach}
 use Rattle.run_meaning.specs.Admission.{all-between, good-sizes}
 use Rattle.run_meaning.specs.Contracts.Fitting.{bound-at, bounds-of}
-use Rattle.read_source.specs.declared.checking.Outline.{Outline}
 use Rattle.read_source.specs.Contracts.Promises.{Loads, Checks, is-accepted}
 use Rattle.run_indices.specs.declared.Survey.{Survey}
 use Rattle.run_indices.specs.Contracts.Surveying.{Surveyed}
@@ -29,7 +29,6 @@ use Rattle.run_admission.specs.Contracts.Admitting.{cells-of}
 use Rattle.run_admission.proofs.AdmissionLaws.{near-of}
 use Rattle.run_admission.proofs.RequestLaws.{some-cells, no-cells, positive}
 use Rattle.read_refusals.proofs.Theorems.Replies.{zero-accepts}
-use Rattle.move_profile.specs.Contracts.Standing.{rule-in}
 use Rattle.run_loading.specs.Contracts.Loaded.{Accepts}
 use Rattle.run_loading.proofs.Theorems.SourceLoaded.{accepts}
 use Rattle.band_meaning.specs.Edge.{edge-of, edge}
@@ -73,8 +72,8 @@ sizes-known p sizes e =
 
 -- ---- the ways through
 
-module _ {source ws ns : List ℕ} {known : Bool} {o : Outline} {n place : ℕ} {ws′ ns′ : List ℕ}
-    (checked : Checks (rooms-fit (length ws) (length ns)) source ws ns n place ws′ ns′) (loaded : Loads source ws ns known o) where
+module _ {source ws ns : List ℕ} {known : Bool} {rule : Rule} {n place : ℕ} {ws′ ns′ : List ℕ}
+    (checked : Checks (rooms-fit (length ws) (length ns)) source ws ns n place ws′ ns′) (loaded : Loads source ws ns known rule) where
   -- the source is refused
   pub unread : not known ≡ true → {sizes : List ℕ} {r : RowsOpened} → (r .number ≡ n) × (r .place ≡ place) → OpensRows (rooms-fit (length ws) (length ns)) source ws ns sizes r ws′ ns′
   unfolding on-sizes check
@@ -95,10 +94,10 @@ module _ {source ws ns : List ℕ} {known : Bool} {o : Outline} {n place : ℕ} 
       by (accepted a) c d = never (sym d)
 
   module _ (sure : not known ≡ false) where
-    pub is : Accepts (rooms-fit (length ws) (length ns)) source ws′ ns′ o
+    pub is : Accepts (rooms-fit (length ws) (length ns)) source ws′ ns′ rule
     is = accepts checked loaded (not-false known sure)
 
-    module _ {sizes : List ℕ} {t : Bool} (tried : RightSizes (o .dims) sizes t) where
+    module _ {sizes : List ℕ} {t : Bool} (tried : RightSizes (rule .dims) sizes t) where
       sizes-are : t ≡ good-sizes (is .read .program) sizes
       sizes-are = tried .is (is .read .program) (is .stood .holds .dims)
 
@@ -117,7 +116,7 @@ module _ {source ws ns : List ℕ} {known : Bool} {o : Outline} {n place : ℕ} 
           }
 
       module _ (right : not t ≡ false) where
-        pub known-sizes : SizesKnown (o .dims) sizes
+        pub known-sizes : SizesKnown (rule .dims) sizes
         known-sizes =
             subst (λ (d : ℕ). SizesKnown d sizes) (is .stood .holds .dims) (sizes-known (is .read .program) sizes (sym sizes-are ∙ not-false t right))
 
@@ -125,11 +124,11 @@ module _ {source ws ns : List ℕ} {known : Bool} {o : Outline} {n place : ℕ} 
         some-sizes = omega (arith, known-sizes .many, is .some-dims)
 
         -- the call goes on
-        module _ {s : Survey} (surveyed : Surveyed ws′ (rule-in o) sizes s) {b : Border} (borders : BordersOf (s .reach) b) where
+        module _ {s : Survey} (surveyed : Surveyed ws′ rule sizes s) {b : Border} (borders : BordersOf (s .reach) b) where
           borders-are : bound (b .before) (b .behind) ≡ edge (is .read .program)
           unfolding edge reach box written-in places
           borders-are =
-              borders .is (o .dims) (is .some-dims)
+              borders .is (rule .dims) (is .some-dims)
               ∙ ap₂ (λ (bs : List Bound) (ps : Option (List (List ℤ))). edge-of (reach-from bs ps))
               (surveyed .bounds (relatives-in (is .read .program)) (is .lists) ∙ ap (λ (d : ℕ). widened (replicate d own-only) (written-in (is .read .program))) (sym (is .stood .holds .dims)))
               (surveyed .places (relatives-in (is .read .program)) (is .lists) ∙ ap (λ (d : ℕ). add-relatives d (some (own-place d ∷ [])) (relatives-in (is .read .program))) (sym (is .stood .holds .dims)))
@@ -140,20 +139,20 @@ module _ {source ws ns : List ℕ} {known : Bool} {o : Outline} {n place : ℕ} 
           borders-near z =
               let p = is .read .program in
               let boxed = surveyed .bounds (relatives-in p) (is .lists) in
-              let first : (bs : List Bound) × (bounds-of (s .reach .bounds) (o .dims) ≡ bound-at (s .reach .bounds) 0 ∷ bs) = first-of (o .dims) (is .some-dims) in
+              let first : (bs : List Bound) × (bounds-of (s .reach .bounds) (rule .dims) ≡ bound-at (s .reach .bounds) 0 ∷ bs) = first-of (rule .dims) (is .some-dims) in
               let within = edge-in-box p (bound-at (s .reach .bounds) 0) (first .0) (ap (λ (d : ℕ). widened (replicate d own-only) (written-in p)) (is .stood .holds .dims) ∙ sym boxed ∙ first .1) in
-              let near = near-of sizes (s .reach .bounds) (o .dims) (written-of (relatives-in p)) (known-sizes .many) (ap (λ (r : Refusal). r .number) (sym (surveyed .far (relatives-in p) (is .lists))) ∙ z) boxed 0 some-sizes in
+              let near = near-of sizes (s .reach .bounds) (rule .dims) (written-of (relatives-in p)) (known-sizes .many) (ap (λ (r : Refusal). r .number) (sym (surveyed .far (relatives-in p) (is .lists))) ∙ z) boxed 0 some-sizes in
               (omega (arith, within .0, near .0, ap (λ (x : Bound). x .back) borders-are), omega (arith, within .1, near .1, ap (λ (x : Bound). x .ahead) borders-are))
             where
               first-of : (dims : ℕ) → 0 < dims → (bs : List Bound) × (bounds-of (s .reach .bounds) dims ≡ bound-at (s .reach .bounds) 0 ∷ bs)
               first-of zero l = absurd (omega arith)
               first-of (suc dims) l = first-bound (s .reach) dims
 
-          pub opens : {timed : Bool} → timed ≡ o .timed → {first : ℕ} → first ≡ getD sizes 0 0
+          pub opens : {first : ℕ} → first ≡ getD sizes 0 0
               → OpensRows (rooms-fit (length ws) (length ns)) source ws ns sizes
-              (record { number = 0; place = 0; rule = rule-in o; far = s .number; at = s .place; rows = first; before = b .before; behind = b .behind; timed = timed }) ws′ ns′
+              (record { number = 0; place = 0; rule = rule; far = s .number; at = s .place; rows = first; before = b .before; behind = b .behind }) ws′ ns′
           unfolding written-in
-          opens t f =
+          opens f =
               record {
                 words = checked .words;
                 names = checked .names;
@@ -164,7 +163,7 @@ module _ {source ws ns : List ℕ} {known : Bool} {o : Outline} {n place : ℕ} 
                   on = on true (not-false _ right);
                   holds = is .stood .holds;
                   lists = is .lists;
-                  timed = is .timed ∙ sym t;
+                  timed = is .timed;
                   flagged = is .flagged;
                   rule-fits = is .sized;
                   some-dims = is .some-dims;

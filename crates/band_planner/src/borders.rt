@@ -2,8 +2,11 @@
 ghost use mathlib.Core.Path.{_≡_};
 ghost use Prim.Native.Nat.{_≤_};
 ghost use lib.ListN.{length};
+ghost use Rattle.value.specs.Limits.{most-places};
+ghost use Rattle.value.specs.Contracts.Buffers.{place-words};
 ghost use Rattle.band_planner.specs.Contracts.Borders.{WidensBorder, ListedBorder, BordersOf};
 use run_meaning::Reach;
+use value::limits::PLACES_LISTED;
 
 // How many border rows a band has before and behind it.
 pub struct Border {
@@ -31,7 +34,7 @@ fn widened(border: Border, word: u32) -> Border
 
 // The border rows of so many places of a list.
 fn listed_border(places: &[u32], count: usize) -> Border
-    requires { ⌜ (length (now places) ≡ 768) × (count ≤ 256) ⌝ }
+    requires { ⌜ (length (now places) ≡ place-words) × (count ≤ most-places) ⌝ }
     ensures { λ r. ⌜ ListedBorder (now (places .entry)) count r ⌝ }
 {
     let mut r = Border {
@@ -50,7 +53,7 @@ fn listed_border(places: &[u32], count: usize) -> Border
 pub fn border_rows(reach: Reach) -> Border
     ensures { λ r. ⌜ BordersOf reach r ⌝ }
 {
-    if 256 < reach.count {
+    if PLACES_LISTED < reach.count {
         let bounds = reach.bounds;
         return Border {
             before: bounds.back0,

@@ -2,10 +2,11 @@
 ghost use mathlib.Core.Path.{_≡_};
 ghost use Prim.Native.Nat.{_≤_};
 ghost use lib.ListN.{length};
+ghost use Rattle.value.specs.Limits.{most-dims};
 ghost use Rattle.grammar.specs.Checking.{rooms-fit};
 ghost use Rattle.band_planner.specs.Contracts.Opening.{RightSizes, OpensRows};
 use crate::borders::border_rows;
-use cell_meaning::Rule;
+use program::Rule;
 use read_source::load;
 use run_admission::cells;
 use run_indices::surveying::survey;
@@ -21,12 +22,11 @@ pub struct RowsOpened {
     pub rows: u32,
     pub before: u32,
     pub behind: u32,
-    pub timed: bool,
 }
 
 // Whether the sizes are right for so many dimensions.
 fn right_sizes(sizes: &[u32], dims: u32) -> bool
-    requires { ⌜ dims ≤ 3 ⌝ }
+    requires { ⌜ dims ≤ most-dims ⌝ }
     ensures { λ r. ⌜ RightSizes dims (now (sizes .entry)) r ⌝ }
 {
     if sizes.len() != dims as usize {
@@ -49,13 +49,13 @@ fn not_opened(number: u32, place: u32) -> RowsOpened
             dims: 0,
             fields: 0,
             slots: 0,
+            timed: false,
         },
         far: 0,
         at: 0,
         rows: 0,
         before: 0,
         behind: 0,
-        timed: false,
     }
 }
 
@@ -67,15 +67,7 @@ pub fn open_rows(source: &[u8], words: &mut [u32], names: &mut [u32], sizes: &[u
     if !loaded.accepted {
         return not_opened(loaded.number, loaded.place);
     }
-    let outline = loaded.outline;
-    let rule = Rule {
-        tokens: outline.tokens,
-        base: outline.base,
-        body: outline.body,
-        dims: outline.dims,
-        fields: outline.fields,
-        slots: outline.slots,
-    };
+    let rule = loaded.rule;
     if !right_sizes(sizes, rule.dims) {
         return not_opened(20, 0);
     }
@@ -91,6 +83,5 @@ pub fn open_rows(source: &[u8], words: &mut [u32], names: &mut [u32], sizes: &[u
         rows: sizes[0],
         before: border.before,
         behind: border.behind,
-        timed: outline.timed,
     }
 }

@@ -16,12 +16,12 @@ use Rattle.value.specs.Choice.{if_then_else_}
 use Rattle.automaton.specs.Shape.{product, Bound}
 use Rattle.token.specs.Lexeme.{is-built-in}
 use Rattle.program.specs.Syntax.{Program}
+use Rattle.program.specs.declared.Rule.{Rule}
 use Rattle.grammar.specs.Source.{Accepted}
 use Rattle.grammar.specs.Checking as checking
 use Rattle.grammar.specs.Checking.{SourceRead, turned-away, accepted, rooms-fit, read-source, words-after}
 use Rattle.grammar.specs.Contracts.Flat.{names-after}
 use Rattle.move_meaning.specs.Profile.{profile-flag}
-use Rattle.cell_meaning.specs.declared.Rule.{Rule}
 use Rattle.run_meaning.specs.declared.Reach.{Reach}
 use Rattle.run_meaning.specs.Reach.{reach, reach-from}
 use Rattle.run_meaning.specs.Report as report
@@ -159,7 +159,7 @@ module _ (l : BandedLent ℕ) (list : is-built-in (l .run .list) ≡ true) {trie
   closed-run e = let shut = not-true (r .begun) e in turns-away (left-closed flat-names l tries (opens .closed shut) (opens .refuses shut full))
 
   module _ (e : not (r .begun) ≡ false) where
-    tried-begun : RunBegun (fits flat-names (l .run)) (l .run .source) (with-scratch (asked (l .run)) tried) ws′ (r .rule) (r .reach) (r .timed)
+    tried-begun : RunBegun (fits flat-names (l .run)) (l .run .source) (with-scratch (asked (l .run)) tried) ws′ (r .rule) (r .reach)
     tried-begun = opens .opened (not-false (r .begun) e)
 
     pub some-sizes : 0 < length (l .run .sizes)

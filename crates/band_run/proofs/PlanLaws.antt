@@ -15,7 +15,7 @@ use Rattle.automaton.specs.Shape.{product, Bound}
 use Rattle.automaton.specs.Contracts.ShapeLaws.{Positive}
 use Rattle.automaton.specs.Bands.{Band, rows-with, runs-on, accepts, plannable}
 use Rattle.automaton.proofs.Theorems.BandLaws.{plan-needs}
-use Rattle.cell_meaning.specs.declared.Rule.{Rule}
+use Rattle.program.specs.declared.Rule.{Rule}
 use Rattle.run_meaning.specs.declared.Reach.{Reach}
 use Rattle.run_meaning.specs.Admission.{all-between}
 use Rattle.band_meaning.specs.Plans.{bands-in, accepts-some, plan-right}

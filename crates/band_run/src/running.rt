@@ -17,9 +17,9 @@ use band_call::asking::row_cells;
 use band_planner::borders::border_rows;
 use band_planner::plans::plan_accepted;
 use band_step::lending::room_shape;
-use cell_meaning::Rule;
-use run_marked_cells::rooms::clear_marks;
+use program::Rule;
 use run_marked_cells::rooms::clear_numbers;
+use run_marked_cells::rooms::set_marks;
 use run_meaning::Reach;
 use run_source::opening::open_run;
 use run_steps::Bands;
@@ -169,7 +169,7 @@ fn run_planned(
         room,
     );
     clear_numbers(scratch);
-    clear_marks(marks);
+    set_marks(marks, 0);
     report
 }
 

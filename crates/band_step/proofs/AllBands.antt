@@ -11,14 +11,16 @@ use lib.ListN.{length, getD, drop}
 use lib.Dec.{eqb, leb}
 use lib.IntN.{ℤ}
 use borrow.Author.Tests.{eqb-true, leb-true}
+use Rattle.value.specs.Contracts.Buffers.{most-room}
 use Rattle.value.proofs.Theorems.Laws.{and-both}
-use Rattle.automaton.specs.Step.{Outcome, state, fault, Fault, no-fault, fault-at, fault-of, first-fault, how-many, marked, up-to, quiet-step}
+use Rattle.automaton.specs.Step.{Outcome, result, fault, Fault, no-fault, fault-at, fault-of, first-fault, how-many, marked, up-to, quiet-step}
 use Rattle.automaton.proofs.Theorems.Quiet.{first-fault-at, first-fault-here, first-fault-ext}
 use Rattle.automaton.specs.Shape.{product, Bound}
+use Rattle.automaton.specs.Contracts.ShapeLaws.{Shaped}
 use Rattle.automaton.specs.Grid.{cell-of, automaton}
 use Rattle.automaton.specs.Bands.{Band, rows-with, runs-on, accepts, reached}
 use Rattle.program.specs.Syntax.{Program}
-use Rattle.cell_meaning.specs.declared.Rule.{Rule}
+use Rattle.program.specs.declared.Rule.{Rule}
 use Rattle.cell_meaning.specs.Contracts.Stands.{Holds}
 use Rattle.run_meaning.specs.Reach.{running}
 use Rattle.band_meaning.specs.Plans.{band, before-others, bands-in, accepts-some, plan-right}
@@ -26,7 +28,7 @@ use Rattle.run_marked_cells.proofs.ScanLaws.{below-or}
 use Rattle.run_step.specs.declared.Step.{Step}
 use Rattle.run_step.specs.declared.Step.the-variants as Gives
 use Rattle.run_step.specs.Contracts.Stepping.{fault-in, count-in}
-use Rattle.run_step.specs.Contracts.Turns.{Roomed, given, FilledFor}
+use Rattle.run_step.specs.Contracts.Turns.{given, FilledFor}
 use Rattle.run_step.proofs.FillLaws.{skip-fault, outcome, of-marked, cells-are}
 use Rattle.band_step.specs.Contracts.Bandwise.{Grounds, BandFits, BandEvaluated, AllEvaluated, PlanRuns, AllMarked}
 use Rattle.band_step.proofs.OneBand.{grid-rows}
@@ -107,7 +109,7 @@ module _ (n : ℕ) (border : Bound) (held : ℕ) where
 -- ---- cells in parts
 
 fault-any : {State : Type 0} (a b : ℕ) (o : Outcome State) → fault-of a o ≡ no-fault → fault-of b o ≡ no-fault
-fault-any a b (state s) e = refl
+fault-any a b (result s) e = refl
 fault-any a b (fault k p) e = absurd (let z : _≡_ {A = ℕ} 0 1 = cc in omega arith)
 
 module _ (Held : Program → Type 0) (rule : Rule) (sizes : List ℕ) (grid : List ℤ) (time count : ℕ) where
@@ -118,7 +120,7 @@ module _ (Held : Program → Type 0) (rule : Rule) (sizes : List ℕ) (grid : Li
   pub record Reached (i total : ℕ) (scratch : List ℤ) : Type 0 where
     pub clear : (p : Program) → Held p → first-fault (gives p) i ≡ no-fault
     pub total-is : total ≡ count + i
-    pub next : (p : Program) → Held p → (c : ℕ) → c < i → gives p c ≡ state (cell-of (rule .fields) scratch c)
+    pub next : (p : Program) → Held p → (c : ℕ) → c < i → gives p c ≡ result (cell-of (rule .fields) scratch c)
 
   pub reached-start : (i : ℕ) (scratch : List ℤ) → i ≡ 0 → Reached i count scratch
   unfolding first-fault
@@ -135,11 +137,11 @@ module _ (Held : Program → Type 0) (rule : Rule) (sizes : List ℕ) (grid : Li
         none : fault-in r ≡ no-fault
         none = ap fault-in e
 
-        at : (p : Program) → Held p → (c : ℕ) → (c < i) ⊎ (i ≤ c) → c < i + cells → gives p c ≡ state (cell-of (rule .fields) scratch′ c)
-        at p h c (inl m) l = w .next p h c m ∙ ap (λ (x : List ℤ). state x) (sym (b .kept c m))
+        at : (p : Program) → Held p → (c : ℕ) → (c < i) ⊎ (i ≤ c) → c < i + cells → gives p c ≡ result (cell-of (rule .fields) scratch′ c)
+        at p h c (inl m) l = w .next p h c m ∙ ap (λ (x : List ℤ). result x) (sym (b .kept c m))
         at p h c (inr m) l =
             let same : i + (c - i) ≡ c = omega arith in
-            subst (λ (x : ℕ). gives p x ≡ state (cell-of (rule .fields) scratch′ x)) same (b .next none p h (c - i) (omega arith))
+            subst (λ (x : ℕ). gives p x ≡ result (cell-of (rule .fields) scratch′ x)) same (b .next none p h (c - i) (omega arith))
 
     pub reached-stop : {c k q n d : ℕ} → r ≡ Gives.Fault c k q n → i + cells ≤ product sizes → d ≡ i + c → AllEvaluated Held rule sizes grid time count (Gives.Fault d k q n) scratch′
     reached-stop {c} {k} {q} {n} {d} e l at = rw at (record {
@@ -201,7 +203,7 @@ module _ {leaves words : List ℕ} {rule : Rule} {sizes shape : List ℕ} {row :
         row-is = g .row-is;
         near = g .near;
         scratch-fits = u .scratch-size ∙ g .scratch-fits;
-        roomed = subst (λ (x : ℕ). Roomed rule shape x) (sym (u .room-size)) (g .roomed);
+        roomed = subst (λ (x : ℕ). Shaped (rule .dims) (rule .fields) most-room shape x) (sym (u .room-size)) (g .roomed);
         room-dims = g .room-dims;
         alike = g .alike;
         small = g .small;

@@ -9,17 +9,17 @@ use lib.Seq.{length-take-le}
 use lib.IntN.{ℤ, pos}
 use Rattle.automaton.specs.Contracts.ListedLaws.{length-list-of, list-of-ext}
 use Rattle.automaton.specs.Step as automaton
-use Rattle.automaton.specs.Step.{Outcome, state, fault, Fault, no-fault, fault-of, state-or, first-fault}
+use Rattle.automaton.specs.Step.{Outcome, result, fault, Fault, no-fault, fault-of, state-or, first-fault}
 use Rattle.automaton.proofs.Theorems.Quiet.{first-fault-none}
 use Rattle.automaton.specs.Shape.{product, Bound, neighbour}
 use Rattle.automaton.specs.Contracts.ShapeLaws.{Positive, product-pos}
 use Rattle.automaton.specs.Grid.{cell-of, grid-of}
-use Rattle.automaton.proofs.Theorems.GridLaws.{Bounded, cell-of-grid-of}
+use Rattle.automaton.proofs.Theorems.GridLaws.{Bounded, cell-of-grid-of, cell-length}
 use Rattle.automaton.specs.Bands.{Band, rows-in, rows-with, reached, next-rows, part-step, band-step}
 use Rattle.automaton.specs.Contracts.BandSteps.{rows-lent, band-of}
 use Rattle.automaton.proofs.Theorems.BandLaws.{Edged, band-step-same, band-is}
 use Rattle.program.specs.Syntax.{Program}
-use Rattle.cell_meaning.specs.declared.Rule.{Rule}
+use Rattle.program.specs.declared.Rule.{Rule}
 use Rattle.cell_meaning.specs.Evaluation.{evaluate}
 use Rattle.run_meaning.specs.Reach.{reach}
 use Rattle.run_meaning.proofs.Theorems.Locality.{evaluate-bounded}
@@ -63,17 +63,13 @@ cell-before fields from cells c xs ys room size l =
     list-of-ext _ _ fields (λ k m. paste-below (from * fields) (cells * fields) xs ys room size (c * fields + k) (entry-before fields c from k l m))
 
 -- an outcome without a fault
-state-of : {State : Type 0} (c : ℕ) (old : State) (o : Outcome State) → fault-of c o ≡ no-fault → o ≡ state (state-or old o)
-state-of c old (state a) e = refl
+state-of : {State : Type 0} (c : ℕ) (old : State) (o : Outcome State) → fault-of c o ≡ no-fault → o ≡ result (state-or old o)
+state-of c old (result a) e = refl
 state-of c old (fault k p) e = absurd (let z : _≡_ {A = ℕ} 0 1 = cc in omega arith)
 
 lent-long : (ns : List ℕ) (fields n count back first : ℕ) (g : List ℤ) → length (rows-lent ns fields n count back first g) ≡ count * product ns * fields
 unfolding rows-lent grid-of
 lent-long ns fields n count back first g = length-list-of _ (count * product ns * fields)
-
-cell-long : (fields : ℕ) (g : List ℤ) (c : ℕ) → length (cell-of fields g c) ≡ fields
-unfolding cell-of
-cell-long fields g c = length-list-of _ fields
 
 -- ---- a program
 
@@ -107,14 +103,14 @@ module _ {words : List ℕ} {rule : Rule} {border : Bound} {p : Program} (h : Bo
 
     -- its next fields, where it has no fault
     next-at : (next : List ℤ) → first-fault in-grid (rows-in b * product ns) ≡ no-fault → next ≡ part-step (rule .fields) in-grid (rows-in b * product ns) .grid
-        → (i : ℕ) → i < rows-in b * product ns → in-grid i ≡ state (cell-of (rule .fields) next i)
+        → (i : ℕ) → i < rows-in b * product ns → in-grid i ≡ result (cell-of (rule .fields) next i)
     unfolding part-step
     next-at next none is i l =
         let m = rows-in b * product ns in
         let s : ℕ → List ℤ = λ j. state-or [] (in-grid j) in
-        let here : in-grid i ≡ state (s i) = state-of i [] (in-grid i) (first-fault-none in-grid m none i l) in
-        let long : length (s i) ≡ rule .fields = bounded .sized _ time (s i) (λ ds. cell-long (rule .fields) grid _) here in
-        here ∙ ap (λ (x : List ℤ). state x)
+        let here : in-grid i ≡ result (s i) = state-of i [] (in-grid i) (first-fault-none in-grid m none i l) in
+        let long : length (s i) ≡ rule .fields = bounded .sized _ time (s i) (λ ds. cell-length (rule .fields) grid _) here in
+        here ∙ ap (λ (x : List ℤ). result x)
         (sym (ap (λ (x : List ℤ). cell-of (rule .fields) x i) (is ∙ ap (next-rows (rule .fields) m in-grid) none) ∙ cell-of-grid-of (rule .fields) m s i long l))
 
 -- ---- the call
@@ -134,7 +130,7 @@ band-at words rule n ns held border b grid scratch room time count r next dims p
   next = λ none p h i l.
       next-at h n ns (dims-of p h) positive b grid room time next (sym (s .fault p (h .holds) ∙ ap (λ (x : automaton.Step (List ℤ)). x .fault) (same p h)) ∙ none)
       (s .next-is none p (h .holds) ∙ ap (λ (x : automaton.Step (List ℤ)). x .grid) (same p h)) i l
-      ∙ ap (λ (x : List ℤ). state x) (sym (cell-inside (rule .fields) (b .first * product ns) (rows-in b * product ns) i scratch next fits size l));
+      ∙ ap (λ (x : List ℤ). result x) (sym (cell-inside (rule .fields) (b .first * product ns) (rows-in b * product ns) i scratch next fits size l));
   kept = λ c l. cell-before (rule .fields) (b .first * product ns) (rows-in b * product ns) c scratch next fits size l;
 }
   where

@@ -3,8 +3,10 @@ ghost use mathlib.Core.Path.{_≡_};
 ghost use mathlib.Core.List.{_∷_};
 ghost use Prim.Native.Nat.{_+_, _%_, _<_, _≤_};
 ghost use lib.ListN.{length, take, drop};
+ghost use Rattle.value.specs.Limits.{most-dims};
 ghost use Rattle.band_step.specs.Contracts.Lending.{RowFits, copied, Lending, with-rows};
 use run_marked_cells::rooms::copy_numbers;
+use value::limits::MOST_DIMS;
 
 // Copies so many entries of a grid from a position on into a room.
 fn copy_row(grid: &[i32], from: usize, room: &mut [i32], to: usize, width: usize)
@@ -55,8 +57,8 @@ pub fn fill_room(
 }
 
 // The sizes of a room of so many rows, as wide as a grid of given sizes. Those past its dimensions are 1.
-pub fn room_shape(sizes: &[u32], rows: u32) -> [u32; 3]
-    requires { ⌜ (0 < length (now sizes)) × (length (now sizes) ≤ 3) ⌝ }
+pub fn room_shape(sizes: &[u32], rows: u32) -> [u32; MOST_DIMS]
+    requires { ⌜ (0 < length (now sizes)) × (length (now sizes) ≤ most-dims) ⌝ }
     ensures { λ r. ⌜ take (length (now (sizes .entry))) r ≡ rows ∷ drop 1 (now (sizes .entry)) ⌝ }
 {
     if sizes.len() == 1 {

@@ -5,15 +5,16 @@ ghost use Rattle.run_step.specs.Contracts.Stepping.{SteppedFor};
 ghost use Rattle.band_meaning.specs.Bounds.{bound};
 ghost use Rattle.band_step.specs.Contracts.Bandwise.{Bordered, Grounds, BandFits, BandEvaluated, AllEvaluated, PlanRuns, AllMarked};
 use crate::lending::fill_room;
-use cell_meaning::Rule;
+use program::Rule;
 use run_marked_cells::exchange::exchange_marked;
 use run_step::Step;
 use run_step::rows::step_rows;
+use value::limits::LEAF_WORDS;
 
 // Evaluates one band of a grid, from its first row to its last, into its part of `scratch`. Its rows with bound are copied into the room first, and
 // read from there. A fault's cell is counted from the band's first.
 fn evaluate_band(
-    leaves: &[u32; 32776],
+    leaves: &[u32; LEAF_WORDS],
     words: &[u32],
     rule: Rule,
     sizes: &[u32],
@@ -55,7 +56,7 @@ fn evaluate_band(
 
 // Evaluates the bands of a plan in turn, up to the first fault.
 fn evaluate_bands(
-    leaves: &[u32; 32776],
+    leaves: &[u32; LEAF_WORDS],
     words: &[u32],
     rule: Rule,
     sizes: &[u32],
@@ -112,7 +113,7 @@ fn evaluate_bands(
 // the border rows; the room has the grid's sizes after the first, and as many rows as every band is passed at the most. All cells are marked. Grid, fault,
 // count and `scratch` are those of a step of the whole grid.
 pub fn step_under(
-    leaves: &[u32; 32776],
+    leaves: &[u32; LEAF_WORDS],
     words: &[u32],
     rule: Rule,
     sizes: &[u32],

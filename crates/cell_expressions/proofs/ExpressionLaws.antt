@@ -7,10 +7,10 @@ use mathlib.Core.Bool.{Bool, true, false}
 use mathlib.Core.List.{List}
 use lib.IntN.{ℤ}
 use Rattle.token.specs.Kind.{level-of}
-use Rattle.value.specs.Worked.{value}
 use Rattle.value.specs.declared.Value.{Value}
+use Rattle.automaton.specs.Step.{Outcome, result, fault}
 use Rattle.program.specs.Syntax.{Expr, element, unary, binary}
-use Rattle.cell_meaning.specs.Operators.{Worth, worth, failed, placed, apply-unary, compare, apply-binary}
+use Rattle.cell_meaning.specs.Operators.{placed, apply-unary, compare, apply-binary}
 use Rattle.cell_meaning.specs.Evaluation.{Env, element-at, eval}
 use Rattle.cell_meaning.specs.Contracts.Stands.{array-in, is-unary, parsed, decode-expression, decode-chain, decode-operand, decode-primary, decode-bracket}
 use Rattle.cell_meaning.specs.Links.{Table}
@@ -20,70 +20,62 @@ use Rattle.cell_operands.specs.declared.Told.the-variants.{Found, Failed}
 use Rattle.cell_operands.proofs.OperatorLaws.{level-some, told-compare}
 use Rattle.token.proofs.Levels.{level-few}
 use Rattle.cell_operands.proofs.DecodingLaws.{never, went-on, was-unary, was-paren, was-name, was-array, was-bracket, was-expression, was-end, was-more}
-use Rattle.cell_operands.proofs.PrimaryLaws.{as-value}
+use Rattle.cell_operands.proofs.PrimaryLaws.{as-value, result-of, fault-of}
 use Rattle.cell_operands.proofs.LeafLaws.{lost, bare}
 
--- ---- what an answer says of the worth
+-- ---- what an answer says of the outcome
 
-pub worth-of : (o : Worth) (next : ℕ) {v : Value} {at : ℕ} → Found v at ≡ told-of o next → (o ≡ worth (v .n)) × (next ≡ at)
-worth-of (worth z) next {v} q = let e : value z ≡ v = cc in (ap (λ (x : Value). worth (x .n)) e, cc)
-worth-of (failed k p) next q = let z : _≡_ {A = ℕ} 0 1 = cc in absurd (omega arith)
-
-pub fault-of : (o : Worth) (next : ℕ) {k p : ℕ} → Failed k p ≡ told-of o next → o ≡ failed k p
-fault-of (worth z) next q = let z : _≡_ {A = ℕ} 0 1 = cc in absurd (omega arith)
-fault-of (failed k p) next q = cc
-
-further : (o : Worth) (at from past n : ℕ) → at ≤ from → (from < past) × (past ≤ n) → OperandOnward at n (told-of o past)
-further (worth z) at from past n l y = (omega arith, omega arith)
-further (failed k p) at from past n l y = tt
+further : (o : Outcome ℤ) (at from past n : ℕ) → at ≤ from → (from < past) × (past ≤ n) → OperandOnward at n (told-of o past)
+further (result z) at from past n l y = (omega arith, omega arith)
+further (fault k p) at from past n l y = tt
 
 module _ (t : Table) (env : Env) (vars vs : List ℤ) where
-  abbrev ev : Expr → Worth
+  abbrev ev : Expr → Outcome ℤ
   ev e = eval env vars vs e
 
-  as-fault : (e : Expr) (next : ℕ) {r : Told} {k p : ℕ} → r ≡ Failed k p → ev e ≡ failed k p → r ≡ told-of (ev e) next
-  as-fault e next h x = h ∙ sym (ap (λ (o : Worth). told-of o next) x)
+  as-fault : (e : Expr) (next : ℕ) {r : Told} {k p : ℕ} → r ≡ Failed k p → ev e ≡ fault k p → r ≡ told-of (ev e) next
+  as-fault e next h x = h ∙ sym (ap (λ (o : Outcome ℤ). told-of o next) x)
 
-  -- ---- evaluation's clauses, with the worth of the operands known
+  -- ---- evaluation's clauses, with the outcome of the operands known
 
   module _ (op place : ℕ) where
-    unary-faults : (e : Expr) {k p : ℕ} → ev e ≡ failed k p → ev (unary op place e) ≡ failed k p
+    unary-faults : (e : Expr) {k p : ℕ} → ev e ≡ fault k p → ev (unary op place e) ≡ fault k p
     unfolding eval
     unary-faults e x = simp x
 
-    unary-worth : (e : Expr) {z : ℤ} → ev e ≡ worth z → ev (unary op place e) ≡ placed place (apply-unary op z)
+    unary-result : (e : Expr) {z : ℤ} → ev e ≡ result z → ev (unary op place e) ≡ placed place (apply-unary op z)
     unfolding eval
-    unary-worth e x = simp x
+    unary-result e x = simp x
 
-    left-faults : (d e : Expr) {k p : ℕ} → ev d ≡ failed k p → ev (binary op place d e) ≡ failed k p
+    left-faults : (d e : Expr) {k p : ℕ} → ev d ≡ fault k p → ev (binary op place d e) ≡ fault k p
     unfolding eval
     left-faults d e x = simp x
 
-    right-faults : (d e : Expr) {z : ℤ} {k p : ℕ} → ev d ≡ worth z → ev e ≡ failed k p → ev (binary op place d e) ≡ failed k p
+    right-faults : (d e : Expr) {z : ℤ} {k p : ℕ} → ev d ≡ result z → ev e ≡ fault k p → ev (binary op place d e) ≡ fault k p
     unfolding eval
     right-faults d e x y = simp (x, y)
 
-    both-worth : (d e : Expr) {y z : ℤ} → ev d ≡ worth y → ev e ≡ worth z → ev (binary op place d e) ≡ placed place (apply-binary op y z)
+    both-result : (d e : Expr) {y z : ℤ} → ev d ≡ result y → ev e ≡ result z → ev (binary op place d e) ≡ placed place (apply-binary op y z)
     unfolding eval
-    both-worth d e x y = simp (x, y)
+    both-result d e x y = simp (x, y)
 
   module _ (place : ℕ) (zs : List ℤ) where
-    element-faults : (e : Expr) {k p : ℕ} → ev e ≡ failed k p → ev (element place zs e) ≡ failed k p
+    element-faults : (e : Expr) {k p : ℕ} → ev e ≡ fault k p → ev (element place zs e) ≡ fault k p
     unfolding eval
     element-faults e x = simp x
 
-    element-worth : (e : Expr) {z : ℤ} → ev e ≡ worth z → ev (element place zs e) ≡ element-at place zs z
+    element-result : (e : Expr) {z : ℤ} → ev e ≡ result z → ev (element place zs e) ≡ element-at place zs z
     unfolding eval
-    element-worth e x = simp x
+    element-result e x = simp x
 
   -- a fault of what a chain has read is a fault of all that it reads
   module _ (level next : ℕ) (e : Expr) (k p : ℕ) where
-    chain-fault : (f here : ℕ) (left : Expr) → decode-chain f t level left here ≡ parsed e next → ev left ≡ failed k p → ev e ≡ failed k p
+    chain-fault : (f here : ℕ) (left : Expr) → decode-chain f t level left here ≡ parsed e next → ev left ≡ fault k p → ev e ≡ fault k p
     unfolding decode-chain
     chain-fault zero here left q x = never q
     chain-fault (suc f) here left q x = go (chain-fault f) (decLt (level-of (t .kind here)) level)
       where
-        go : ((here : ℕ) (left : Expr) → decode-chain f t level left here ≡ parsed e next → ev left ≡ failed k p → ev e ≡ failed k p) → Dec (level-of (t .kind here) < level) → ev e ≡ failed k p
+        go : ((here : ℕ) (left : Expr) → decode-chain f t level left here ≡ parsed e next → ev left ≡ fault k p → ev e ≡ fault k p) → Dec (level-of (t .kind here) < level) → ev e ≡ fault k p
         go again (yes l) = ap ev (sym (was-end t here level next e l left (suc f) q .0)) ∙ x
         go again (no l) =
             let s = went-on t here level next e (omega arith) left f q in
@@ -109,7 +101,7 @@ module _ (t : Table) (env : Env) (vars vs : List ℤ) where
           where
             go : (e : Expr) (next : ℕ) → (f : ℕ) × (m : ℕ) × (decode-expression f t 1 (at + 1) ≡ parsed e m) × (t .kind m ≡ close) × (next ≡ m + 1) → Found v (past + 1) ≡ told-of (ev e) next
             go e next (f, m, q, kc′, hn) =
-                let s = worth-of (ev e) m (sym h ∙ x .says f e m q) in
+                let s = result-of (ev e) m (sym h ∙ x .says f e m q) in
                 as-value env vars vs e (past + 1) next (s .0) (hn ∙ ap (λ (i : ℕ). i + 1) (s .1))
 
         pub bracket-open : (k ≡ close → ⊥) → {a p : ℕ} → EvalsBracket t env vars vs n at close (Failed a p)
@@ -117,7 +109,7 @@ module _ (t : Table) (env : Env) (vars vs : List ℤ) where
           where
             go : (e : Expr) (next : ℕ) → (f : ℕ) × (m : ℕ) × (decode-expression f t 1 (at + 1) ≡ parsed e m) × (t .kind m ≡ close) × (next ≡ m + 1) → ⊥
             go e next (f, m, q, kc′, hn) =
-                let s = worth-of (ev e) m (sym h ∙ x .says f e m q) in
+                let s = result-of (ev e) m (sym h ∙ x .says f e m q) in
                 kc (ek ∙ ap (λ (i : ℕ). t .kind i) (sym (s .1)) ∙ kc′)
 
     -- ---- primaries
@@ -162,9 +154,9 @@ module _ (t : Table) (env : Env) (vars vs : List ℤ) where
               where
                 go : (e : Expr) (next : ℕ) → Went e next → o ≡ told-of (ev e) next
                 go e next (k91, f, e₀, q, he) =
-                    let s = worth-of (ev e₀) next (sym h ∙ b .says f e₀ next q) in
+                    let s = result-of (ev e₀) next (sym h ∙ b .says f e₀ next q) in
                     ho ∙ ap (told-of (element-at (t .place (at + 1)) (array-in t (t .word3 at)) (i .n))) (sym (s .1))
-                    ∙ sym (ap (λ (x : Worth). told-of x next) (ap ev he ∙ element-worth (t .place (at + 1)) (array-in t (t .word3 at)) e₀ (s .0)))
+                    ∙ sym (ap (λ (x : Outcome ℤ). told-of x next) (ap ev he ∙ element-result (t .place (at + 1)) (array-in t (t .word3 at)) e₀ (s .0)))
 
     -- ---- operands
 
@@ -193,9 +185,9 @@ module _ (t : Table) (env : Env) (vars vs : List ℤ) where
           where
             go : (e : Expr) (next : ℕ) → Unary e next → o ≡ told-of (ev e) next
             go e next (f, e₀, q, he) =
-                let s = worth-of (ev e₀) next (sym g ∙ x .says f e₀ next q) in
+                let s = result-of (ev e₀) next (sym g ∙ x .says f e₀ next q) in
                 ho ∙ ap (told-of (placed (t .place at) (apply-unary k (v .n)))) (sym (s .1))
-                ∙ sym (ap (λ (y : Worth). told-of y next) (ap ev he ∙ unary-worth (t .kind at) (t .place at) e₀ (s .0) ∙ ap (λ (i : ℕ). placed (t .place at) (apply-unary i (v .n))) (sym ek)))
+                ∙ sym (ap (λ (y : Outcome ℤ). told-of y next) (ap ev he ∙ unary-result (t .kind at) (t .place at) e₀ (s .0) ∙ ap (λ (i : ℕ). placed (t .place at) (apply-unary i (v .n))) (sym ek)))
 
     module _ {k : ℕ} (ek : k ≡ t .kind at) {from : ℕ} (ef : from ≡ primary-from k at) {r : Told} (x : EvalsPrimary t env vars vs n from r) where
       behind : is-unary k ≡ true → EvalsPrimary t env vars vs n (at + 1) r
@@ -221,12 +213,12 @@ module _ (t : Table) (env : Env) (vars vs : List ℤ) where
     -- ---- operators
 
     module _ (level : ℕ) where
-      -- what is read up to here is worth `left`, and decoding goes on from there
+      -- what is read up to here comes to `left`, and decoding goes on from there
       pub record Chain (left : Value) (here : ℕ) : Type 0 where
         pub past : at < here
         pub within : here ≤ n
         pub says : (fuel : ℕ) (e : Expr) (next : ℕ) → decode-expression fuel t level at ≡ parsed e next
-            → (f : ℕ) × (l : Expr) × (decode-chain f t level l here ≡ parsed e next) × (ev l ≡ worth (left .n))
+            → (f : ℕ) × (l : Expr) × (decode-chain f t level l here ≡ parsed e next) × (ev l ≡ result (left .n))
 
       abbrev First : Expr → ℕ → Type 0
       First e next = (f : ℕ) × (e₀ : Expr) × (m : ℕ) × (decode-operand f t at ≡ parsed e₀ m) × (decode-chain f t level e₀ m ≡ parsed e next)
@@ -242,14 +234,14 @@ module _ (t : Table) (env : Env) (vars vs : List ℤ) where
           let o : (at < past) × (past ≤ n) = rw h at (x .onward) in
           record { past = o .0; within = o .1; says = λ fuel e next q. go e next (was-expression t at next e level fuel q) }
         where
-          go : (e : Expr) (next : ℕ) → First e next → (f : ℕ) × (l : Expr) × (decode-chain f t level l past ≡ parsed e next) × (ev l ≡ worth (v .n))
+          go : (e : Expr) (next : ℕ) → First e next → (f : ℕ) × (l : Expr) × (decode-chain f t level l past ≡ parsed e next) × (ev l ≡ result (v .n))
           go e next (f, e₀, m, q, q′) =
-              let s = worth-of (ev e₀) m (sym h ∙ x .says f e₀ m q) in
+              let s = result-of (ev e₀) m (sym h ∙ x .says f e₀ m q) in
               (f, e₀, ap (decode-chain f t level e₀) (sym (s .1)) ∙ q′, s .0)
 
       module _ {left : Value} {here k own : ℕ} (ch : Chain left here) (ek : k ≡ t .kind here) (eo : own ≡ level-of k) where
         abbrev Read : Expr → ℕ → Type 0
-        Read e next = (f : ℕ) × (l : Expr) × (decode-chain f t level l here ≡ parsed e next) × (ev l ≡ worth (left .n))
+        Read e next = (f : ℕ) × (l : Expr) × (decode-chain f t level l here ≡ parsed e next) × (ev l ≡ result (left .n))
 
         pub chain-end : own < level → EvalsExpression t env vars vs n at level (Found left here)
         chain-end u = record { says = λ fuel e next q. go e next (ch .says fuel e next q); onward = (ch .past, ch .within) }
@@ -262,7 +254,7 @@ module _ (t : Table) (env : Env) (vars vs : List ℤ) where
         module _ {r : Told} (u : level ≤ own) (x : EvalsExpression t env vars vs n (here + 1) (own + 1) r) where
           -- what a decoding that succeeds read next: the chain's part, the right side, and the rest
           More : (e : Expr) (next : ℕ) → Type 0
-          More e next = (f : ℕ) × (l : Expr) × (right : Expr) × (m : ℕ) × (ev l ≡ worth (left .n)) × (r ≡ told-of (ev right) m) × (decode-chain f t level (binary k (t .place here) l right) m ≡ parsed e next)
+          More e next = (f : ℕ) × (l : Expr) × (right : Expr) × (m : ℕ) × (ev l ≡ result (left .n)) × (r ≡ told-of (ev right) m) × (decode-chain f t level (binary k (t .place here) l right) m ≡ parsed e next)
 
           more : (fuel : ℕ) (e : Expr) (next : ℕ) → decode-expression fuel t level at ≡ parsed e next → More e next
           unfolding More
@@ -283,7 +275,7 @@ module _ (t : Table) (env : Env) (vars vs : List ℤ) where
                   as-fault e next h (chain-fault level next e a p f m (binary k (t .place here) l right) q (right-faults k (t .place here) l right y (fault-of (ev right) m (sym h ∙ z))))
 
           module _ {b : Value} {past : ℕ} {o : Told} (h : r ≡ Found b past) (ho : o ≡ told-of (placed (t .place here) (apply-binary k (left .n) (b .n))) past) where
-            -- the operator's worth is that of what is read now
+            -- the operator's outcome is that of what is read now
             Done : (e : Expr) (next : ℕ) → Type 0
             Done e next = (f : ℕ) × (l : Expr) × (ev l ≡ placed (t .place here) (apply-binary k (left .n) (b .n))) × (decode-chain f t level l past ≡ parsed e next)
 
@@ -293,8 +285,8 @@ module _ (t : Table) (env : Env) (vars vs : List ℤ) where
               where
                 go : More e next → Done e next
                 go (f, l, right, m, y, z, q) =
-                    let s = worth-of (ev right) m (sym h ∙ z) in
-                    (f, binary k (t .place here) l right, both-worth k (t .place here) l right y (s .0), ap (decode-chain f t level (binary k (t .place here) l right)) (sym (s .1)) ∙ q)
+                    let s = result-of (ev right) m (sym h ∙ z) in
+                    (f, binary k (t .place here) l right, both-result k (t .place here) l right y (s .0), ap (decode-chain f t level (binary k (t .place here) l right)) (sym (s .1)) ∙ q)
 
             pub operator-fault : {a p : ℕ} → o ≡ Failed a p → EvalsExpression t env vars vs n at level o
             unfolding Done
@@ -307,19 +299,19 @@ module _ (t : Table) (env : Env) (vars vs : List ℤ) where
             pub chain-more : {v : Value} {there : ℕ} → o ≡ Found v there → Chain v there
             unfolding Done
             chain-more {v} {there} g =
-                let s = worth-of (placed (t .place here) (apply-binary k (left .n) (b .n))) past (sym g ∙ ho) in
+                let s = result-of (placed (t .place here) (apply-binary k (left .n) (b .n))) past (sym g ∙ ho) in
                 let y : (here + 1 < past) × (past ≤ n) = rw h at (x .onward) in
                 let z = s .1 in
                 let c = ch .past in
                 record { past = omega arith; within = omega arith; says = λ fuel e next q. go (s .0) (s .1) e next (done fuel e next q) }
               where
-                go : placed (t .place here) (apply-binary k (left .n) (b .n)) ≡ worth (v .n) → past ≡ there → (e : Expr) (next : ℕ) → Done e next
-                    → (f : ℕ) × (l : Expr) × (decode-chain f t level l there ≡ parsed e next) × (ev l ≡ worth (v .n))
+                go : placed (t .place here) (apply-binary k (left .n) (b .n)) ≡ result (v .n) → past ≡ there → (e : Expr) (next : ℕ) → Done e next
+                    → (f : ℕ) × (l : Expr) × (decode-chain f t level l there ≡ parsed e next) × (ev l ≡ result (v .n))
                 go s z e next (f, l, y, q) = (f, l, ap (decode-chain f t level l) (sym z) ∙ q, y ∙ s)
 
             pub chain-less : {v : Value} {there : ℕ} → o ≡ Found v there → (here < there) × (there ≤ n)
             chain-less {v} {there} g =
-                let s = worth-of (placed (t .place here) (apply-binary k (left .n) (b .n))) past (sym g ∙ ho) .1 in
+                let s = result-of (placed (t .place here) (apply-binary k (left .n) (b .n))) past (sym g ∙ ho) .1 in
                 let y : (here + 1 < past) × (past ≤ n) = rw h at (x .onward) in
                 (omega arith, omega arith)
 
@@ -380,7 +372,7 @@ module _ (t : Table) (env : Env) (vars vs : List ℤ) where
             same-next : Pending left op own last here → next ≡ m
             same-next (first z w e) = let q : Found b next ≡ Found c m = sym (j .alone z) ∙ g in cc
             same-next (behind-operator ch s eo ew l) =
-                worth-of (placed (t .place last) (apply-binary op (left .n) (b .n))) next (sym g ∙ j .applied (λ z. let y = level-some op ew some-level l in omega arith)) .1
+                result-of (placed (t .place last) (apply-binary op (left .n) (b .n))) next (sym g ∙ j .applied (λ z. let y = level-some op ew some-level l in omega arith)) .1
 
             kind-there : k ≡ t .kind m
             kind-there = ek ∙ ap (t .kind) (same-next (p .pending))

@@ -17,7 +17,7 @@ use Rattle.cell_operands.specs.declared.Told.the-variants.{Found}
 use Rattle.cell_operands.proofs.NotedLaws.{leaf-within, leaf-onto, level-at, operator-at, operator-within}
 use Rattle.cell_expressions.proofs.ExpressionLaws.{simple-alone, simple-related}
 
-module _ {leaves words sizes place : List ℕ} {grid : List ℤ} {site : Site} {depth : ℕ} (r : SiteReady leaves words sizes place grid site depth) where
+module _ {leaves words sizes point : List ℕ} {grid : List ℤ} {site : Site} {depth : ℕ} (r : SiteReady leaves words sizes point grid site depth) where
   abbrev Operand : List ℤ → List ℤ → ℕ → Value → ℕ → Type 0
   Operand vars index p v past = Leaf (site-table words sizes site) (env-of words sizes grid site) (take (site .slots) vars) (take depth index) (site .tokens) p (Found v past)
 

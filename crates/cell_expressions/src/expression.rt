@@ -2,6 +2,7 @@
 ghost use mathlib.Core.Path.{_≡_};
 ghost use Prim.Native.Nat.{_*_, _<_, _≤_, _%_};
 ghost use lib.ListN.{length, take};
+ghost use Rattle.value.specs.Limits.{most-tokens};
 ghost use Rattle.cell_meaning.specs.Links.{word-in};
 ghost use Rattle.cell_operands.specs.Contracts.Working.{site-table, env-of, SiteReady, primary-from, EvalsExpression, EvalsOperand, EvalsPrimary, EvalsBracket, Leaf, Quick, Joins};
 use cell_operands::Site;
@@ -18,10 +19,13 @@ use token::kind;
 use token::kind::level_of;
 use value::Value;
 use value::Worked;
+use value::limits::LEAF_WORDS;
+use value::limits::MOST_NAMES;
+use value::limits::MOST_OPEN;
 
 // The value after an operator at a position, joined with the left one; the value itself, where there is no operator.
 fn joined(words: &[u32], n: usize, last: usize, op: u32, a: Value, b: Value, next: usize) -> Told
-    requires { ⌜ (4 * n ≤ length (now words)) × (n ≤ 4096) ⌝ }
+    requires { ⌜ (4 * n ≤ length (now words)) × (n ≤ most-tokens) ⌝ }
     ensures { λ r. ⌜ Joins (word-in (now (words .entry)) n 1 last % 65536) op (a .n) b next r ⌝ }
 {
     if op == 0 {
@@ -41,25 +45,25 @@ fn joined(words: &[u32], n: usize, last: usize, op: u32, a: Value, b: Value, nex
 
 // The operand at a position, if it is noted or is a leaf.
 fn short_operand(
-    leaves: &[u32; 32776],
+    leaves: &[u32; LEAF_WORDS],
     words: &[u32],
     sizes: &[u32],
-    place: &[u32],
+    point: &[u32],
     grid: &[i32],
-    vars: &[i32; 256],
-    index: &[i32; 16],
+    vars: &[i32; MOST_NAMES],
+    index: &[i32; MOST_OPEN],
     site: Site,
     depth: usize,
     at: usize,
 ) -> Told
-    requires { ⌜ SiteReady (now leaves) (now words) (now sizes) (now place) (now grid) site depth × (at ≤ site .tokens) ⌝ }
+    requires { ⌜ SiteReady (now leaves) (now words) (now sizes) (now point) (now grid) site depth × (at ≤ site .tokens) ⌝ }
     ensures { λ r. ⌜ Leaf (site-table (now (words .entry)) (now (sizes .entry)) site) (env-of (now (words .entry)) (now (sizes .entry)) (now (grid .entry)) site) (take (site .slots) (now (vars .entry))) (take depth (now (index .entry))) (site .tokens) at r ⌝ }
 {
     let short = noted(
         leaves,
         words,
         sizes,
-        place,
+        point,
         grid,
         vars,
         index,
@@ -72,7 +76,7 @@ fn short_operand(
             leaves,
             words,
             sizes,
-            place,
+            point,
             grid,
             vars,
             index,
@@ -87,19 +91,19 @@ fn short_operand(
 // The expression at a position, of operators of a level or tighter, if it has no parentheses, unary operators and array constants, no operator
 // is tighter than the one before it, and there is no fault. Else a fault is returned, which says nothing; but at level 5 it is that of the primary.
 pub fn quick(
-    leaves: &[u32; 32776],
+    leaves: &[u32; LEAF_WORDS],
     words: &[u32],
     sizes: &[u32],
-    place: &[u32],
+    point: &[u32],
     grid: &[i32],
-    vars: &[i32; 256],
-    index: &[i32; 16],
+    vars: &[i32; MOST_NAMES],
+    index: &[i32; MOST_OPEN],
     site: Site,
     depth: usize,
     at: usize,
     level: u32,
 ) -> Told
-    requires { ⌜ SiteReady (now leaves) (now words) (now sizes) (now place) (now grid) site depth × (1 ≤ level) × (at ≤ site .tokens) ⌝ }
+    requires { ⌜ SiteReady (now leaves) (now words) (now sizes) (now point) (now grid) site depth × (1 ≤ level) × (at ≤ site .tokens) ⌝ }
     ensures { λ r. ⌜ Quick (site-table (now (words .entry)) (now (sizes .entry)) site) (env-of (now (words .entry)) (now (sizes .entry)) (now (grid .entry)) site) (take (site .slots) (now (vars .entry))) (take depth (now (index .entry))) (site .tokens) at level r ⌝ }
 {
     let n = site.tokens;
@@ -113,7 +117,7 @@ pub fn quick(
             leaves,
             words,
             sizes,
-            place,
+            point,
             grid,
             vars,
             index,
@@ -145,26 +149,26 @@ pub fn quick(
 
 // The expression at a position, of operators of a level or tighter.
 fn expression(
-    leaves: &[u32; 32776],
+    leaves: &[u32; LEAF_WORDS],
     words: &[u32],
     sizes: &[u32],
-    place: &[u32],
+    point: &[u32],
     grid: &[i32],
-    vars: &[i32; 256],
-    index: &[i32; 16],
+    vars: &[i32; MOST_NAMES],
+    index: &[i32; MOST_OPEN],
     site: Site,
     depth: usize,
     at: usize,
     level: u32,
 ) -> Told
-    requires { ⌜ SiteReady (now leaves) (now words) (now sizes) (now place) (now grid) site depth × (1 ≤ level) × (at ≤ site .tokens) ⌝ }
+    requires { ⌜ SiteReady (now leaves) (now words) (now sizes) (now point) (now grid) site depth × (1 ≤ level) × (at ≤ site .tokens) ⌝ }
     ensures { λ r. ⌜ EvalsExpression (site-table (now (words .entry)) (now (sizes .entry)) site) (env-of (now (words .entry)) (now (sizes .entry)) (now (grid .entry)) site) (take (site .slots) (now (vars .entry))) (take depth (now (index .entry))) (site .tokens) at level r ⌝ }
 {
     let short = quick(
         leaves,
         words,
         sizes,
-        place,
+        point,
         grid,
         vars,
         index,
@@ -178,7 +182,7 @@ fn expression(
             leaves,
             words,
             sizes,
-            place,
+            point,
             grid,
             vars,
             index,
@@ -194,19 +198,19 @@ fn expression(
 // The expression at a position, of operators of a level or tighter, worked out by every way that an expression can go. Operators of one level go
 // from left to right.
 pub fn chain(
-    leaves: &[u32; 32776],
+    leaves: &[u32; LEAF_WORDS],
     words: &[u32],
     sizes: &[u32],
-    place: &[u32],
+    point: &[u32],
     grid: &[i32],
-    vars: &[i32; 256],
-    index: &[i32; 16],
+    vars: &[i32; MOST_NAMES],
+    index: &[i32; MOST_OPEN],
     site: Site,
     depth: usize,
     at: usize,
     level: u32,
 ) -> Told
-    requires { ⌜ SiteReady (now leaves) (now words) (now sizes) (now place) (now grid) site depth × (1 ≤ level) × (at ≤ site .tokens) ⌝ }
+    requires { ⌜ SiteReady (now leaves) (now words) (now sizes) (now point) (now grid) site depth × (1 ≤ level) × (at ≤ site .tokens) ⌝ }
     ensures { λ r. ⌜ EvalsExpression (site-table (now (words .entry)) (now (sizes .entry)) site) (env-of (now (words .entry)) (now (sizes .entry)) (now (grid .entry)) site) (take (site .slots) (now (vars .entry))) (take depth (now (index .entry))) (site .tokens) at level r ⌝ }
 {
     let n = site.tokens;
@@ -214,7 +218,7 @@ pub fn chain(
         leaves,
         words,
         sizes,
-        place,
+        point,
         grid,
         vars,
         index,
@@ -237,7 +241,7 @@ pub fn chain(
             leaves,
             words,
             sizes,
-            place,
+            point,
             grid,
             vars,
             index,
@@ -260,18 +264,18 @@ pub fn chain(
 
 // The operand at a position: a primary with at most one unary operator.
 fn operand(
-    leaves: &[u32; 32776],
+    leaves: &[u32; LEAF_WORDS],
     words: &[u32],
     sizes: &[u32],
-    place: &[u32],
+    point: &[u32],
     grid: &[i32],
-    vars: &[i32; 256],
-    index: &[i32; 16],
+    vars: &[i32; MOST_NAMES],
+    index: &[i32; MOST_OPEN],
     site: Site,
     depth: usize,
     at: usize,
 ) -> Told
-    requires { ⌜ SiteReady (now leaves) (now words) (now sizes) (now place) (now grid) site depth × (at ≤ site .tokens) ⌝ }
+    requires { ⌜ SiteReady (now leaves) (now words) (now sizes) (now point) (now grid) site depth × (at ≤ site .tokens) ⌝ }
     ensures { λ r. ⌜ EvalsOperand (site-table (now (words .entry)) (now (sizes .entry)) site) (env-of (now (words .entry)) (now (sizes .entry)) (now (grid .entry)) site) (take (site .slots) (now (vars .entry))) (take depth (now (index .entry))) (site .tokens) at r ⌝ }
 {
     let n = site.tokens;
@@ -280,7 +284,7 @@ fn operand(
         leaves,
         words,
         sizes,
-        place,
+        point,
         grid,
         vars,
         index,
@@ -299,7 +303,7 @@ fn operand(
 
 // The position of the primary of an operand whose first token is of this kind.
 fn primary_from(kind: u32, at: usize) -> usize
-    requires { ⌜ at ≤ 4096 ⌝ }
+    requires { ⌜ at ≤ most-tokens ⌝ }
     ensures { λ r. ⌜ r ≡ primary-from kind at ⌝ }
 {
     if is_unary(kind) {
@@ -310,18 +314,18 @@ fn primary_from(kind: u32, at: usize) -> usize
 
 // The primary at a position.
 fn primary(
-    leaves: &[u32; 32776],
+    leaves: &[u32; LEAF_WORDS],
     words: &[u32],
     sizes: &[u32],
-    place: &[u32],
+    point: &[u32],
     grid: &[i32],
-    vars: &[i32; 256],
-    index: &[i32; 16],
+    vars: &[i32; MOST_NAMES],
+    index: &[i32; MOST_OPEN],
     site: Site,
     depth: usize,
     at: usize,
 ) -> Told
-    requires { ⌜ SiteReady (now leaves) (now words) (now sizes) (now place) (now grid) site depth × (at ≤ site .tokens) ⌝ }
+    requires { ⌜ SiteReady (now leaves) (now words) (now sizes) (now point) (now grid) site depth × (at ≤ site .tokens) ⌝ }
     ensures { λ r. ⌜ EvalsPrimary (site-table (now (words .entry)) (now (sizes .entry)) site) (env-of (now (words .entry)) (now (sizes .entry)) (now (grid .entry)) site) (take (site .slots) (now (vars .entry))) (take depth (now (index .entry))) (site .tokens) at r ⌝ }
 {
     let n = site.tokens;
@@ -331,7 +335,7 @@ fn primary(
             leaves,
             words,
             sizes,
-            place,
+            point,
             grid,
             vars,
             index,
@@ -348,7 +352,7 @@ fn primary(
                     leaves,
                     words,
                     sizes,
-                    place,
+                    point,
                     grid,
                     vars,
                     index,
@@ -368,7 +372,7 @@ fn primary(
             leaves,
             words,
             sizes,
-            place,
+            point,
             grid,
             vars,
             index,
@@ -382,7 +386,7 @@ fn primary(
         leaves,
         words,
         sizes,
-        place,
+        point,
         grid,
         vars,
         index,
@@ -395,26 +399,26 @@ fn primary(
 
 // The expression between the opening token at a position and a token of the closing kind.
 fn bracket(
-    leaves: &[u32; 32776],
+    leaves: &[u32; LEAF_WORDS],
     words: &[u32],
     sizes: &[u32],
-    place: &[u32],
+    point: &[u32],
     grid: &[i32],
-    vars: &[i32; 256],
-    index: &[i32; 16],
+    vars: &[i32; MOST_NAMES],
+    index: &[i32; MOST_OPEN],
     site: Site,
     depth: usize,
     at: usize,
     close: u32,
 ) -> Told
-    requires { ⌜ SiteReady (now leaves) (now words) (now sizes) (now place) (now grid) site depth × (at < site .tokens) × (1 ≤ close) ⌝ }
+    requires { ⌜ SiteReady (now leaves) (now words) (now sizes) (now point) (now grid) site depth × (at < site .tokens) × (1 ≤ close) ⌝ }
     ensures { λ r. ⌜ EvalsBracket (site-table (now (words .entry)) (now (sizes .entry)) site) (env-of (now (words .entry)) (now (sizes .entry)) (now (grid .entry)) site) (take (site .slots) (now (vars .entry))) (take depth (now (index .entry))) (site .tokens) at close r ⌝ }
 {
     let inner = expression(
         leaves,
         words,
         sizes,
-        place,
+        point,
         grid,
         vars,
         index,

@@ -7,22 +7,25 @@ use cell_operands::Told;
 use cell_operands::noted::simple_value;
 use cell_operands::operators::compare;
 use cell_operands::table::leaf_word;
+use value::limits::LEAF_WORDS;
+use value::limits::MOST_NAMES;
+use value::limits::MOST_OPEN;
 
 // The expression at a position, if it is an operand alone, or a relation or logic of two, and they are noted as numbers, variables or fields of the
 // own cell. Else a fault is returned, which says nothing.
 pub fn simple(
-    leaves: &[u32; 32776],
+    leaves: &[u32; LEAF_WORDS],
     words: &[u32],
     sizes: &[u32],
-    place: &[u32],
+    point: &[u32],
     grid: &[i32],
-    vars: &[i32; 256],
-    index: &[i32; 16],
+    vars: &[i32; MOST_NAMES],
+    index: &[i32; MOST_OPEN],
     site: Site,
     depth: usize,
     at: usize,
 ) -> Told
-    requires { ⌜ SiteReady (now leaves) (now words) (now sizes) (now place) (now grid) site depth × (at ≤ site .tokens) ⌝ }
+    requires { ⌜ SiteReady (now leaves) (now words) (now sizes) (now point) (now grid) site depth × (at ≤ site .tokens) ⌝ }
     ensures { λ r. ⌜ Quick (site-table (now (words .entry)) (now (sizes .entry)) site) (env-of (now (words .entry)) (now (sizes .entry)) (now (grid .entry)) site) (take (site .slots) (now (vars .entry))) (take depth (now (index .entry))) (site .tokens) at 1 r ⌝ }
 {
     let shape = leaf_word(leaves, at, 7);
@@ -36,7 +39,7 @@ pub fn simple(
         leaves,
         words,
         sizes,
-        place,
+        point,
         grid,
         vars,
         index,
@@ -53,7 +56,7 @@ pub fn simple(
         leaves,
         words,
         sizes,
-        place,
+        point,
         grid,
         vars,
         index,

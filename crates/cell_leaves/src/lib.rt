@@ -1,10 +1,12 @@
 // Filling the leaf table: for each position of the word table, what operand stands there by itself.
 ghost use Prim.Native.Nat.{_*_, _≤_};
 ghost use lib.ListN.{length};
+ghost use Rattle.value.specs.Limits.{most-tokens, most-dims};
 ghost use Rattle.automaton.specs.Contracts.ShapeLaws.{Positive};
 ghost use Rattle.cell_meaning.specs.Contracts.Leaves.{Leaves};
 use crate::shaping::write_shapes;
 use crate::writing::write_leaf;
+use value::limits::LEAF_WORDS;
 
 mod noting;
 mod shaping;
@@ -25,9 +27,9 @@ pub fn fill_leaves(
     n: usize,
     fields: usize,
     slots: usize,
-    leaves: &mut [u32; 32776],
+    leaves: &mut [u32; LEAF_WORDS],
 )
-    requires { ⌜ (4 * n ≤ length (now words)) × (n ≤ 4096) × (length (now sizes) ≤ 3) × Positive (now sizes) ⌝ }
+    requires { ⌜ (4 * n ≤ length (now words)) × (n ≤ most-tokens) × (length (now sizes) ≤ most-dims) × Positive (now sizes) ⌝ }
     ensures { λ r. ⌜ Leaves (now (leaves .exit)) (now (words .entry)) (now (sizes .entry)) n fields slots ⌝ }
 {
     let mut p: usize = 0;

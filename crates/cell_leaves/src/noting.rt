@@ -3,6 +3,7 @@ ghost use mathlib.Core.Path.{_≡_};
 ghost use mathlib.Core.List.{[]};
 ghost use Prim.Native.Nat.{_*_, _<_, _≤_};
 ghost use lib.ListN.{length};
+ghost use Rattle.value.specs.Limits.{most-tokens};
 ghost use Rattle.cell_meaning.specs.Links.{word-in, table-of};
 ghost use Rattle.cell_meaning.specs.Contracts.Leaves.{LeafAt};
 ghost use Rattle.cell_leaves.specs.Contracts.Filling.{words-of, FieldSort};
@@ -15,7 +16,7 @@ use token::kind::level_of;
 
 // A name: a constant's number, or a variable that has a slot.
 fn name_leaf(words: &[u32], n: usize, dims: usize, fields: usize, slots: usize, p: usize) -> Leaf
-    requires { ⌜ (4 * n ≤ length (now words)) × (n ≤ 4096) × (p < n) × (word-in (now words) n 0 p ≡ 1) ⌝ }
+    requires { ⌜ (4 * n ≤ length (now words)) × (n ≤ most-tokens) × (p < n) × (word-in (now words) n 0 p ≡ 1) ⌝ }
     ensures { λ r. ⌜ LeafAt (table-of (now (words .entry)) n dims) [] n fields slots (words-of r) p ⌝ }
 {
     let refers = word_at(words, n, 2, p);
@@ -57,7 +58,7 @@ fn field_leaf(
     p: usize,
     sort: u32,
 ) -> Leaf
-    requires { ⌜ (4 * n ≤ length (now words)) × (n ≤ 4096) × (p < n) × FieldSort (word-in (now words) n 0 p) sort ⌝ }
+    requires { ⌜ (4 * n ≤ length (now words)) × (n ≤ most-tokens) × (p < n) × FieldSort (word-in (now words) n 0 p) sort ⌝ }
     ensures { λ r. ⌜ LeafAt (table-of (now (words .entry)) n dims) [] n fields slots (words-of r) p ⌝ }
 {
     let word = word_at(words, n, 2, p);
@@ -80,7 +81,7 @@ fn field_leaf(
 
 // What stands at a position, without the offsets of a relative index, among which there may be index variables.
 pub fn leaf_at(words: &[u32], n: usize, dims: usize, fields: usize, slots: usize, p: usize) -> Leaf
-    requires { ⌜ (4 * n ≤ length (now words)) × (n ≤ 4096) ⌝ }
+    requires { ⌜ (4 * n ≤ length (now words)) × (n ≤ most-tokens) ⌝ }
     ensures { λ r. ⌜ LeafAt (table-of (now (words .entry)) n dims) [] n fields slots (words-of r) p ⌝ }
 {
     let kind = word_at(words, n, 0, p);

@@ -1,12 +1,14 @@
 // Writing the shapes: which expressions are of one or two operands.
 ghost use Prim.Native.Nat.{_+_, _*_, _≤_};
 ghost use lib.ListN.{length};
+ghost use Rattle.value.specs.Limits.{most-tokens};
 ghost use Rattle.cell_leaves.specs.Contracts.Shaping.{Linked, After, Shape, LeafWritten, LeafShaped};
 use cell_operands::table::leaf_word;
+use value::limits::LEAF_WORDS;
 
 // The level of the operator after the simple operand at a position; 5, where there is no such operand.
-fn level_after(leaves: &[u32; 32776], n: usize, p: usize) -> u32
-    requires { ⌜ (n ≤ 4096) × Linked n (now leaves) × (p ≤ n) ⌝ }
+fn level_after(leaves: &[u32; LEAF_WORDS], n: usize, p: usize) -> u32
+    requires { ⌜ (n ≤ most-tokens) × Linked n (now leaves) × (p ≤ n) ⌝ }
     ensures { λ r. ⌜ After (now (leaves .entry)) p r ⌝ }
 {
     let sort = leaf_word(leaves, p, 0);
@@ -20,8 +22,8 @@ fn level_after(leaves: &[u32; 32776], n: usize, p: usize) -> u32
 }
 
 // The shape of the expression at a position: 1 for one simple operand, 2 for two with a relation or logic between them, 0 for any other.
-fn shape_at(leaves: &[u32; 32776], n: usize, p: usize) -> u32
-    requires { ⌜ (n ≤ 4096) × Linked n (now leaves) × (p ≤ n) ⌝ }
+fn shape_at(leaves: &[u32; LEAF_WORDS], n: usize, p: usize) -> u32
+    requires { ⌜ (n ≤ most-tokens) × Linked n (now leaves) × (p ≤ n) ⌝ }
     ensures { λ r. ⌜ Shape (now (leaves .entry)) p r ⌝ }
 {
     let level = level_after(leaves, n, p);
@@ -47,8 +49,8 @@ fn write_shape(leaves: &mut [u32], p: usize, shape: u32)
 }
 
 // Writes word 7 of each position, the shape of the expression there.
-pub fn write_shapes(leaves: &mut [u32; 32776], n: usize)
-    requires { ⌜ (n ≤ 4096) × Linked n (now leaves) ⌝ }
+pub fn write_shapes(leaves: &mut [u32; LEAF_WORDS], n: usize)
+    requires { ⌜ (n ≤ most-tokens) × Linked n (now leaves) ⌝ }
     ensures { λ r. ⌜ LeafShaped (n + 1) (now (leaves .entry)) (now (leaves .exit)) ⌝ }
 {
     let mut p: usize = 0;

@@ -4,6 +4,7 @@ ghost use mathlib.Core.Bool.{_&&_};
 ghost use Prim.Native.Nat.{_+_, _*_, _≤_};
 ghost use lib.Dec.{eqb};
 ghost use lib.ListN.{length};
+ghost use Rattle.value.specs.Limits.{most-tokens, most-dims};
 ghost use Rattle.automaton.specs.Contracts.ShapeLaws.{Positive};
 ghost use Rattle.token.specs.Kind.{kind};
 ghost use Rattle.cell_meaning.specs.Contracts.Stands.{refers};
@@ -18,10 +19,11 @@ use cell_operands::sort;
 use cell_operands::table::word_at;
 use token::kind;
 use value::Value;
+use value::tables::put_four;
 
 // Whether the element of a relative index at a position is an index variable.
 fn is_moving(words: &[u32], n: usize, at: usize) -> bool
-    requires { ⌜ (4 * n ≤ length (now words)) × (n ≤ 4096) ⌝ }
+    requires { ⌜ (4 * n ≤ length (now words)) × (n ≤ most-tokens) ⌝ }
     ensures { λ r. ⌜ r ≡ (eqb (word-in (now (words .entry)) n 0 at) (kind .name) && eqb (word-in (now (words .entry)) n 2 at) (refers .index)) ⌝ }
 {
     if word_at(words, n, 0, at) == kind::NAME {
@@ -32,7 +34,7 @@ fn is_moving(words: &[u32], n: usize, at: usize) -> bool
 
 // Writes words 4 and on of a position, the offsets of the relative index there; false, where one of them is an index variable.
 fn write_offsets(words: &[u32], n: usize, sizes: &[u32], leaves: &mut [u32], p: usize) -> bool
-    requires { ⌜ (4 * n ≤ length (now words)) × (n ≤ 4096) × (length (now sizes) ≤ 3) × Positive (now sizes) × (p ≤ n) × (8 * p + 8 ≤ length (now leaves)) ⌝ }
+    requires { ⌜ (4 * n ≤ length (now words)) × (n ≤ most-tokens) × (length (now sizes) ≤ most-dims) × Positive (now sizes) × (p ≤ n) × (8 * p + 8 ≤ length (now leaves)) ⌝ }
     ensures { λ r. ⌜ LeavesKept (8 * p + 4) (8 * p + 8) (now (leaves .entry)) (now (leaves .exit)) × Offsets (table-of (now (words .entry)) n (length (now (sizes .entry)))) (now (sizes .entry)) (leaf-word (now (leaves .exit)) p) p r ⌝ }
 {
     let dims = sizes.len();
@@ -55,10 +57,7 @@ fn write_words(leaves: &mut [u32], p: usize, leaf: Leaf)
     requires { ⌜ 8 * p + 8 ≤ length (now leaves) ⌝ }
     ensures { λ r. ⌜ LeavesNoted leaf p (now (leaves .entry)) (now (leaves .exit)) ⌝ }
 {
-    leaves[8 * p] = leaf.sort;
-    leaves[8 * p + 1] = leaf.word;
-    leaves[8 * p + 2] = leaf.next;
-    leaves[8 * p + 3] = leaf.level;
+    put_four(leaves, 8 * p, leaf.sort, leaf.word, leaf.next, leaf.level);
 }
 
 // Writes the words of a position.
@@ -71,7 +70,7 @@ pub fn write_leaf(
     leaves: &mut [u32],
     p: usize,
 )
-    requires { ⌜ (4 * n ≤ length (now words)) × (n ≤ 4096) × (length (now sizes) ≤ 3) × Positive (now sizes) × (p ≤ n) × (8 * p + 8 ≤ length (now leaves)) ⌝ }
+    requires { ⌜ (4 * n ≤ length (now words)) × (n ≤ most-tokens) × (length (now sizes) ≤ most-dims) × Positive (now sizes) × (p ≤ n) × (8 * p + 8 ≤ length (now leaves)) ⌝ }
     ensures { λ r. ⌜ LeavesKept (8 * p) (8 * p + 8) (now (leaves .entry)) (now (leaves .exit)) × LeafAt (table-of (now (words .entry)) n (length (now (sizes .entry)))) (now (sizes .entry)) n fields slots (leaf-word (now (leaves .exit)) p) p ⌝ }
 {
     let leaf = leaf_at(words, n, sizes.len(), fields, slots, p);

@@ -7,18 +7,14 @@ use Rattle.value.specs.declared.Value.{Value}
 use Rattle.value.specs.declared.Worked.{Worked}
 use Rattle.value.specs.declared.Worked.the-variants.{Number, OutOfRange, ZeroDivisor}
 use Rattle.value.specs.Worked.{value, add-of, subtract-of, multiply-of, negate-of, divide-of, remainder-of, equal-of, not-equal-of, less-of, at-most-of, greater-of, at-least-of, and-of, or-of, not-of}
+use Rattle.automaton.specs.Step.{Outcome, result, fault}
 use Rattle.token.specs.Kind.{relation, operation}
 
--- a value; or a fault's number and place
-pub data Worth : Type 0 where
-  worth : ℤ → Worth
-  failed : (number place : ℕ) → Worth
-
 -- what an operation of the value type gives, with the operator's place: 30 the result is out of range, 31 the divisor is zero
-abbrev pub placed : ℕ → Worked → Worth
-placed place (Number v) = worth (v .n)
-placed place OutOfRange = failed 30 place
-placed place ZeroDivisor = failed 31 place
+abbrev pub placed : ℕ → Worked → Outcome ℤ
+placed place (Number v) = result (v .n)
+placed place OutOfRange = fault 30 place
+placed place ZeroDivisor = fault 31 place
 
 -- a unary operator: `-`, `!`, else `+`
 unfoldable pub apply-unary : ℕ → ℤ → Worked

@@ -8,6 +8,7 @@ use mathlib.Core.List.{List, [], _∷_}
 use lib.ListN.{length, getD, drop, take}
 use lib.Seq.{drop-cons}
 use lib.IntN.{ℤ}
+use Rattle.automaton.specs.Step.{result}
 use Rattle.token.specs.Kind.{level-of}
 use Rattle.value.specs.Choice.{if_then_else_}
 use Rattle.value.specs.Worked.{value, decode-of, wrap-of}
@@ -18,7 +19,6 @@ use Rattle.automaton.specs.Shape.{product, cell-number, shift, neighbour}
 use Rattle.automaton.specs.Contracts.ShapeLaws.{inside-at, Inside, wrap-mod}
 use Rattle.automaton.specs.Grid.{cell-of}
 use Rattle.program.specs.Syntax.{Expr, number, variable, field}
-use Rattle.cell_meaning.specs.Operators.{worth}
 use Rattle.cell_meaning.specs.Evaluation.{Env, entry, offset, offsets, eval}
 use Rattle.cell_meaning.specs.Contracts.Stands.{index-in, next-index, indices-in, is-sign-kind, is-unary, parsed, decode-operand, decode-primary}
 use Rattle.cell_meaning.specs.Links.{Table, word-in}
@@ -105,7 +105,7 @@ module _ (t : Table) (env : Env) (vars vs : List ℤ) (n at : ℕ) where
   bare-operand b fuel = simp b
 
   -- an operand without a unary operator, of which the expression is known
-  operand-leaf : (e₀ : Expr) (past : ℕ) {v : Value} → is-unary (t .kind at) ≡ false → (at < past) × (past ≤ n) → eval env vars vs e₀ ≡ worth (v .n) → OperandIs t at e₀ past
+  operand-leaf : (e₀ : Expr) (past : ℕ) {v : Value} → is-unary (t .kind at) ≡ false → (at < past) × (past ≤ n) → eval env vars vs e₀ ≡ result (v .n) → OperandIs t at e₀ past
       → Leaf t env vars vs n at (Found v past)
   operand-leaf e₀ past {v} b l y is = record {
     found = λ w next h. record { says = told; onward = l };
@@ -137,9 +137,9 @@ module _ (t : Table) (env : Env) (vars vs : List ℤ) (n at : ℕ) where
 
 -- ---- what the leaf table says of a position
 
-module _ {leaves words sizes place : List ℕ} {grid : List ℤ} {site : Site} {depth : ℕ} (r : SiteReady leaves words sizes place grid site depth) where
+module _ {leaves words sizes point : List ℕ} {grid : List ℤ} {site : Site} {depth : ℕ} (r : SiteReady leaves words sizes point grid site depth) where
   pub own-room : site .cell * site .fields + site .fields ≤ length grid
-  own-room = cell-room (site .cell) (product sizes) (site .fields) (length grid) (r .cell) (r .entries)
+  own-room = cell-room (site .cell) (product sizes) (site .fields) (length grid) (r .cell) (r .shaped .entries)
 
   -- the level of the operator at a position
   module _ (at : ℕ) (l : at ≤ site .tokens) {k : ℕ} (ek : k ≡ leaf-word leaves at 3) where
@@ -158,7 +158,7 @@ module _ {leaves words sizes place : List ℕ} {grid : List ℤ} {site : Site} {
     abbrev Is : Value → Type 0
     Is v = Leaf (site-table words sizes site) (env-of words sizes grid site) (take (site .slots) vars) (take depth index) (site .tokens) at (Found v (leaf-word leaves at 2))
 
-    noted-leaf : {v : Value} → (leaf-word leaves at 0 ≡ 0 → ⊥) → (e : Expr) → eval (env-of words sizes grid site) (take (site .slots) vars) (take depth index) e ≡ worth (v .n)
+    noted-leaf : {v : Value} → (leaf-word leaves at 0 ≡ 0 → ⊥) → (e : Expr) → eval (env-of words sizes grid site) (take (site .slots) vars) (take depth index) e ≡ result (v .n)
         → OperandIs (site-table words sizes site) at e (leaf-word leaves at 2) → Is v
     noted-leaf some e y is =
         operand-leaf (site-table words sizes site) (env-of words sizes grid site) (take (site .slots) vars) (take depth index) (site .tokens) at e (leaf-word leaves at 2)
@@ -179,36 +179,36 @@ module _ {leaves words sizes place : List ℕ} {grid : List ℤ} {site : Site} {
         unfolding eval
         number-leaf h ev =
             noted-leaf (λ z. omega arith) (number (decode-of (leaf-word leaves at 1)))
-            (ap (λ (i : ℕ). worth (decode-of i)) (sym ea) ∙ ap (λ (y : Value). worth (y .n)) (sym ev)) (r .noted .at at l .number (sym es ∙ h))
+            (ap (λ (i : ℕ). result (decode-of i)) (sym ea) ∙ ap (λ (y : Value). result (y .n)) (sym ev)) (r .noted .at at l .number (sym es ∙ h))
 
         pub variable-leaf : s ≡ 2 → v ≡ value (entry vars a) → Is v
         unfolding eval
         variable-leaf h ev =
             noted-leaf (λ z. omega arith) (variable (leaf-word leaves at 1))
-            (ap (λ (i : ℕ). worth (entry (take (site .slots) vars) i)) (sym ea) ∙ ap worth (front-entry vars (site .slots) a (slot-small h)) ∙ ap (λ (y : Value). worth (y .n)) (sym ev))
+            (ap (λ (i : ℕ). result (entry (take (site .slots) vars) i)) (sym ea) ∙ ap result (front-entry vars (site .slots) a (slot-small h)) ∙ ap (λ (y : Value). result (y .n)) (sym ev))
             (r .noted .at at l .variable (sym es ∙ h) .1)
 
         pub own-leaf : s ≡ 3 → v ≡ value (entry (cell-of (site .fields) grid (site .cell)) a) → Is v
         unfolding eval
         own-leaf h ev =
             noted-leaf (λ z. omega arith) (field [] (leaf-word leaves at 1))
-            (ap (λ (i : ℕ). worth (entry (cell-of (site .fields) grid i) (leaf-word leaves at 1))) (own-is r (take depth index))
-            ∙ ap (λ (i : ℕ). worth (entry (cell-of (site .fields) grid (site .cell)) i)) (sym ea) ∙ ap (λ (y : Value). worth (y .n)) (sym ev))
+            (ap (λ (i : ℕ). result (entry (cell-of (site .fields) grid i) (leaf-word leaves at 1))) (own-is r (take depth index))
+            ∙ ap (λ (i : ℕ). result (entry (cell-of (site .fields) grid (site .cell)) i)) (sym ea) ∙ ap (λ (y : Value). result (y .n)) (sym ev))
             (r .noted .at at l .own (sym es ∙ h) .1)
 
       -- the cell at the offsets that are noted
-      module _ {c : ℕ} (ec : c ≡ cell-number sizes (shift sizes place (offsets (length sizes) (take depth index) (indices-in (site-table words sizes site) (length sizes) (at + 1))))) where
+      module _ {c : ℕ} (ec : c ≡ cell-number sizes (shift sizes point (offsets (length sizes) (take depth index) (indices-in (site-table words sizes site) (length sizes) (at + 1))))) where
         pub near-room : c * site .fields + site .fields ≤ length grid
         near-room =
             cell-room c (product sizes) (site .fields) (length grid)
-            (rw ec (total-small (site-table words sizes site) (take depth index) sizes place (ready-inside r) (at + 1))) (r .entries)
+            (rw ec (total-small (site-table words sizes site) (take depth index) sizes point (ready-inside r) (at + 1))) (r .shaped .entries)
 
         pub near-leaf : {v : Value} → s ≡ 4 → v ≡ value (entry (cell-of (site .fields) grid c) a) → Is v
         unfolding eval
         near-leaf {v} h ev =
             let ds = offsets (length sizes) (take depth index) (indices-in (site-table words sizes site) (length sizes) (at + 1)) in
             noted-leaf (λ z. omega arith) (field (indices-in (site-table words sizes site) (length sizes) (at + 1)) (leaf-word leaves at 1))
-            (ap (λ (i : ℕ). worth (entry (cell-of (site .fields) grid (neighbour sizes (site .cell) ds)) i)) (sym ea) ∙ ap (λ (y : Value). worth (y .n)) (sym (neighbour-is r ds c a ec ev)))
+            (ap (λ (i : ℕ). result (entry (cell-of (site .fields) grid (neighbour sizes (site .cell) ds)) i)) (sym ea) ∙ ap (λ (y : Value). result (y .n)) (sym (neighbour-is r ds c a ec ev)))
             (r .noted .at at l .near (sym es ∙ h) .1)
 
     pub near-offsets : leaf-word leaves at 0 ≡ 4 → OffsetsAre (site-table words sizes site) (take depth index) (leaf-word leaves at) sizes (at + 1) 4

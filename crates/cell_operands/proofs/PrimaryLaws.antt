@@ -11,11 +11,11 @@ use lib.Signed.{mag}
 use borrow.Author.Tests.{ne-eqb, lt-ltb, le-ltb}
 use Rattle.value.specs.Worked.{value, encode-of, decode-of}
 use Rattle.value.specs.declared.Value.{Value}
+use Rattle.automaton.specs.Step.{Outcome, result, fault}
 use Rattle.automaton.specs.Shape.{cell-number, shift, neighbour}
 use Rattle.automaton.specs.Contracts.ShapeLaws.{Inside, coordinates-inside, zeros, neighbour-zeros}
 use Rattle.automaton.specs.Grid.{cell-of}
 use Rattle.program.specs.Syntax.{Expr, number, time, variable, index, field}
-use Rattle.cell_meaning.specs.Operators.{Worth, worth}
 use Rattle.cell_meaning.specs.Evaluation.{Env, entry, offsets, element-at, eval}
 use Rattle.cell_meaning.specs.Contracts.Stands.{indices-in, values-in, array-in, parsed, decode-primary, decode-name}
 use Rattle.cell_meaning.specs.Links.{Table}
@@ -27,11 +27,11 @@ use Rattle.cell_operands.proofs.DecodingLaws.{never}
 
 -- ---- numbers
 
-pub ready-inside : {leaves words sizes place : List ℕ} {grid : List ℤ} {site : Site} {depth : ℕ} → SiteReady leaves words sizes place grid site depth → Inside sizes place
-ready-inside {sizes = sizes} {site = site} r = rw (r .own) (coordinates-inside sizes (site .cell) (r .positive) (r .cell))
+pub ready-inside : {leaves words sizes point : List ℕ} {grid : List ℤ} {site : Site} {depth : ℕ} → SiteReady leaves words sizes point grid site depth → Inside sizes point
+ready-inside {sizes = sizes} {site = site} r = rw (r .own) (coordinates-inside sizes (site .cell) (r .shaped .positive) (r .cell))
 
-pub neighbour-is : {leaves words sizes place : List ℕ} {grid : List ℤ} {site : Site} {depth : ℕ} → SiteReady leaves words sizes place grid site depth
-    → (ds : List ℤ) (c w : ℕ) {v : Value} → c ≡ cell-number sizes (shift sizes place ds) → v ≡ value (entry (cell-of (site .fields) grid c) w)
+pub neighbour-is : {leaves words sizes point : List ℕ} {grid : List ℤ} {site : Site} {depth : ℕ} → SiteReady leaves words sizes point grid site depth
+    → (ds : List ℤ) (c w : ℕ) {v : Value} → c ≡ cell-number sizes (shift sizes point ds) → v ≡ value (entry (cell-of (site .fields) grid c) w)
     → v ≡ value (entry (cell-of (site .fields) grid (neighbour sizes (site .cell) ds)) w)
 unfolding neighbour
 neighbour-is {sizes = sizes} {grid = grid} {site = site} r ds c w e q =
@@ -43,9 +43,9 @@ unfolding offsets
 offsets-zeros [] vs = refl
 offsets-zeros (n ∷ ns) vs = ap (λ (l : List ℤ). pos 0 ∷ l) (offsets-zeros ns vs)
 
-pub own-is : {leaves words sizes place : List ℕ} {grid : List ℤ} {site : Site} {depth : ℕ} → SiteReady leaves words sizes place grid site depth → (vs : List ℤ)
+pub own-is : {leaves words sizes point : List ℕ} {grid : List ℤ} {site : Site} {depth : ℕ} → SiteReady leaves words sizes point grid site depth → (vs : List ℤ)
     → neighbour sizes (site .cell) (offsets (length sizes) vs []) ≡ site .cell
-own-is {sizes = sizes} {site = site} r vs = ap (neighbour sizes (site .cell)) (offsets-zeros sizes vs) ∙ neighbour-zeros sizes (site .cell) (r .positive) (r .cell)
+own-is {sizes = sizes} {site = site} r vs = ap (neighbour sizes (site .cell)) (offsets-zeros sizes vs) ∙ neighbour-zeros sizes (site .cell) (r .shaped .positive) (r .cell)
 
 -- ---- elements of an array constant
 
@@ -89,13 +89,22 @@ module _ (t : Table) (place name : ℕ) (z : ℤ) (k next : ℕ) (ek : k ≡ enc
 -- ---- answers
 
 -- a value is the answer
-pub as-value : (env : Env) (vars vs : List ℤ) (e : Expr) (at next : ℕ) {v : Value} → eval env vars vs e ≡ worth (v .n) → next ≡ at → Found v at ≡ told-of (eval env vars vs e) next
-as-value env vars vs e at next {v} x h = ap (Found v) (sym h) ∙ sym (ap (λ (o : Worth). told-of o next) x)
+pub as-value : (env : Env) (vars vs : List ℤ) (e : Expr) (at next : ℕ) {v : Value} → eval env vars vs e ≡ result (v .n) → next ≡ at → Found v at ≡ told-of (eval env vars vs e) next
+as-value env vars vs e at next {v} x h = ap (Found v) (sym h) ∙ sym (ap (λ (o : Outcome ℤ). told-of o next) x)
+
+-- what is evaluated, by its answer
+pub result-of : (o : Outcome ℤ) (next : ℕ) {v : Value} {at : ℕ} → Found v at ≡ told-of o next → (o ≡ result (v .n)) × (next ≡ at)
+result-of (result z) next {v} q = let e : value z ≡ v = cc in (ap (λ (x : Value). result (x .n)) e, cc)
+result-of (fault k p) next q = let z : _≡_ {A = ℕ} 0 1 = cc in absurd (omega arith)
+
+pub fault-of : (o : Outcome ℤ) (next : ℕ) {k p : ℕ} → Failed k p ≡ told-of o next → o ≡ fault k p
+fault-of (result z) next q = let z : _≡_ {A = ℕ} 0 1 = cc in absurd (omega arith)
+fault-of (fault k p) next q = cc
 
 -- ---- names
 
 module _ (t : Table) (env : Env) (vars vs : List ℤ) (n at : ℕ) (w x : ℕ) (ew : w ≡ t .word2 at) (ex : x ≡ t .word3 at) where
-  named : (e₀ : Expr) {v : Value} → at < n → eval env vars vs e₀ ≡ worth (v .n)
+  named : (e₀ : Expr) {v : Value} → at < n → eval env vars vs e₀ ≡ result (v .n)
       → ((fuel : ℕ) (e : Expr) (next : ℕ) → decode-name fuel t at ≡ parsed e next → parsed e₀ (at + 1) ≡ parsed e next) → EvalsName t env vars vs n at (Found v (at + 1))
   named e₀ {v} l y was = record {
     says = λ a fuel e next q.
@@ -108,7 +117,7 @@ module _ (t : Table) (env : Env) (vars vs : List ℤ) (n at : ℕ) (w x : ℕ) (
 
   pub name-variable : {v : Value} → at < n → w ≡ 4 → v ≡ value (entry vars x) → EvalsName t env vars vs n at (Found v (at + 1))
   unfolding eval decode-name
-  name-variable {v} l k ev = named (variable (t .word3 at)) l (ap (λ (i : ℕ). worth (entry vars i)) (sym ex) ∙ ap (λ (y : Value). worth (y .n)) (sym ev)) was
+  name-variable {v} l k ev = named (variable (t .word3 at)) l (ap (λ (i : ℕ). result (entry vars i)) (sym ex) ∙ ap (λ (y : Value). result (y .n)) (sym ev)) was
     where
       was : (fuel : ℕ) (e : Expr) (next : ℕ) → decode-name fuel t at ≡ parsed e next → parsed (variable (t .word3 at)) (at + 1) ≡ parsed e next
       was zero e next q = never q
@@ -116,7 +125,7 @@ module _ (t : Table) (env : Env) (vars vs : List ℤ) (n at : ℕ) (w x : ℕ) (
 
   pub name-constant : {v : Value} → at < n → w ≡ 1 → v ≡ value (decode-of x) → EvalsName t env vars vs n at (Found v (at + 1))
   unfolding eval decode-name
-  name-constant {v} l k ev = named (number (decode-of (t .word3 at))) l (ap (λ (i : ℕ). worth (decode-of i)) (sym ex) ∙ ap (λ (y : Value). worth (y .n)) (sym ev)) was
+  name-constant {v} l k ev = named (number (decode-of (t .word3 at))) l (ap (λ (i : ℕ). result (decode-of i)) (sym ex) ∙ ap (λ (y : Value). result (y .n)) (sym ev)) was
     where
       was : (fuel : ℕ) (e : Expr) (next : ℕ) → decode-name fuel t at ≡ parsed e next → parsed (number (decode-of (t .word3 at))) (at + 1) ≡ parsed e next
       was zero e next q = never q
@@ -124,7 +133,7 @@ module _ (t : Table) (env : Env) (vars vs : List ℤ) (n at : ℕ) (w x : ℕ) (
 
   pub name-index : {v : Value} → at < n → w ≡ 5 → v ≡ value (entry vs x) → EvalsName t env vars vs n at (Found v (at + 1))
   unfolding eval decode-name
-  name-index {v} l k ev = named (index (t .word3 at)) l (ap (λ (i : ℕ). worth (entry vs i)) (sym ex) ∙ ap (λ (y : Value). worth (y .n)) (sym ev)) was
+  name-index {v} l k ev = named (index (t .word3 at)) l (ap (λ (i : ℕ). result (entry vs i)) (sym ex) ∙ ap (λ (y : Value). result (y .n)) (sym ev)) was
     where
       was : (fuel : ℕ) (e : Expr) (next : ℕ) → decode-name fuel t at ≡ parsed e next → parsed (index (t .word3 at)) (at + 1) ≡ parsed e next
       was zero e next q = never q
@@ -142,7 +151,7 @@ module _ (t : Table) (env : Env) (vars vs : List ℤ) (n at : ℕ) (w x : ℕ) (
 -- ---- literals, fields and the time
 
 module _ (t : Table) (env : Env) (vars vs : List ℤ) (n at : ℕ) (k : ℕ) (ek : k ≡ t .kind at) where
-  found : (e₀ : Expr) (past : ℕ) {v : Value} → at < past → past ≤ n → eval env vars vs e₀ ≡ worth (v .n)
+  found : (e₀ : Expr) (past : ℕ) {v : Value} → at < past → past ≤ n → eval env vars vs e₀ ≡ result (v .n)
       → ((fuel : ℕ) (e : Expr) (next : ℕ) → decode-primary fuel t at ≡ parsed e next → parsed e₀ past ≡ parsed e next) → EvalsPlain t env vars vs n at (Found v past)
   found e₀ past {v} l m y was = record {
     says = λ a b fuel e next q.
@@ -156,7 +165,7 @@ module _ (t : Table) (env : Env) (vars vs : List ℤ) (n at : ℕ) (k : ℕ) (ek
   pub plain-literal : {w : ℕ} {v : Value} → at < n → k ≡ 2 → w ≡ t .word2 at → v ≡ value (decode-of w) → EvalsPlain t env vars vs n at (Found v (at + 1))
   unfolding eval decode-primary
   plain-literal {w} {v} l h ew ev =
-      found (number (decode-of (t .word2 at))) (at + 1) (omega arith) (omega arith) (ap (λ (i : ℕ). worth (decode-of i)) (sym ew) ∙ ap (λ (y : Value). worth (y .n)) (sym ev)) was
+      found (number (decode-of (t .word2 at))) (at + 1) (omega arith) (omega arith) (ap (λ (i : ℕ). result (decode-of i)) (sym ew) ∙ ap (λ (y : Value). result (y .n)) (sym ev)) was
     where
       was : (fuel : ℕ) (e : Expr) (next : ℕ) → decode-primary fuel t at ≡ parsed e next → parsed (number (decode-of (t .word2 at))) (at + 1) ≡ parsed e next
       was zero e next q = never q
@@ -166,7 +175,7 @@ module _ (t : Table) (env : Env) (vars vs : List ℤ) (n at : ℕ) (k : ℕ) (ek
   unfolding eval decode-primary
   plain-time {v} l h small ev =
       let d : decode-of (env .time) ≡ pos (env .time) = simp (lt-ltb (env .time) 2147483648 small) in
-      found time (at + 1) (omega arith) (omega arith) (ap worth (sym d) ∙ ap (λ (y : Value). worth (y .n)) (sym ev)) was
+      found time (at + 1) (omega arith) (omega arith) (ap result (sym d) ∙ ap (λ (y : Value). result (y .n)) (sym ev)) was
     where
       was : (fuel : ℕ) (e : Expr) (next : ℕ) → decode-primary fuel t at ≡ parsed e next → parsed time (at + 1) ≡ parsed e next
       was zero e next q = never q
@@ -175,7 +184,7 @@ module _ (t : Table) (env : Env) (vars vs : List ℤ) (n at : ℕ) (k : ℕ) (ek
   module _ {past : ℕ} {v : Value} (l : at < past) (m : past ≤ n) (ep : past ≡ t .past at) where
     pub plain-neighbour : k ≡ 91 → v ≡ value (entry (env .look (offsets (env .dims) vs (indices-in t (t .dims) (at + 1)))) (t .word2 at)) → EvalsPlain t env vars vs n at (Found v past)
     unfolding eval decode-primary
-    plain-neighbour h ev = found (field (indices-in t (t .dims) (at + 1)) (t .word2 at)) past l m (ap (λ (y : Value). worth (y .n)) (sym ev)) was
+    plain-neighbour h ev = found (field (indices-in t (t .dims) (at + 1)) (t .word2 at)) past l m (ap (λ (y : Value). result (y .n)) (sym ev)) was
       where
         was : (fuel : ℕ) (e : Expr) (next : ℕ) → decode-primary fuel t at ≡ parsed e next → parsed (field (indices-in t (t .dims) (at + 1)) (t .word2 at)) past ≡ parsed e next
         was zero e next q = never q
@@ -185,7 +194,7 @@ module _ (t : Table) (env : Env) (vars vs : List ℤ) (n at : ℕ) (k : ℕ) (ek
     unfolding eval decode-primary
     plain-cell {w} h ew ev =
         found (field [] (t .word2 at)) past l m
-        (ap (λ (i : ℕ). worth (entry (env .look (offsets (env .dims) vs [])) i)) (sym ew) ∙ ap (λ (y : Value). worth (y .n)) (sym ev)) was
+        (ap (λ (i : ℕ). result (entry (env .look (offsets (env .dims) vs [])) i)) (sym ew) ∙ ap (λ (y : Value). result (y .n)) (sym ev)) was
       where
         was : (fuel : ℕ) (e : Expr) (next : ℕ) → decode-primary fuel t at ≡ parsed e next → parsed (field [] (t .word2 at)) past ≡ parsed e next
         was zero e next q = never q

@@ -2,6 +2,8 @@
 ghost use mathlib.Core.Path.{_≡_};
 ghost use Prim.Native.Nat.{_+_, _*_, _<_, _≤_, _%_};
 ghost use lib.ListN.{length, take};
+ghost use Rattle.value.specs.Limits.{most-tokens, most-open, most-dims};
+ghost use Rattle.value.specs.Contracts.Buffers.{most-room};
 ghost use Rattle.value.specs.Worked.{value, wrap-of};
 ghost use Rattle.automaton.specs.Shape.{product, cell-number, shift};
 ghost use Rattle.automaton.specs.Contracts.ShapeLaws.{Inside};
@@ -15,6 +17,8 @@ use crate::operators::is_sign;
 use crate::table::word_at;
 use token::kind;
 use value::Value;
+use value::limits::LEAF_WORDS;
+use value::limits::MOST_OPEN;
 
 // a modulo m. Mostly a is below m, or below twice m, and nothing is divided.
 fn reduced(a: u64, m: u64) -> u64
@@ -49,8 +53,8 @@ pub fn wrapped(own: u32, index: Value, size: u32) -> u32
 }
 
 // The value of the index variable of an open loop, of which there are `depth`, outermost first; 0 if there is none.
-pub fn index_value(index: &[i32; 16], depth: usize, which: usize) -> Value
-    requires { ⌜ depth ≤ 16 ⌝ }
+pub fn index_value(index: &[i32; MOST_OPEN], depth: usize, which: usize) -> Value
+    requires { ⌜ depth ≤ most-open ⌝ }
     ensures { λ r. ⌜ r ≡ value (entry (take depth (now (index .entry))) which) ⌝ }
 {
     if which < depth {
@@ -64,11 +68,11 @@ fn element_value(
     words: &[u32],
     n: usize,
     dims: usize,
-    index: &[i32; 16],
+    index: &[i32; MOST_OPEN],
     depth: usize,
     at: usize,
 ) -> Value
-    requires { ⌜ (4 * n ≤ length (now words)) × (n ≤ 4096) × (depth ≤ 16) ⌝ }
+    requires { ⌜ (4 * n ≤ length (now words)) × (n ≤ most-tokens) × (depth ≤ most-open) ⌝ }
     ensures { λ r. ⌜ r ≡ value (offset (take depth (now (index .entry))) (index-in (table-of (now (words .entry)) n dims) at)) ⌝ }
 {
     let word = word_at(words, n, 3, at);
@@ -83,7 +87,7 @@ fn element_value(
 
 // The position of the element after the one at a position.
 pub fn element_after(words: &[u32], n: usize, dims: usize, at: usize) -> usize
-    requires { ⌜ (4 * n ≤ length (now words)) × (n ≤ 4096) × (at ≤ 8192) ⌝ }
+    requires { ⌜ (4 * n ≤ length (now words)) × (n ≤ most-tokens) × (at ≤ 8192) ⌝ }
     ensures { λ r. ⌜ (r ≡ next-index (table-of (now (words .entry)) n dims) at) × (r ≤ at + 3) ⌝ }
 {
     if is_sign(word_at(words, n, 0, at)) {
@@ -97,13 +101,13 @@ fn neighbour_number(
     words: &[u32],
     n: usize,
     sizes: &[u32],
-    place: &[u32],
-    index: &[i32; 16],
+    point: &[u32],
+    index: &[i32; MOST_OPEN],
     depth: usize,
     at: usize,
 ) -> usize
-    requires { ⌜ (4 * n ≤ length (now words)) × (n ≤ 4096) × (depth ≤ 16) × (at ≤ 4097) × (length (now sizes) ≤ 3) × (product (now sizes) ≤ 4194304) × Inside (now sizes) (now place) ⌝ }
-    ensures { λ r. ⌜ r ≡ cell-number (now (sizes .entry)) (shift (now (sizes .entry)) (now (place .entry)) (offsets (length (now (sizes .entry))) (take depth (now (index .entry))) (indices-in (table-of (now (words .entry)) n (length (now (sizes .entry)))) (length (now (sizes .entry))) at))) ⌝ }
+    requires { ⌜ (4 * n ≤ length (now words)) × (n ≤ most-tokens) × (depth ≤ most-open) × (at ≤ 4097) × (length (now sizes) ≤ most-dims) × (product (now sizes) ≤ most-room) × Inside (now sizes) (now point) ⌝ }
+    ensures { λ r. ⌜ r ≡ cell-number (now (sizes .entry)) (shift (now (sizes .entry)) (now (point .entry)) (offsets (length (now (sizes .entry))) (take depth (now (index .entry))) (indices-in (table-of (now (words .entry)) n (length (now (sizes .entry)))) (length (now (sizes .entry))) at))) ⌝ }
 {
     let dims = sizes.len();
     let mut number: usize = 0;
@@ -111,7 +115,7 @@ fn neighbour_number(
     let mut k = 0;
     while k < dims {
         let size = sizes[k];
-        let own = place[k];
+        let own = point[k];
         let to = wrapped(own, element_value(words, n, dims, index, depth, here), size);
         number = number * size as usize + to as usize;
         here = element_after(words, n, dims, here);
@@ -143,20 +147,20 @@ pub fn field_of(grid: &[i32], cell: usize, fields: usize, field: usize) -> Value
 
 // The field that is noted at the `[` at a position, of the cell at the relative index after it.
 pub fn neighbour_field(
-    leaves: &[u32; 32776],
+    leaves: &[u32; LEAF_WORDS],
     words: &[u32],
     sizes: &[u32],
-    place: &[u32],
+    point: &[u32],
     grid: &[i32],
-    index: &[i32; 16],
+    index: &[i32; MOST_OPEN],
     site: Site,
     depth: usize,
     at: usize,
 ) -> Value
-    requires { ⌜ SiteReady (now leaves) (now words) (now sizes) (now place) (now grid) site depth × (at ≤ 4096) ⌝ }
+    requires { ⌜ SiteReady (now leaves) (now words) (now sizes) (now point) (now grid) site depth × (at ≤ most-tokens) ⌝ }
     ensures { λ r. ⌜ r ≡ value (entry (env-of (now (words .entry)) (now (sizes .entry)) (now (grid .entry)) site .look (offsets (length (now (sizes .entry))) (take depth (now (index .entry))) (indices-in (site-table (now (words .entry)) (now (sizes .entry)) site) (length (now (sizes .entry))) (at + 1)))) (word-in (now (words .entry)) (site .tokens) 2 at)) ⌝ }
 {
     let n = site.tokens;
-    let cell = neighbour_number(words, n, sizes, place, index, depth, at + 1);
+    let cell = neighbour_number(words, n, sizes, point, index, depth, at + 1);
     field_of(grid, cell, site.fields, word_at(words, n, 2, at) as usize)
 }

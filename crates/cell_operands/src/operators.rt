@@ -2,6 +2,7 @@
 ghost use mathlib.Core.Path.{_≡_};
 ghost use Prim.Native.Nat.{_*_, _≤_, _%_};
 ghost use lib.ListN.{length};
+ghost use Rattle.value.specs.Limits.{most-tokens};
 ghost use Rattle.cell_meaning.specs.Operators.{placed, apply-unary, compare, apply-binary};
 ghost use Rattle.cell_meaning.specs.Contracts.Stands.{is-sign-kind, is-unary};
 ghost use Rattle.cell_meaning.specs.Links.{word-in};
@@ -97,7 +98,7 @@ fn apply_binary(op: u32, a: Value, b: Value) -> Worked
 
 // What an operator at a position returns, with the position past the expression.
 fn told(words: &[u32], n: usize, at: usize, worked: Worked, next: usize) -> Told
-    requires { ⌜ (4 * n ≤ length (now words)) × (n ≤ 4096) ⌝ }
+    requires { ⌜ (4 * n ≤ length (now words)) × (n ≤ most-tokens) ⌝ }
     ensures { λ r. ⌜ r ≡ told-of (placed (word-in (now (words .entry)) n 1 at % 65536) worked) next ⌝ }
 {
     match worked {
@@ -109,7 +110,7 @@ fn told(words: &[u32], n: usize, at: usize, worked: Worked, next: usize) -> Told
 
 // The unary operator at a position, on a value.
 pub fn operate_unary(words: &[u32], n: usize, at: usize, op: u32, a: Value, next: usize) -> Told
-    requires { ⌜ (4 * n ≤ length (now words)) × (n ≤ 4096) ⌝ }
+    requires { ⌜ (4 * n ≤ length (now words)) × (n ≤ most-tokens) ⌝ }
     ensures { λ r. ⌜ r ≡ told-of (placed (word-in (now (words .entry)) n 1 at % 65536) (apply-unary op (a .n))) next ⌝ }
 {
     told(words, n, at, apply_unary(op, a), next)
@@ -117,7 +118,7 @@ pub fn operate_unary(words: &[u32], n: usize, at: usize, op: u32, a: Value, next
 
 // The binary operator at a position, on two values.
 pub fn operate(words: &[u32], n: usize, at: usize, op: u32, a: Value, b: Value, next: usize) -> Told
-    requires { ⌜ (4 * n ≤ length (now words)) × (n ≤ 4096) ⌝ }
+    requires { ⌜ (4 * n ≤ length (now words)) × (n ≤ most-tokens) ⌝ }
     ensures { λ r. ⌜ r ≡ told-of (placed (word-in (now (words .entry)) n 1 at % 65536) (apply-binary op (a .n) (b .n))) next ⌝ }
 {
     told(words, n, at, apply_binary(op, a, b), next)

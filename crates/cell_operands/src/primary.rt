@@ -2,6 +2,7 @@
 ghost use mathlib.Core.Path.{_≡_};
 ghost use Prim.Native.Nat.{_+_, _*_, _<_, _≤_, _%_};
 ghost use lib.ListN.{length, take};
+ghost use Rattle.value.specs.Limits.{most-tokens, most-names};
 ghost use Rattle.value.specs.Worked.{value};
 ghost use Rattle.cell_meaning.specs.Evaluation.{entry, element-at};
 ghost use Rattle.cell_meaning.specs.Contracts.Stands.{array-in};
@@ -18,10 +19,13 @@ use crate::table::place_at;
 use crate::table::word_at;
 use token::kind;
 use value::Value;
+use value::limits::LEAF_WORDS;
+use value::limits::MOST_NAMES;
+use value::limits::MOST_OPEN;
 
 // The value of a variable; 0 if there are not so many slots.
-fn variable_value(vars: &[i32; 256], slots: usize, which: usize) -> Value
-    requires { ⌜ slots ≤ 256 ⌝ }
+fn variable_value(vars: &[i32; MOST_NAMES], slots: usize, which: usize) -> Value
+    requires { ⌜ slots ≤ most-names ⌝ }
     ensures { λ r. ⌜ r ≡ value (entry (take slots (now (vars .entry))) which) ⌝ }
 {
     if which < slots {
@@ -32,7 +36,7 @@ fn variable_value(vars: &[i32; 256], slots: usize, which: usize) -> Value
 
 // The element with a given index of the array constant whose name is at a position, before a `[`; fault 32 if there is none.
 pub fn element(words: &[u32], n: usize, dims: usize, at: usize, i: Value, next: usize) -> Told
-    requires { ⌜ (4 * n ≤ length (now words)) × (n ≤ 4096) × (at < n) ⌝ }
+    requires { ⌜ (4 * n ≤ length (now words)) × (n ≤ most-tokens) × (at < n) ⌝ }
     ensures { λ r. ⌜ r ≡ told-of (element-at (word-in (now (words .entry)) n 1 (at + 1) % 65536) (array-in (table-of (now (words .entry)) n dims) (word-in (now (words .entry)) n 3 at)) (i .n)) next ⌝ }
 {
     let name = word_at(words, n, 3, at) as usize;
@@ -52,18 +56,18 @@ pub fn element(words: &[u32], n: usize, dims: usize, at: usize, i: Value, next: 
 
 // The name at a position: a variable, a constant or an index variable.
 fn name(
-    leaves: &[u32; 32776],
+    leaves: &[u32; LEAF_WORDS],
     words: &[u32],
     sizes: &[u32],
-    place: &[u32],
+    point: &[u32],
     grid: &[i32],
-    vars: &[i32; 256],
-    index: &[i32; 16],
+    vars: &[i32; MOST_NAMES],
+    index: &[i32; MOST_OPEN],
     site: Site,
     depth: usize,
     at: usize,
 ) -> Told
-    requires { ⌜ SiteReady (now leaves) (now words) (now sizes) (now place) (now grid) site depth × (at < site .tokens) ⌝ }
+    requires { ⌜ SiteReady (now leaves) (now words) (now sizes) (now point) (now grid) site depth × (at < site .tokens) ⌝ }
     ensures { λ r. ⌜ EvalsName (site-table (now (words .entry)) (now (sizes .entry)) site) (env-of (now (words .entry)) (now (sizes .entry)) (now (grid .entry)) site) (take (site .slots) (now (vars .entry))) (take depth (now (index .entry))) (site .tokens) at r ⌝ }
 {
     let n = site.tokens;
@@ -83,18 +87,18 @@ fn name(
 
 // The primary at a position: a literal, a relative index, `cell` or `time`.
 fn plain(
-    leaves: &[u32; 32776],
+    leaves: &[u32; LEAF_WORDS],
     words: &[u32],
     sizes: &[u32],
-    place: &[u32],
+    point: &[u32],
     grid: &[i32],
-    vars: &[i32; 256],
-    index: &[i32; 16],
+    vars: &[i32; MOST_NAMES],
+    index: &[i32; MOST_OPEN],
     site: Site,
     depth: usize,
     at: usize,
 ) -> Told
-    requires { ⌜ SiteReady (now leaves) (now words) (now sizes) (now place) (now grid) site depth × (at ≤ site .tokens) ⌝ }
+    requires { ⌜ SiteReady (now leaves) (now words) (now sizes) (now point) (now grid) site depth × (at ≤ site .tokens) ⌝ }
     ensures { λ r. ⌜ EvalsPlain (site-table (now (words .entry)) (now (sizes .entry)) site) (env-of (now (words .entry)) (now (sizes .entry)) (now (grid .entry)) site) (take (site .slots) (now (vars .entry))) (take depth (now (index .entry))) (site .tokens) at r ⌝ }
 {
     let n = site.tokens;
@@ -103,7 +107,7 @@ fn plain(
         return Told::Found(Value::decode(word_at(words, n, 2, at)), at + 1);
     }
     if kind == kind::BRACKET {
-        let v = neighbour_field(leaves, words, sizes, place, grid, index, site, depth, at);
+        let v = neighbour_field(leaves, words, sizes, point, grid, index, site, depth, at);
         return Told::Found(v, link_at(words, n, 3, at));
     }
     if kind == kind::CELL {
@@ -123,18 +127,18 @@ fn plain(
 
 // The operand at a position, if it is a literal, a name, a relative index, `cell` or `time` alone. Else a fault is returned, which says nothing.
 pub fn leaf(
-    leaves: &[u32; 32776],
+    leaves: &[u32; LEAF_WORDS],
     words: &[u32],
     sizes: &[u32],
-    place: &[u32],
+    point: &[u32],
     grid: &[i32],
-    vars: &[i32; 256],
-    index: &[i32; 16],
+    vars: &[i32; MOST_NAMES],
+    index: &[i32; MOST_OPEN],
     site: Site,
     depth: usize,
     at: usize,
 ) -> Told
-    requires { ⌜ SiteReady (now leaves) (now words) (now sizes) (now place) (now grid) site depth × (at ≤ site .tokens) ⌝ }
+    requires { ⌜ SiteReady (now leaves) (now words) (now sizes) (now point) (now grid) site depth × (at ≤ site .tokens) ⌝ }
     ensures { λ r. ⌜ Leaf (site-table (now (words .entry)) (now (sizes .entry)) site) (env-of (now (words .entry)) (now (sizes .entry)) (now (grid .entry)) site) (take (site .slots) (now (vars .entry))) (take depth (now (index .entry))) (site .tokens) at r ⌝ }
 {
     let n = site.tokens;
@@ -147,7 +151,7 @@ pub fn leaf(
             leaves,
             words,
             sizes,
-            place,
+            point,
             grid,
             vars,
             index,
@@ -166,7 +170,7 @@ pub fn leaf(
         leaves,
         words,
         sizes,
-        place,
+        point,
         grid,
         vars,
         index,

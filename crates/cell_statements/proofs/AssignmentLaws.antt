@@ -11,18 +11,20 @@ use lib.ListN.{getD, set, take, length-take, List·getD-eq-default}
 use lib.Seq.{set-out, take-set-lt}
 use lib.IntN.{ℤ, pos}
 use borrow.Author.Tests.{eq-eqb, ne-eqb}
+use Rattle.value.specs.Choice.{if_then_else_}
 use Rattle.value.specs.Number.{within}
 use Rattle.value.specs.Worked.{value, truth, decode-of}
 use Rattle.value.specs.declared.Value.{Value}
+use Rattle.automaton.specs.Step.{Outcome, result}
 use Rattle.automaton.specs.Contracts.ListedLaws.{length-list-of, getD-list-of}
 use Rattle.program.specs.Syntax.{Range, no-range, Expr, Target, Clause}
-use Rattle.cell_meaning.specs.Operators.{Worth, worth, failed}
-use Rattle.cell_meaning.specs.Evaluation.{Env, eval, Frame, frame, on, faulted, goes, valued, in-field, store, branch, conditional, assign-first}
+use Rattle.cell_meaning.specs.Evaluation.{Env, bind, eval, Frame, frame, in-field, store, met, assign-first}
 use Rattle.cell_meaning.specs.Contracts.Stands.{range-in, ranges-in, ExprAt, target-in, first-clause, GuardAt, ClausesAt}
 use Rattle.cell_meaning.specs.Links.{Table}
 use Rattle.cell_operands.specs.Contracts.Working.{told-of, EvalsExpression, Quick}
 use Rattle.cell_operands.specs.declared.Told.{Told}
 use Rattle.cell_operands.specs.declared.Told.the-variants.{Found, Failed}
+use Rattle.cell_operands.proofs.PrimaryLaws.{result-of, fault-of}
 use Rattle.cell_statements.specs.Contracts.Running.{left-by-exit, field-range, Stores, AssignsOne, ConditionAt, guarded, Guards, Assigns}
 use Rattle.cell_statements.specs.declared.Going.{Going}
 use Rattle.cell_statements.specs.declared.Going.the-variants.{On, Faulted}
@@ -35,14 +37,6 @@ use Rattle.cell_statements.specs.declared.assignment.Verdict.the-variant
 pub answer : {t : Table} {env : Env} {vars vs : List ℤ} {n at : ℕ} {r : Told} → EvalsExpression t env vars vs n at 1 r → {e : Expr} {next : ℕ} → ExprAt t e at next
     → r ≡ told-of (eval env vars vs e) next
 answer ev {e} {next} x = ev .says (x .enough) e next (x .says (x .enough) (le-refl (x .enough)))
-
-pub worth-of : (o : Worth) (next : ℕ) {v : Value} {at : ℕ} → Found v at ≡ told-of o next → (o ≡ worth (v .n)) × (next ≡ at)
-worth-of (worth z) next {v} q = let e : value z ≡ v = cc in (ap (λ (x : Value). worth (x .n)) e, cc)
-worth-of (failed k p) next q = let z : _≡_ {A = ℕ} 0 1 = cc in absurd (omega arith)
-
-pub fault-of : (o : Worth) (next : ℕ) {k p : ℕ} → Failed k p ≡ told-of o next → o ≡ failed k p
-fault-of (worth z) next q = let z : _≡_ {A = ℕ} 0 1 = cc in absurd (omega arith)
-fault-of (failed k p) next q = cc
 
 -- the position past an expression
 pub found-onward : {t : Table} {env : Env} {vars vs : List ℤ} {n at level : ℕ} {r : Told} {v : Value} {past : ℕ}
@@ -111,7 +105,7 @@ module _ (t : Table) (env : Env) (vs : List ℤ) (at here : ℕ) (vars next : Li
 
   pub one-stored : {v : Value} {m : ℕ} {vars′ next′ : List ℤ} {r : Going} → told ≡ Found v m → Stores t env at here (v .n) vars next vars′ next′ r
       → AssignsOne t env vs at here vars next vars′ next′ r
-  one-stored {v} {m} {vars′} {next′} {r} h s = record { says = λ e m x. rw (worth-of (eval env vars vs e) m (sym h ∙ answer ev x) .0) (s .says) }
+  one-stored {v} {m} {vars′} {next′} {r} h s = record { says = λ e m x. rw (result-of (eval env vars vs e) m (sym h ∙ answer ev x) .0) (s .says) }
 
 -- ---- a clause's condition
 
@@ -119,9 +113,9 @@ module _ (t : Table) (env : Env) (vs : List ℤ) (here : ℕ) (vars : List ℤ) 
   pub guard-none : w ≡ 0 → Guards t env vs here vars Said.Holds
   guard-none h = record { says = go; asked = λ e. let z : _≡_ {A = ℕ} 0 1 = cc in absurd (omega arith) }
     where
-      go : (o : Option Expr) → ConditionAt t o here → (f g : Frame → Frame) (next : List ℤ) → conditional env vs o f g (frame on vars next) ≡ f (frame on vars next)
-      go none x f g next = refl
-      go (some e) x f g next = absurd (x .1 (sym ew ∙ h))
+      go : (o : Option Expr) → ConditionAt t o here → met env vars vs o ≡ result true
+      go none x = refl
+      go (some e) x = absurd (x .1 (sym ew ∙ h))
 
   module _ (some-there : w ≡ 0 → ⊥) {n l : ℕ} (el : l ≡ t .inner here) {told : Told} (ev : EvalsExpression t env vars vs n l 1 told) where
     said : (e : Expr) (m : ℕ) → ExprAt t e (t .inner here) m → told ≡ told-of (eval env vars vs e) m
@@ -130,24 +124,24 @@ module _ (t : Table) (env : Env) (vs : List ℤ) (here : ℕ) (vars : List ℤ) 
     pub guard-fault : {k p : ℕ} → told ≡ Failed k p → Guards t env vs here vars (Said.Faulted k p)
     guard-fault {k} {p} h = record { says = go; asked = λ e. let z : _≡_ {A = ℕ} 0 1 = cc in absurd (omega arith) }
       where
-        go : (o : Option Expr) → ConditionAt t o here → (f g : Frame → Frame) (next : List ℤ) → conditional env vs o f g (frame on vars next) ≡ goes (faulted k p) (frame on vars next)
-        go none x f g next = absurd (some-there (ew ∙ x))
-        go (some e) x f g next = rw (fault-of (eval env vars vs e) (x .0) (sym h ∙ said e (x .0) (x .2))) refl
+        go : (o : Option Expr) → ConditionAt t o here → met env vars vs o ≡ guarded (Said.Faulted k p)
+        go none x = absurd (some-there (ew ∙ x))
+        go (some e) x = rw (fault-of (eval env vars vs e) (x .0) (sym h ∙ said e (x .0) (x .2))) refl
 
     module _ {v : Value} {m : ℕ} (h : told ≡ Found v m) {b : Bool} (eb : b ≡ truth (v .n)) where
-      decided : (o : Option Expr) → ConditionAt t o here → (f g : Frame → Frame) (next : List ℤ) → conditional env vs o f g (frame on vars next) ≡ branch b f g (frame on vars next)
-      decided none x f g next = absurd (some-there (ew ∙ x))
-      decided (some e) x f g next = rw (worth-of (eval env vars vs e) (x .0) (sym h ∙ said e (x .0) (x .2)) .0, ← eb) refl
+      decided : (o : Option Expr) → ConditionAt t o here → met env vars vs o ≡ result b
+      decided none x = absurd (some-there (ew ∙ x))
+      decided (some e) x = rw (result-of (eval env vars vs e) (x .0) (sym h ∙ said e (x .0) (x .2)) .0, ← eb) refl
 
       pub guard-holds : b ≡ true → Guards t env vs here vars Said.Holds
       guard-holds y = record {
-        says = λ o x f g next. decided o x f g next ∙ ap (λ (z : Bool). branch z f g (frame on vars next)) y;
+        says = λ o x. decided o x ∙ ap result y;
         asked = λ e. let z : _≡_ {A = ℕ} 0 1 = cc in absurd (omega arith);
       }
 
       pub guard-fails : b ≡ false → Guards t env vs here vars Said.Fails
       guard-fails y = record {
-        says = λ o x f g next. decided o x f g next ∙ ap (λ (z : Bool). branch z f g (frame on vars next)) y;
+        says = λ o x. decided o x ∙ ap result y;
         asked = λ e u. some-there (ew ∙ u);
       }
 
@@ -174,7 +168,7 @@ module _ (t : Table) (env : Env) (vs : List ℤ) (at : ℕ) (vars next : List �
   to = target-in t at
 
   abbrev fr : Frame
-  fr = frame on vars next
+  fr = frame false vars next
 
   -- the clauses before `here` are tried, and none of them is chosen
   pub record Tried (here : ℕ) : Type 0 where
@@ -188,23 +182,27 @@ module _ (t : Table) (env : Env) (vs : List ℤ) (at : ℕ) (vars next : List �
     unfolding assign-first
     assigns-none other = record { says = λ cs x. let s = so .says cs x in sym (s .2 ∙ go (s .0) (s .1)) }
       where
-        go : (cs : List Clause) → ClausesAt t cs here → assign-first env vs to cs fr ≡ fr
+        go : (cs : List Clause) → ClausesAt t cs here → assign-first env vs to cs fr ≡ result fr
         go [] x = refl
         go (c ∷ cs) x = absurd (other (ek ∙ x .1))
 
     module _ (is : k ≡ 128) {verdict : Verdict} (gu : Guards t env vs here vars verdict) where
       -- what the clause does if it is chosen
-      abbrev chosen : Clause → Frame → Frame
-      chosen c g = valued (eval env (g .vars) vs (c .expr)) g (store (env .fields) to (c .place) g)
+      abbrev chosen : Clause → Outcome Frame
+      chosen c = bind (eval env vars vs (c .expr)) (store (env .fields) to (c .place) fr)
 
-      tried-now : (F : Frame) → ((c : Clause) (cs : List Clause) → ClausesAt t (c ∷ cs) here → assign-first env vs to (c ∷ cs) fr ≡ F)
+      -- what the clause and those behind it come to, by what is found of its condition
+      abbrev judged : Clause → List Clause → Outcome Bool → Outcome Frame
+      judged c cs o = bind o (λ t. if t then chosen c else assign-first env vs to cs fr)
+
+      tried-now : (F : Outcome Frame) → ((c : Clause) (cs : List Clause) → ClausesAt t (c ∷ cs) here → assign-first env vs to (c ∷ cs) fr ≡ F)
           → (cs : List Clause) → ClausesAt t cs here → assign-first env vs to cs fr ≡ F
       tried-now F h [] x = absurd (x (sym ek ∙ is))
       tried-now F h (c ∷ cs) x = h c cs x
 
-      by-verdict : (c : Clause) (cs : List Clause) → ClausesAt t (c ∷ cs) here → assign-first env vs to (c ∷ cs) fr ≡ guarded verdict (chosen c) (assign-first env vs to cs) fr
+      by-verdict : (c : Clause) (cs : List Clause) → ClausesAt t (c ∷ cs) here → assign-first env vs to (c ∷ cs) fr ≡ judged c cs (guarded verdict)
       unfolding assign-first
-      by-verdict c cs x = gu .says (c .condition) (condition-of t (c .condition) (λ i. ClausesAt t cs i) here (x .4)) (chosen c) (assign-first env vs to cs) next
+      by-verdict c cs x = ap (judged c cs) (gu .says (c .condition) (condition-of t (c .condition) (λ i. ClausesAt t cs i) here (x .4)))
 
       pub assigns-chosen : {vars′ next′ : List ℤ} {r : Going} → verdict ≡ Said.Holds → AssignsOne t env vs at here vars next vars′ next′ r → Assigns t env vs at vars next vars′ next′ r
       assigns-chosen {vars′} {next′} {r} h one = record {
@@ -212,8 +210,8 @@ module _ (t : Table) (env : Env) (vs : List ℤ) (at : ℕ) (vars next : List �
             let s = so .says cs x in
             sym (s .2 ∙ tried-now (left-by-exit r vars′ next′)
             (λ c cs y.
-            by-verdict c cs y ∙ ap (λ (z : Verdict). guarded z (chosen c) (assign-first env vs to cs) fr) h
-            ∙ ap (λ (i : ℕ). valued (eval env vars vs (c .expr)) fr (store (env .fields) to i fr)) (y .2) ∙ sym (one .says (c .expr) (y .0) (y .3)))
+            by-verdict c cs y ∙ ap (λ (z : Verdict). judged c cs (guarded z)) h
+            ∙ ap (λ (i : ℕ). bind (eval env vars vs (c .expr)) (store (env .fields) to i fr)) (y .2) ∙ sym (one .says (c .expr) (y .0) (y .3)))
             (s .0) (s .1));
       }
 
@@ -221,7 +219,7 @@ module _ (t : Table) (env : Env) (vs : List ℤ) (at : ℕ) (vars next : List �
       assigns-fault {a} {p} h = record {
         says = λ cs x.
             let s = so .says cs x in
-            sym (s .2 ∙ tried-now (left-by-exit (Faulted a p) vars next) (λ c cs y. by-verdict c cs y ∙ ap (λ (z : Verdict). guarded z (chosen c) (assign-first env vs to cs) fr) h) (s .0) (s .1));
+            sym (s .2 ∙ tried-now (left-by-exit (Faulted a p) vars next) (λ c cs y. by-verdict c cs y ∙ ap (λ (z : Verdict). judged c cs (guarded z)) h) (s .0) (s .1));
       }
 
       pub tried-more : {l : ℕ} → verdict ≡ Said.Fails → l ≡ t .past here → Tried l
@@ -233,7 +231,7 @@ module _ (t : Table) (env : Env) (vs : List ℤ) (at : ℕ) (vars next : List �
           go cs (c ∷ cs′) y e = (
             cs′,
             subst (λ (i : ℕ). ClausesAt t cs′ i) (sym el) (behind-of t (c .condition) (λ i. ClausesAt t cs′ i) here (y .4) (gu .asked h)),
-            e ∙ by-verdict c cs′ y ∙ ap (λ (z : Verdict). guarded z (chosen c) (assign-first env vs to cs′) fr) h,
+            e ∙ by-verdict c cs′ y ∙ ap (λ (z : Verdict). judged c cs′ (guarded z)) h,
           )
 
 -- a run from memory that is as it was at first

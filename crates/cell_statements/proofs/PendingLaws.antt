@@ -2,14 +2,16 @@
 use Prim.Native.Nat.{ℕ, zero, suc, _+_, _-_, _≤_, _<_}
 use native.Mathlib.Omega.{arith}
 use mathlib.Core.Path.{_≡_, refl, sym, ap, _∙_, subst}
+use mathlib.Core.Bool.{false}
 use mathlib.Core.List.{List}
 use mathlib.Core.Logic.{_⊎_, inl, inr}
 use lib.ListN.{length, getD, set, length-set}
 use lib.Seq.{getD-set-same, getD-set-other}
 use lib.IntN.{ℤ}
+use Rattle.automaton.specs.Step.{Outcome, result}
 use Rattle.automaton.specs.Contracts.ListedLaws.{last-or-below}
 use Rattle.program.specs.Syntax.{Block}
-use Rattle.cell_meaning.specs.Evaluation.{Env, on, Frame, frame, onward, exec}
+use Rattle.cell_meaning.specs.Evaluation.{Env, Frame, frame, onward, exec}
 use Rattle.cell_meaning.specs.Contracts.Stands.{Stands}
 use Rattle.cell_meaning.specs.Links.{Table}
 
@@ -116,32 +118,32 @@ module _ (n here : ℕ) (ends : List ℕ) (top : ℕ) where
 
 module _ (t : Table) (env : Env) (depth : ℕ) (vs : List ℤ) where
   -- x is what y comes to by the statements at the first i positions, from the last to the first
-  unfoldable pub Leads : List ℕ → ℕ → Frame → Frame → Type 0
+  unfoldable pub Leads : List ℕ → ℕ → Outcome Frame → Outcome Frame → Type 0
   Leads ends zero x y = x ≡ y
   Leads ends (suc i) x y = (c : Block) × Stands t depth c (getD ends i 0) × Leads ends i x (onward y (exec env vs c))
 
-  pub leads-start : (ends : List ℕ) (x : Frame) → Leads ends 0 x x
+  pub leads-start : (ends : List ℕ) (x : Outcome Frame) → Leads ends 0 x x
   unfolding Leads
   leads-start ends x = refl
 
-  pub leads-done : (ends : List ℕ) {top : ℕ} (x y : Frame) → top ≡ 0 → Leads ends top x y → x ≡ y
+  pub leads-done : (ends : List ℕ) {top : ℕ} (x y : Outcome Frame) → top ≡ 0 → Leads ends top x y → x ≡ y
   unfolding Leads
   leads-done ends x y e p = subst (λ (i : ℕ). Leads ends i x y) e p
 
   -- where nothing more is run
-  pub leads-stops : (ends : List ℕ) (i : ℕ) (x y : Frame) → ((f : Frame → Frame) → onward y f ≡ y) → Leads ends i x y → x ≡ y
+  pub leads-stops : (ends : List ℕ) (i : ℕ) (x y : Outcome Frame) → ((f : Frame → Outcome Frame) → onward y f ≡ y) → Leads ends i x y → x ≡ y
   unfolding Leads
   leads-stops ends zero x y h p = p
   leads-stops ends (suc i) x y h p = leads-stops ends i x y h (subst (Leads ends i x) (h (exec env vs (p .0))) (p .2))
 
   -- the last position is taken off
-  pub leads-pops : (ends : List ℕ) (top : ℕ) (x : Frame) (vars next : List ℤ) → (top ≡ 0 → ⊥) → Leads ends top x (frame on vars next)
-      → (c : Block) × Stands t depth c (getD ends (top - 1) 0) × Leads ends (top - 1) x (exec env vs c (frame on vars next))
+  pub leads-pops : (ends : List ℕ) (top : ℕ) (x : Outcome Frame) (vars next : List ℤ) → (top ≡ 0 → ⊥) → Leads ends top x (result (frame false vars next))
+      → (c : Block) × Stands t depth c (getD ends (top - 1) 0) × Leads ends (top - 1) x (exec env vs c (frame false vars next))
   unfolding Leads
-  leads-pops ends top x vars next h p = subst (λ (i : ℕ). Leads ends i x (frame on vars next)) (counted top h) p
+  leads-pops ends top x vars next h p = subst (λ (i : ℕ). Leads ends i x (result (frame false vars next))) (counted top h) p
 
-  module _ (ends : List ℕ) (top v : ℕ) (x : Frame) where
-    leads-below : (i : ℕ) → i ≤ top → (y : Frame) → Leads ends i x y → Leads (set ends top v) i x y
+  module _ (ends : List ℕ) (top v : ℕ) (x : Outcome Frame) where
+    leads-below : (i : ℕ) → i ≤ top → (y : Outcome Frame) → Leads ends i x y → Leads (set ends top v) i x y
     unfolding Leads
     leads-below zero l y p = p
     leads-below (suc i) l y p = (
@@ -151,7 +153,7 @@ module _ (t : Table) (env : Env) (depth : ℕ) (vs : List ℤ) where
     )
 
     -- a position is put on
-    pub leads-enters : top < length ends → (y : Frame) (c : Block) → Stands t depth c v → Leads ends top x (onward y (exec env vs c)) → Leads (set ends top v) (top + 1) x y
+    pub leads-enters : top < length ends → (y : Outcome Frame) (c : Block) → Stands t depth c v → Leads ends top x (onward y (exec env vs c)) → Leads (set ends top v) (top + 1) x y
     unfolding Leads
     leads-enters l y c s p =
         let e : top + 1 ≡ suc top = omega arith in

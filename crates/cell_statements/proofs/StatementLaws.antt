@@ -4,25 +4,26 @@ use native.Mathlib.Omega.{arith}
 use mathlib.Core.Path.{_≡_, refl, sym, ap, ap₂, _∙_, subst}
 use mathlib.Core.Bool.{Bool, true, false, true≢false}
 use mathlib.Core.List.{List, [], _∷_, _++_}
-use mathlib.Core.Option.{some}
 use mathlib.Core.Logic.{_⊎_, ⊎-elim}
 use lib.Dec.{eqb}
 use lib.ListN.{length, getD, set, take, length-set}
 use lib.Seq.{take-suc, take-set-le, getD-set-same}
 use lib.IntN.{ℤ, pos, _+ℤ_, +ℤ-assoc, +ℤ-idr}
 use borrow.Author.Tests.{ne-eqb, eqb-true}
+use Rattle.value.specs.Choice.{if_then_else_}
 use Rattle.value.specs.Worked.{value, truth, decode-of, span-of}
 use Rattle.value.specs.declared.Value.{Value}
+use Rattle.automaton.specs.Step.{Outcome, result, fault}
 use Rattle.program.specs.Syntax.{Range, Expr, Target, Block, empty, assign, select, loop, exit, constant}
-use Rattle.cell_meaning.specs.Operators.{worth}
-use Rattle.cell_meaning.specs.Evaluation.{Env, eval, Flow, on, leaving, faulted, Frame, frame, when-on, onward, branch, conditional, assign-first, after-turn, each, exec}
+use Rattle.cell_meaning.specs.Evaluation.{Env, bind, eval, Frame, frame, onward, assign-first, each, exec}
 use Rattle.cell_meaning.specs.Contracts.Stands.{ExprAt, range-in, LoopAt, assigns, Stands, Elsif, Choice}
 use Rattle.cell_meaning.specs.Links.{Table, begins}
 use Rattle.cell_operands.specs.Contracts.Working.{SiteReady, EvalsExpression}
 use Rattle.cell_operands.specs.declared.Site.{Site}
 use Rattle.cell_operands.specs.declared.Told.{Told}
 use Rattle.cell_operands.specs.declared.Told.the-variants.{Found, Failed}
-use Rattle.cell_statements.specs.Contracts.Running.{flow-of, left-by-exit, Assigns, RunsBlock, rest-after, RunsStatement, LoopSettles, Forward, Chooses, body-of, RunsLoop}
+use Rattle.cell_operands.proofs.PrimaryLaws.{result-of, fault-of}
+use Rattle.cell_statements.specs.Contracts.Running.{left-by-exit, Assigns, RunsBlock, rest-after, RunsStatement, LoopSettles, Forward, choice-outcome, Chooses, body-of, RunsLoop}
 use Rattle.cell_statements.specs.declared.Going.{Going}
 use Rattle.cell_statements.specs.declared.Going.the-variants.{On, Leaving, Faulted}
 use Rattle.cell_statements.specs.declared.blocks.Chosen.{Chosen}
@@ -30,7 +31,7 @@ use Rattle.cell_statements.specs.declared.blocks.Chosen.the-variants as 
 use denote.Enum.Declared.{tagOf}
 use Rattle.cell_statements.proofs.Going.{the-type}
 use Rattle.cell_statements.proofs.PendingLaws.{Leads, leads-start, leads-done, leads-stops, leads-pops, leads-enters}
-use Rattle.cell_statements.proofs.AssignmentLaws.{answer, worth-of, fault-of, found-onward}
+use Rattle.cell_statements.proofs.AssignmentLaws.{answer, found-onward}
 
 -- ---- kinds that begin a statement
 
@@ -88,18 +89,18 @@ assigns-begins k e = assigns-kind k e (λ i. begins i ≡ true) begins-name begi
 
 -- ---- a choice
 
-onward-empty : (env : Env) (vs : List ℤ) (F : Frame) → onward F (exec env vs empty) ≡ F
+onward-empty : (env : Env) (vs : List ℤ) (o : Outcome Frame) → onward o (exec env vs empty) ≡ o
 unfolding exec
-onward-empty env vs F = go (F .flow)
+onward-empty env vs (result fr) = go (fr .leaving)
   where
-    go : (f : Flow) → when-on f F (λ g. g) ≡ F
-    go on = refl
-    go leaving = refl
-    go (faulted k p) = refl
+    go : (t : Bool) → (if t then result fr else result fr) ≡ result fr
+    go true = refl
+    go false = refl
+onward-empty env vs (fault k p) = refl
 
 module _ (t : Table) (env : Env) (vs : List ℤ) (depth n at : ℕ) (vars : List ℤ) where
-  abbrev chooses : Expr → Block → Block → List ℤ → Frame
-  chooses c d e next = conditional env vs (some c) (exec env vs d) (exec env vs e) (frame on vars next)
+  abbrev chooses : Expr → Block → Block → List ℤ → Outcome Frame
+  chooses c d e next = choice-outcome env vs c d e (frame false vars next)
 
   -- the arms before `arm` are tried, and none of them is chosen
   pub record Arms (arm : ℕ) : Type 0 where
@@ -114,12 +115,12 @@ module _ (t : Table) (env : Env) (vs : List ℤ) (depth n at : ℕ) (vars : List
   module _ {arm : ℕ} (so : Arms arm) {told : Told} (ev : EvalsExpression t env vars vs n (arm + 1) 1 told) where
     -- the choice goes on where the arm that is tried now does
     by-arm : {r : Chosen} → Forward at n r
-        → ((c : Expr) (d e : Block) → Choice t depth c d e arm → (next : List ℤ) → LoopSettles t env vs depth r (chooses c d e next) (frame on vars next))
+        → ((c : Expr) (d e : Block) → Choice t depth c d e arm → (next : List ℤ) → LoopSettles t env vs depth r (chooses c d e next) (frame false vars next))
         → Chooses t env vs depth n at vars r
     by-arm {r} l h = record {
       says = λ c d e x next.
           let s = so .says c d e x in
-          subst (λ (F : Frame). LoopSettles t env vs depth r F (frame on vars next)) (sym (s .4 next)) (h (s .0) (s .1) (s .2) (s .3) next);
+          subst (λ (F : Outcome Frame). LoopSettles t env vs depth r F (frame false vars next)) (sym (s .4 next)) (h (s .0) (s .1) (s .2) (s .3) next);
       onward = l;
     }
 
@@ -127,11 +128,11 @@ module _ (t : Table) (env : Env) (vs : List ℤ) (depth n at : ℕ) (vars : List
     choice-fault h = by-arm tt (λ c d e x next. rw (fault-of (eval env vars vs c) (x .then-at) (sym h ∙ answer ev (x .condition))) refl)
 
     module _ {v : Value} {m : ℕ} (h : told ≡ Found v m) {b : Bool} (eb : b ≡ truth (v .n)) where
-      found : (c : Expr) (past : ℕ) → ExprAt t c (arm + 1) past → (eval env vars vs c ≡ worth (v .n)) × (past ≡ m)
-      found c past x = worth-of (eval env vars vs c) past (sym h ∙ answer ev x)
+      found : (c : Expr) (past : ℕ) → ExprAt t c (arm + 1) past → (eval env vars vs c ≡ result (v .n)) × (past ≡ m)
+      found c past x = result-of (eval env vars vs c) past (sym h ∙ answer ev x)
 
       decided : {z : Bool} → b ≡ z → (c : Expr) (d e : Block) → Choice t depth c d e arm → (next : List ℤ)
-          → chooses c d e next ≡ branch z (exec env vs d) (exec env vs e) (frame on vars next)
+          → chooses c d e next ≡ (if z then exec env vs d (frame false vars next) else exec env vs e (frame false vars next))
       decided {z} y c d e x next = rw (found c (x .then-at) (x .condition) .0, ← eb, y) refl
 
       pub choice-then : b ≡ true → m < n → Chooses t env vs depth n at vars (Went.List (m + 1))
@@ -162,7 +163,7 @@ module _ (t : Table) (env : Env) (vs : List ℤ) (depth n at : ℕ) (vars : List
             by-arm tt
             (λ c d e x next.
             decided y c d e x next
-            ∙ ap (λ (q : Block). exec env vs q (frame on vars next)) (x .rest .at-end (λ u. not-else (there ∙ u)) (λ u. not-elsif (there ∙ u))))
+            ∙ ap (λ (q : Block). exec env vs q (frame false vars next)) (x .rest .at-end (λ u. not-else (there ∙ u)) (λ u. not-elsif (there ∙ u))))
 
         pub arms-more : k ≡ 8 → arm < o → o < n → Arms o
         unfolding Elsif exec
@@ -173,7 +174,7 @@ module _ (t : Table) (env : Env) (vs : List ℤ) (depth n at : ℕ) (vars : List
         }
           where
             tail : (e : Block) → Elsif t depth e o
-                → (c′ : Expr) × (d′ : Block) × (e′ : Block) × Choice t depth c′ d′ e′ o × ((next : List ℤ) → exec env vs e (frame on vars next) ≡ chooses c′ d′ e′ next)
+                → (c′ : Expr) × (d′ : Block) × (e′ : Block) × Choice t depth c′ d′ e′ o × ((next : List ℤ) → exec env vs e (frame false vars next) ≡ chooses c′ d′ e′ next)
             tail empty s = absurd s
             tail (assign to cs rest) s = absurd s
             tail (select c d e rest) s =
@@ -207,7 +208,7 @@ at-if t depth at is P h (constant rest) s = absurd (let q = s .0 in omega arith)
 
 module _ (t : Table) (env : Env) (depth at : ℕ) (vars next ix : List ℤ) {k : ℕ} (ek : k ≡ t .kind at) where
   abbrev run-of : Going → List ℤ → List ℤ → Block → Type 0
-  run-of r vars′ next′ b = exec env (take depth ix) b (frame on vars next) ≡ onward (left-by-exit r vars′ next′) (exec env (take depth ix) (rest-after b))
+  run-of r vars′ next′ b = exec env (take depth ix) b (frame false vars next) ≡ onward (left-by-exit r vars′ next′) (exec env (take depth ix) (rest-after b))
 
   -- an assignment does not begin with a token of this kind
   unassigned : {A : Type 0} (j : ℕ) → (j ≡ 1 → ⊥) → (j ≡ 3 → ⊥) → k ≡ j → assigns (t .kind at) ≡ true → A
@@ -216,14 +217,14 @@ module _ (t : Table) (env : Env) (depth at : ℕ) (vars next ix : List ℤ) {k :
   module _ (is : k ≡ 13) {n : ℕ} {chosen : Chosen} (ch : Chooses t env (take depth ix) depth n at vars chosen) where
     -- what is left is what is done where the choice goes on
     by-choice : {vars′ next′ ix′ : List ℤ} {r : Going} (w : Chosen) → chosen ≡ w → take depth ix′ ≡ take depth ix
-        → ((F : Frame) → LoopSettles t env (take depth ix) depth w F (frame on vars next) → left-by-exit r vars′ next′ ≡ F) → RunsStatement t env depth at vars next ix vars′ next′ ix′ r
+        → ((F : Outcome Frame) → LoopSettles t env (take depth ix) depth w F (frame false vars next) → left-by-exit r vars′ next′ ≡ F) → RunsStatement t env depth at vars next ix vars′ next′ ix′ r
     unfolding exec
     by-choice {vars′} {next′} {ix′} {r} w h k f = record {
       says = λ y. at-if t depth at (sym ek ∙ is) (run-of r vars′ next′)
           (λ c d e rest x s.
           let F = chooses t env (take depth ix) depth n at vars c d e next in
-          ap (λ (G : Frame). onward G (exec env (take depth ix) rest))
-          (sym (f F (subst (λ (z : Chosen). LoopSettles t env (take depth ix) depth z F (frame on vars next)) h (ch .says c d e x next)))));
+          ap (λ (G : Outcome Frame). onward G (exec env (take depth ix) rest))
+          (sym (f F (subst (λ (z : Chosen). LoopSettles t env (take depth ix) depth z F (frame false vars next)) h (ch .says c d e x next)))));
       kept = k;
     }
 
@@ -245,7 +246,7 @@ module _ (t : Table) (env : Env) (depth at : ℕ) (vars next ix : List ℤ) {k :
       go y empty s = not-begun (t .kind at) y s
       go y (assign to cs rest) s = unassigned 12 (λ u. omega arith) (λ u. omega arith) is (s .0)
       go y (select c d e rest) s = absurd (let q = s .0 in omega arith)
-      go y (loop values d rest) s = ap (λ (F : Frame). onward F (exec env (take depth ix) rest)) (sym (run .says values d (s .1)))
+      go y (loop values d rest) s = ap (λ (F : Outcome Frame). onward F (exec env (take depth ix) rest)) (sym (run .says values d (s .1)))
       go y (exit rest) s = absurd (let q = s .0 in omega arith)
       go y (constant rest) s = absurd (let q = s .0 in omega arith)
 
@@ -281,8 +282,8 @@ module _ (t : Table) (env : Env) (depth at : ℕ) (vars next ix : List ℤ) {k :
       go : begins (t .kind at) ≡ true → (b : Block) → Stands t depth b at → run-of r vars′ next′ b
       go y empty s = not-begun (t .kind at) y s
       go y (assign to cs rest) s =
-          ap (λ (F : Frame). onward F (exec env (take depth ix) rest))
-          (ap (λ (x : Target). assign-first env (take depth ix) x cs (frame on vars next)) (s .1) ∙ sym (run .says cs (s .2)))
+          ap (λ (F : Outcome Frame). onward F (exec env (take depth ix) rest))
+          (ap (λ (x : Target). assign-first env (take depth ix) x cs (frame false vars next)) (s .1) ∙ sym (run .says cs (s .2)))
       go y (select c d e rest) s = absurd (n13 (s .0))
       go y (loop values d rest) s = absurd (n12 (ek ∙ s .0))
       go y (exit rest) s = absurd (n10 (ek ∙ s .0))
@@ -319,13 +320,13 @@ none-stands t depth at y (constant rest) s = not-begun (t .kind at) (ap begins (
 
 module _ (t : Table) (env : Env) (depth at : ℕ) (vars₀ next₀ ix₀ : List ℤ) where
   -- what a list that stands at `at` comes to
-  abbrev whole : Block → Frame
-  whole b = exec env (take depth ix₀) b (frame on vars₀ next₀)
+  abbrev whole : Block → Outcome Frame
+  whole b = exec env (take depth ix₀) b (frame false vars₀ next₀)
 
   -- what is left of a list that stands at `at`: statements that stand at `here`, then those at the positions of a stack
   pub record Progress (here : ℕ) (ends : List ℕ) (top : ℕ) (vars next ix : List ℤ) : Type 0 where
     pub says : (b : Block) → Stands t depth b at
-        → (b′ : Block) × Stands t depth b′ here × Leads t env depth (take depth ix₀) ends top (whole b) (exec env (take depth ix₀) b′ (frame on vars next))
+        → (b′ : Block) × Stands t depth b′ here × Leads t env depth (take depth ix₀) ends top (whole b) (exec env (take depth ix₀) b′ (frame false vars next))
     pub kept : take depth ix ≡ take depth ix₀
 
   pub progress-start : {ends : List ℕ} → Progress at ends 0 vars₀ next₀ ix₀
@@ -334,16 +335,16 @@ module _ (t : Table) (env : Env) (depth at : ℕ) (vars₀ next₀ ix₀ : List 
   module _ {here : ℕ} {ends : List ℕ} {top : ℕ} {vars next ix : List ℤ} (so : Progress here ends top vars next ix) {k : ℕ} (ek : k ≡ t .kind here) where
     module _ {b : Bool} (eb : b ≡ begins k) where
       -- at the end of a list
-      ended : b ≡ false → (b₀ : Block) → Stands t depth b₀ at → Leads t env depth (take depth ix₀) ends top (whole b₀) (frame on vars next)
+      ended : b ≡ false → (b₀ : Block) → Stands t depth b₀ at → Leads t env depth (take depth ix₀) ends top (whole b₀) (result (frame false vars next))
       unfolding exec
       ended y b₀ s =
           let p = so .says b₀ s in
-          subst (λ (q : Block). Leads t env depth (take depth ix₀) ends top (whole b₀) (exec env (take depth ix₀) q (frame on vars next)))
+          subst (λ (q : Block). Leads t env depth (take depth ix₀) ends top (whole b₀) (exec env (take depth ix₀) q (frame false vars next)))
           (none-stands t depth here (sym (eb ∙ ap begins ek) ∙ y) (p .0) (p .1)) (p .2)
 
       pub block-ends : b ≡ false → top ≡ 0 → RunsBlock t env depth at vars₀ next₀ ix₀ vars next ix On
       block-ends y z = record {
-        says = λ b₀ s. sym (leads-done t env depth (take depth ix₀) ends (whole b₀) (frame on vars next) z (ended y b₀ s));
+        says = λ b₀ s. sym (leads-done t env depth (take depth ix₀) ends (whole b₀) (result (frame false vars next)) z (ended y b₀ s));
         kept = so .kept;
       }
 
@@ -367,7 +368,7 @@ module _ (t : Table) (env : Env) (depth at : ℕ) (vars₀ next₀ ix₀ : List 
               rest-after (p .0),
               rest-stands t depth here begun (p .0) (p .1),
               subst (Leads t env depth (take depth ix₀) ends top (whole b₀))
-                  (subst (λ (vs : List ℤ). exec env vs (p .0) (frame on vars next) ≡ onward (left-by-exit r vars′ next′) (exec env vs (rest-after (p .0)))) (so .kept) one)
+                  (subst (λ (vs : List ℤ). exec env vs (p .0) (frame false vars next) ≡ onward (left-by-exit r vars′ next′) (exec env vs (rest-after (p .0)))) (so .kept) one)
                   (p .2),
             )
 
@@ -391,7 +392,7 @@ module _ (t : Table) (env : Env) (depth at : ℕ) (vars₀ next₀ ix₀ : List 
           kept = run .kept ∙ so .kept;
         }
           where
-            stopped : (x : Going) → (x ≡ On → ⊥) → (f : Frame → Frame) → onward (left-by-exit x vars′ next′) f ≡ left-by-exit x vars′ next′
+            stopped : (x : Going) → (x ≡ On → ⊥) → (f : Frame → Outcome Frame) → onward (left-by-exit x vars′ next′) f ≡ left-by-exit x vars′ next′
             stopped On z f = absurd (z refl)
             stopped Leaving z f = refl
             stopped (Faulted a p) z f = refl
@@ -403,7 +404,7 @@ module _ (t : Table) (env : Env) (depth at : ℕ) (vars₀ next₀ ix₀ : List 
     block-enters is {n} {chosen} ch {m} h {l} el room = record {
       says = λ b₀ s₀.
           let vs = take depth ix₀ in
-          let fr = frame on vars next in
+          let fr = frame false vars next in
           let p = so .says b₀ s₀ in
           at-if t depth here (sym ek ∙ is)
           (λ b′. Leads t env depth vs ends top (whole b₀) (exec env vs b′ fr)
@@ -414,7 +415,7 @@ module _ (t : Table) (env : Env) (depth at : ℕ) (vars₀ next₀ ix₀ : List 
             w .0,
             w .1,
             leads-enters t env depth vs ends top l (whole b₀) room (exec env vs (w .0) fr) rest (subst (Stands t depth rest) (sym el) s)
-                (subst (λ (G : Frame). Leads t env depth vs ends top (whole b₀) (onward G (exec env vs rest))) (w .2) u),
+                (subst (λ (G : Outcome Frame). Leads t env depth vs ends top (whole b₀) (onward G (exec env vs rest))) (w .2) u),
           ))
           (p .0) (p .1) (p .2);
       kept = so .kept;
@@ -448,7 +449,7 @@ module _ (t : Table) (depth at : ℕ) {wl wh : ℕ} (el : wl ≡ t .word2 (at + 
   loop-many env vars next ix l = record { says = λ values d x. absurd (let e = span-is values (x .values) .0 in let f = x .few in omega arith); kept = refl }
 
 pub loop-deep : (t : Table) (env : Env) (depth at : ℕ) (vars next ix : List ℤ) → 16 ≤ depth → RunsLoop t env depth at vars next ix vars next ix On
-loop-deep t env depth at vars next ix l = record { says = λ values d x. absurd (let f = x .room in omega arith); kept = refl }
+loop-deep t env depth at vars next ix l = record { says = λ values d x. absurd (let f = x .shallow in omega arith); kept = refl }
 
 take-less : (d : ℕ) (xs ys : List ℤ) → take (suc d) xs ≡ take (suc d) ys → take d xs ≡ take d ys
 take-less d xs ys e = sym (cut d xs) ∙ ap (take d) e ∙ cut d ys
@@ -460,8 +461,8 @@ take-less d xs ys e = sym (cut d xs) ∙ ap (take d) e ∙ cut d ys
 
 module _ (t : Table) (env : Env) (depth at body : ℕ) (low : ℤ) (count : ℕ) (vars₀ next₀ ix₀ : List ℤ) where
   -- all turns, and those that are left after the first k
-  abbrev turns : Block → ℕ → ℤ → List ℤ → List ℤ → Frame
-  turns d n v vars next = each (body-of env (take depth ix₀) d) n v (frame on vars next)
+  abbrev turns : Block → ℕ → ℤ → List ℤ → List ℤ → Outcome Frame
+  turns d n v vars next = each (body-of env (take depth ix₀) d) n v (frame false vars next)
 
   -- the first k turns are done
   pub record Turns (k : ℕ) (vars next ix : List ℤ) : Type 0 where
@@ -494,20 +495,20 @@ module _ (t : Table) (env : Env) (depth at body : ℕ) (low : ℤ) (count : ℕ)
           take-less depth ix′ ix₁ (subst (λ (n : ℕ). take n ix′ ≡ take n ix₁) s (run .kept))
           ∙ ap (take depth) e₁ ∙ take-set-le depth ix depth (low +ℤ pos k) (omega arith) ∙ so .kept
 
-      -- the turn that is done now
-      turned-now : (d : Block) → Stands t (depth + 1) d body
-          → turns d count low vars₀ next₀ ≡ after-turn (flow-of r) (left-by-exit r vars′ next′) (each (body-of env (take depth ix₀) d) (count - (k + 1)) (low +ℤ pos k +ℤ pos 1))
+      -- what follows the turn that is done now
+      abbrev after-turn : Block → Outcome Frame → Outcome Frame
+      after-turn d o =
+          bind o (λ g. if g .leaving then result (frame false (g .vars) (g .next)) else each (body-of env (take depth ix₀) d) (count - (k + 1)) (low +ℤ pos k +ℤ pos 1) g)
+
+      turned-now : (d : Block) → Stands t (depth + 1) d body → turns d count low vars₀ next₀ ≡ after-turn d (left-by-exit r vars′ next′)
       unfolding each
       turned-now d s =
           let n : count - k ≡ suc (count - (k + 1)) = omega arith in
           so .says d s ∙ ap (λ (m : ℕ). turns d m (low +ℤ pos k) vars next) n
-          ∙ ap (λ (F : Frame). after-turn (F .flow) F (each (body-of env (take depth ix₀) d) (count - (k + 1)) (low +ℤ pos k +ℤ pos 1)))
-          (sym (run .says d s ∙ ap (λ (vs : List ℤ). exec env vs d (frame on vars next)) pushed))
+          ∙ ap (after-turn d) (sym (run .says d s ∙ ap (λ (vs : List ℤ). exec env vs d (frame false vars next)) pushed))
 
-      by-turn : (d : Block) {g : Going} → r ≡ g
-          → after-turn (flow-of r) (left-by-exit r vars′ next′) (each (body-of env (take depth ix₀) d) (count - (k + 1)) (low +ℤ pos k +ℤ pos 1))
-          ≡ after-turn (flow-of g) (left-by-exit g vars′ next′) (each (body-of env (take depth ix₀) d) (count - (k + 1)) (low +ℤ pos k +ℤ pos 1))
-      by-turn d e = ap (λ (x : Going). after-turn (flow-of x) (left-by-exit x vars′ next′) (each (body-of env (take depth ix₀) d) (count - (k + 1)) (low +ℤ pos k +ℤ pos 1))) e
+      by-turn : (d : Block) {g : Going} → r ≡ g → after-turn d (left-by-exit r vars′ next′) ≡ after-turn d (left-by-exit g vars′ next′)
+      by-turn d e = ap (λ (x : Going). after-turn d (left-by-exit x vars′ next′)) e
 
       pub turns-more : r ≡ On → Turns (k + 1) vars′ next′ ix′
       turns-more e = record {
@@ -545,7 +546,7 @@ module _ (t : Table) (env : Env) (depth at body : ℕ) (low : ℤ) (count : ℕ)
 
 -- ---- one loop deeper
 
-pub deeper : {leaves words sizes place : List ℕ} {grid : List ℤ} {site : Site} {depth : ℕ} → SiteReady leaves words sizes place grid site depth → depth < 16 → SiteReady leaves words sizes place grid site (depth + 1)
+pub deeper : {leaves words sizes point : List ℕ} {grid : List ℤ} {site : Site} {depth : ℕ} → SiteReady leaves words sizes point grid site depth → depth < 16 → SiteReady leaves words sizes point grid site (depth + 1)
 deeper r l = record {
   table = r .table;
   tokens = r .tokens;
@@ -554,11 +555,9 @@ deeper r l = record {
   slots = r .slots;
   time = r .time;
   dims = r .dims;
-  positive = r .positive;
-  cells = r .cells;
+  shaped = r .shaped;
   cell = r .cell;
   own = r .own;
-  entries = r .entries;
   loops = omega arith;
   noted = r .noted;
 }

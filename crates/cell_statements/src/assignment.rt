@@ -2,6 +2,7 @@
 ghost use mathlib.Core.Path.{_≡_};
 ghost use Prim.Native.Nat.{_*_, _<_, _≤_};
 ghost use lib.ListN.{length, set, take};
+ghost use Rattle.value.specs.Limits.{most-tokens, most-names};
 ghost use Rattle.value.specs.Worked.{truth};
 ghost use Rattle.cell_meaning.specs.Evaluation.{in-field};
 ghost use Rattle.cell_meaning.specs.Contracts.Stands.{first-clause};
@@ -18,6 +19,9 @@ use cell_operands::table::place_at;
 use cell_operands::table::word_at;
 use token::kind;
 use value::Value;
+use value::limits::LEAF_WORDS;
+use value::limits::MOST_NAMES;
+use value::limits::MOST_OPEN;
 
 // Whether a value counts as true: it is not 0.
 pub fn is_true(v: Value) -> bool
@@ -27,8 +31,8 @@ pub fn is_true(v: Value) -> bool
 }
 
 // Stores a variable's value, if there are so many slots.
-fn put_variable(vars: &mut [i32; 256], slots: usize, which: usize, v: Value)
-    requires { ⌜ slots ≤ 256 ⌝ }
+fn put_variable(vars: &mut [i32; MOST_NAMES], slots: usize, which: usize, v: Value)
+    requires { ⌜ slots ≤ most-names ⌝ }
     ensures { λ r. ⌜ take slots (now (vars .exit)) ≡ set (take slots (now (vars .entry))) which (v .n) ⌝ }
 {
     if which < slots {
@@ -49,17 +53,17 @@ fn put_field(next: &mut [i32], which: usize, v: Value)
 
 // Whether a value is in the range of a field; that of no field is 0 alone.
 fn fits_field(
-    leaves: &[u32; 32776],
+    leaves: &[u32; LEAF_WORDS],
     words: &[u32],
     sizes: &[u32],
-    place: &[u32],
+    point: &[u32],
     grid: &[i32],
     site: Site,
     depth: usize,
     which: usize,
     v: Value,
 ) -> bool
-    requires { ⌜ SiteReady (now leaves) (now words) (now sizes) (now place) (now grid) site depth ⌝ }
+    requires { ⌜ SiteReady (now leaves) (now words) (now sizes) (now point) (now grid) site depth ⌝ }
     ensures { λ r. ⌜ r ≡ in-field (field-range (env-of (now (words .entry)) (now (sizes .entry)) (now (grid .entry)) site) which) (v .n) ⌝ }
 {
     if which < site.fields {
@@ -73,12 +77,12 @@ fn fits_field(
 
 // Stores a value in the target of the assignment at a position; `here` is the position of the `:=` before the value.
 fn put(
-    leaves: &[u32; 32776],
+    leaves: &[u32; LEAF_WORDS],
     words: &[u32],
     sizes: &[u32],
-    place: &[u32],
+    point: &[u32],
     grid: &[i32],
-    vars: &mut [i32; 256],
+    vars: &mut [i32; MOST_NAMES],
     next: &mut [i32],
     site: Site,
     depth: usize,
@@ -86,13 +90,13 @@ fn put(
     here: usize,
     v: Value,
 ) -> Going
-    requires { ⌜ SiteReady (now leaves) (now words) (now sizes) (now place) (now grid) site depth ⌝ }
+    requires { ⌜ SiteReady (now leaves) (now words) (now sizes) (now point) (now grid) site depth ⌝ }
     ensures { λ r. ⌜ Stores (site-table (now (words .entry)) (now (sizes .entry)) site) (env-of (now (words .entry)) (now (sizes .entry)) (now (grid .entry)) site) at here (v .n) (take (site .slots) (now (vars .entry))) (now (next .entry)) (take (site .slots) (now (vars .exit))) (now (next .exit)) r ⌝ }
 {
     let n = site.tokens;
     let which = word_at(words, n, 2, at) as usize;
     if word_at(words, n, 0, at) == kind::CELL {
-        if fits_field(leaves, words, sizes, place, grid, site, depth, which, v) {
+        if fits_field(leaves, words, sizes, point, grid, site, depth, which, v) {
             put_field(next, which, v);
             return Going::On;
         }
@@ -104,25 +108,25 @@ fn put(
 
 // The expression at a position: in one loop where that can be, else by every way that an expression can go.
 fn long(
-    leaves: &[u32; 32776],
+    leaves: &[u32; LEAF_WORDS],
     words: &[u32],
     sizes: &[u32],
-    place: &[u32],
+    point: &[u32],
     grid: &[i32],
-    vars: &[i32; 256],
-    index: &[i32; 16],
+    vars: &[i32; MOST_NAMES],
+    index: &[i32; MOST_OPEN],
     site: Site,
     depth: usize,
     at: usize,
 ) -> Told
-    requires { ⌜ SiteReady (now leaves) (now words) (now sizes) (now place) (now grid) site depth × (at ≤ site .tokens) ⌝ }
+    requires { ⌜ SiteReady (now leaves) (now words) (now sizes) (now point) (now grid) site depth × (at ≤ site .tokens) ⌝ }
     ensures { λ r. ⌜ EvalsExpression (site-table (now (words .entry)) (now (sizes .entry)) site) (env-of (now (words .entry)) (now (sizes .entry)) (now (grid .entry)) site) (take (site .slots) (now (vars .entry))) (take depth (now (index .entry))) (site .tokens) at 1 r ⌝ }
 {
     let short = quick(
         leaves,
         words,
         sizes,
-        place,
+        point,
         grid,
         vars,
         index,
@@ -136,7 +140,7 @@ fn long(
             leaves,
             words,
             sizes,
-            place,
+            point,
             grid,
             vars,
             index,
@@ -152,18 +156,18 @@ fn long(
 // The expression at a position, of which a first answer may be known already.
 pub fn settled(
     first: Told,
-    leaves: &[u32; 32776],
+    leaves: &[u32; LEAF_WORDS],
     words: &[u32],
     sizes: &[u32],
-    place: &[u32],
+    point: &[u32],
     grid: &[i32],
-    vars: &[i32; 256],
-    index: &[i32; 16],
+    vars: &[i32; MOST_NAMES],
+    index: &[i32; MOST_OPEN],
     site: Site,
     depth: usize,
     at: usize,
 ) -> Told
-    requires { ⌜ SiteReady (now leaves) (now words) (now sizes) (now place) (now grid) site depth × (at ≤ site .tokens) × Quick (site-table (now words) (now sizes) site) (env-of (now words) (now sizes) (now grid) site) (take (site .slots) (now vars)) (take depth (now index)) (site .tokens) at 1 first ⌝ }
+    requires { ⌜ SiteReady (now leaves) (now words) (now sizes) (now point) (now grid) site depth × (at ≤ site .tokens) × Quick (site-table (now words) (now sizes) site) (env-of (now words) (now sizes) (now grid) site) (take (site .slots) (now vars)) (take depth (now index)) (site .tokens) at 1 first ⌝ }
     ensures { λ r. ⌜ EvalsExpression (site-table (now (words .entry)) (now (sizes .entry)) site) (env-of (now (words .entry)) (now (sizes .entry)) (now (grid .entry)) site) (take (site .slots) (now (vars .entry))) (take depth (now (index .entry))) (site .tokens) at 1 r ⌝ }
 {
     let Told::Found(v, next) = first else {
@@ -171,7 +175,7 @@ pub fn settled(
             leaves,
             words,
             sizes,
-            place,
+            point,
             grid,
             vars,
             index,
@@ -185,20 +189,20 @@ pub fn settled(
 
 // The clause at a `:=`, for the assignment at a position: its expression is worked out and stored.
 fn assign_one(
-    leaves: &[u32; 32776],
+    leaves: &[u32; LEAF_WORDS],
     words: &[u32],
     sizes: &[u32],
-    place: &[u32],
+    point: &[u32],
     grid: &[i32],
-    vars: &mut [i32; 256],
-    index: &[i32; 16],
+    vars: &mut [i32; MOST_NAMES],
+    index: &[i32; MOST_OPEN],
     next: &mut [i32],
     site: Site,
     depth: usize,
     at: usize,
     here: usize,
 ) -> Going
-    requires { ⌜ SiteReady (now leaves) (now words) (now sizes) (now place) (now grid) site depth × (here < site .tokens) ⌝ }
+    requires { ⌜ SiteReady (now leaves) (now words) (now sizes) (now point) (now grid) site depth × (here < site .tokens) ⌝ }
     ensures { λ r. ⌜ AssignsOne (site-table (now (words .entry)) (now (sizes .entry)) site) (env-of (now (words .entry)) (now (sizes .entry)) (now (grid .entry)) site) (take depth (now (index .entry))) at here (take (site .slots) (now (vars .entry))) (now (next .entry)) (take (site .slots) (now (vars .exit))) (now (next .exit)) r ⌝ }
 {
     let from = here + 1;
@@ -206,7 +210,7 @@ fn assign_one(
         leaves,
         words,
         sizes,
-        place,
+        point,
         grid,
         vars,
         index,
@@ -219,7 +223,7 @@ fn assign_one(
         leaves,
         words,
         sizes,
-        place,
+        point,
         grid,
         vars,
         index,
@@ -232,7 +236,7 @@ fn assign_one(
             leaves,
             words,
             sizes,
-            place,
+            point,
             grid,
             vars,
             next,
@@ -255,18 +259,18 @@ pub enum Verdict {
 
 // The condition of the clause at a `:=`; a clause without one is chosen.
 fn guard(
-    leaves: &[u32; 32776],
+    leaves: &[u32; LEAF_WORDS],
     words: &[u32],
     sizes: &[u32],
-    place: &[u32],
+    point: &[u32],
     grid: &[i32],
-    vars: &[i32; 256],
-    index: &[i32; 16],
+    vars: &[i32; MOST_NAMES],
+    index: &[i32; MOST_OPEN],
     site: Site,
     depth: usize,
     here: usize,
 ) -> Verdict
-    requires { ⌜ SiteReady (now leaves) (now words) (now sizes) (now place) (now grid) site depth × (here < site .tokens) ⌝ }
+    requires { ⌜ SiteReady (now leaves) (now words) (now sizes) (now point) (now grid) site depth × (here < site .tokens) ⌝ }
     ensures { λ r. ⌜ Guards (site-table (now (words .entry)) (now (sizes .entry)) site) (env-of (now (words .entry)) (now (sizes .entry)) (now (grid .entry)) site) (take depth (now (index .entry))) here (take (site .slots) (now (vars .entry))) r ⌝ }
 {
     let n = site.tokens;
@@ -278,7 +282,7 @@ fn guard(
         leaves,
         words,
         sizes,
-        place,
+        point,
         grid,
         vars,
         index,
@@ -291,7 +295,7 @@ fn guard(
         leaves,
         words,
         sizes,
-        place,
+        point,
         grid,
         vars,
         index,
@@ -312,7 +316,7 @@ fn guard(
 
 // The position of the first `:=` of the assignment at a position.
 fn clause_of(words: &[u32], sizes: &[u32], site: Site, at: usize) -> usize
-    requires { ⌜ (4 * site .tokens ≤ length (now words)) × (site .tokens ≤ 4096) × (at ≤ 4096) ⌝ }
+    requires { ⌜ (4 * site .tokens ≤ length (now words)) × (site .tokens ≤ most-tokens) × (at ≤ most-tokens) ⌝ }
     ensures { λ r. ⌜ r ≡ first-clause (site-table (now (words .entry)) (now (sizes .entry)) site) at ⌝ }
 {
     if word_at(words, site.tokens, 0, at + 1) == kind::DOT {
@@ -323,19 +327,19 @@ fn clause_of(words: &[u32], sizes: &[u32], site: Site, at: usize) -> usize
 
 // The assignment at a position.
 pub fn assignment(
-    leaves: &[u32; 32776],
+    leaves: &[u32; LEAF_WORDS],
     words: &[u32],
     sizes: &[u32],
-    place: &[u32],
+    point: &[u32],
     grid: &[i32],
-    vars: &mut [i32; 256],
-    index: &[i32; 16],
+    vars: &mut [i32; MOST_NAMES],
+    index: &[i32; MOST_OPEN],
     next: &mut [i32],
     site: Site,
     depth: usize,
     at: usize,
 ) -> Going
-    requires { ⌜ SiteReady (now leaves) (now words) (now sizes) (now place) (now grid) site depth × (at < site .tokens) ⌝ }
+    requires { ⌜ SiteReady (now leaves) (now words) (now sizes) (now point) (now grid) site depth × (at < site .tokens) ⌝ }
     ensures { λ r. ⌜ Assigns (site-table (now (words .entry)) (now (sizes .entry)) site) (env-of (now (words .entry)) (now (sizes .entry)) (now (grid .entry)) site) (take depth (now (index .entry))) at (take (site .slots) (now (vars .entry))) (now (next .entry)) (take (site .slots) (now (vars .exit))) (now (next .exit)) r ⌝ }
 {
     let n = site.tokens;
@@ -345,7 +349,7 @@ pub fn assignment(
             leaves,
             words,
             sizes,
-            place,
+            point,
             grid,
             vars,
             index,
@@ -359,7 +363,7 @@ pub fn assignment(
                     leaves,
                     words,
                     sizes,
-                    place,
+                    point,
                     grid,
                     vars,
                     index,

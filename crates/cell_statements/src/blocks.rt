@@ -3,6 +3,7 @@ ghost use mathlib.Core.Path.{_≡_};
 ghost use Prim.Native.Nat.{_<_, _≤_};
 ghost use lib.ListN.{length, set, take};
 ghost use lib.IntN.{pos, _+ℤ_};
+ghost use Rattle.value.specs.Limits.{most-turns};
 ghost use Rattle.value.specs.Worked.{span-of};
 ghost use Rattle.token.specs.Kind.{keyword};
 ghost use Rattle.cell_meaning.specs.Links.{begins};
@@ -19,6 +20,10 @@ use cell_operands::table::link_at;
 use cell_operands::table::word_at;
 use token::kind;
 use value::Value;
+use value::limits::LEAF_WORDS;
+use value::limits::MOST_NAMES;
+use value::limits::MOST_OPEN;
+use value::limits::MOST_TURNS;
 
 // Whether a token of this kind begins a statement.
 pub fn begins(kind: u32) -> bool
@@ -44,7 +49,7 @@ pub fn begins(kind: u32) -> bool
 
 // Sets the index variable of the loop at a depth to the k-th value of its range.
 fn set_index(index: &mut [i32], depth: usize, low: Value, high: Value, k: u64)
-    requires { ⌜ (depth < length (now index)) × (k < span-of (low .n) (high .n)) × (k < 4096) ⌝ }
+    requires { ⌜ (depth < length (now index)) × (k < span-of (low .n) (high .n)) × (k < most-turns) ⌝ }
     ensures { λ r. ⌜ (now (index .exit) ≡ set (now (index .entry)) depth (low .n +ℤ pos k)) × (depth < length (now (index .entry))) ⌝ }
 {
     let v = low.offset(k as u32);
@@ -61,18 +66,18 @@ pub enum Chosen {
 
 // The choice at an `if`: its arms are tried in order.
 fn choose(
-    leaves: &[u32; 32776],
+    leaves: &[u32; LEAF_WORDS],
     words: &[u32],
     sizes: &[u32],
-    place: &[u32],
+    point: &[u32],
     grid: &[i32],
-    vars: &[i32; 256],
-    index: &[i32; 16],
+    vars: &[i32; MOST_NAMES],
+    index: &[i32; MOST_OPEN],
     site: Site,
     depth: usize,
     at: usize,
 ) -> Chosen
-    requires { ⌜ SiteReady (now leaves) (now words) (now sizes) (now place) (now grid) site depth × (at < site .tokens) ⌝ }
+    requires { ⌜ SiteReady (now leaves) (now words) (now sizes) (now point) (now grid) site depth × (at < site .tokens) ⌝ }
     ensures { λ r. ⌜ Chooses (site-table (now (words .entry)) (now (sizes .entry)) site) (env-of (now (words .entry)) (now (sizes .entry)) (now (grid .entry)) site) (take depth (now (index .entry))) depth (site .tokens) at (take (site .slots) (now (vars .entry))) r ⌝ }
 {
     let n = site.tokens;
@@ -83,7 +88,7 @@ fn choose(
             leaves,
             words,
             sizes,
-            place,
+            point,
             grid,
             vars,
             index,
@@ -96,7 +101,7 @@ fn choose(
             leaves,
             words,
             sizes,
-            place,
+            point,
             grid,
             vars,
             index,
@@ -131,23 +136,23 @@ fn choose(
 
 // The statements from a position on, to the end of their list. At an `if`, the position after it is kept on a stack, and the statements that are chosen come next; where the stack is full, they are run by a call.
 pub fn block(
-    leaves: &[u32; 32776],
+    leaves: &[u32; LEAF_WORDS],
     words: &[u32],
     sizes: &[u32],
-    place: &[u32],
+    point: &[u32],
     grid: &[i32],
-    vars: &mut [i32; 256],
-    index: &mut [i32; 16],
+    vars: &mut [i32; MOST_NAMES],
+    index: &mut [i32; MOST_OPEN],
     next: &mut [i32],
     site: Site,
     depth: usize,
     at: usize,
 ) -> Going
-    requires { ⌜ SiteReady (now leaves) (now words) (now sizes) (now place) (now grid) site depth × (at ≤ site .tokens) ⌝ }
+    requires { ⌜ SiteReady (now leaves) (now words) (now sizes) (now point) (now grid) site depth × (at ≤ site .tokens) ⌝ }
     ensures { λ r. ⌜ RunsBlock (site-table (now (words .entry)) (now (sizes .entry)) site) (env-of (now (words .entry)) (now (sizes .entry)) (now (grid .entry)) site) depth at (take (site .slots) (now (vars .entry))) (now (next .entry)) (now (index .entry)) (take (site .slots) (now (vars .exit))) (now (next .exit)) (now (index .exit)) r ⌝ }
 {
     let n = site.tokens;
-    let mut ends = [0u32; 16];
+    let mut ends = [0u32; MOST_OPEN];
     let mut top: usize = 0;
     let mut here = at;
     loop {
@@ -158,7 +163,7 @@ pub fn block(
                 leaves,
                 words,
                 sizes,
-                place,
+                point,
                 grid,
                 vars,
                 index,
@@ -168,7 +173,7 @@ pub fn block(
             );
             match chosen {
                 Chosen::List(m) => {
-                    if top < 16 {
+                    if top < MOST_OPEN {
                         ends[top] = past as u32;
                         top += 1;
                         here = m;
@@ -181,7 +186,7 @@ pub fn block(
                             leaves,
                             table,
                             sizes,
-                            place,
+                            point,
                             old,
                             vars,
                             index,
@@ -208,7 +213,7 @@ pub fn block(
                 leaves,
                 words,
                 sizes,
-                place,
+                point,
                 grid,
                 vars,
                 index,
@@ -233,19 +238,19 @@ pub fn block(
 
 // The statement at a position, whose kind begins one, but for `if`.
 fn statement(
-    leaves: &[u32; 32776],
+    leaves: &[u32; LEAF_WORDS],
     words: &[u32],
     sizes: &[u32],
-    place: &[u32],
+    point: &[u32],
     grid: &[i32],
-    vars: &mut [i32; 256],
-    index: &mut [i32; 16],
+    vars: &mut [i32; MOST_NAMES],
+    index: &mut [i32; MOST_OPEN],
     next: &mut [i32],
     site: Site,
     depth: usize,
     at: usize,
 ) -> Going
-    requires { ⌜ SiteReady (now leaves) (now words) (now sizes) (now place) (now grid) site depth × (at < site .tokens) × (site-table (now words) (now sizes) site .kind at ≡ keyword .if → ⊥) ⌝ }
+    requires { ⌜ SiteReady (now leaves) (now words) (now sizes) (now point) (now grid) site depth × (at < site .tokens) × (site-table (now words) (now sizes) site .kind at ≡ keyword .if → ⊥) ⌝ }
     ensures { λ r. ⌜ RunsStatement (site-table (now (words .entry)) (now (sizes .entry)) site) (env-of (now (words .entry)) (now (sizes .entry)) (now (grid .entry)) site) depth at (take (site .slots) (now (vars .entry))) (now (next .entry)) (now (index .entry)) (take (site .slots) (now (vars .exit))) (now (next .exit)) (now (index .exit)) r ⌝ }
 {
     let kind = word_at(words, site.tokens, 0, at);
@@ -254,7 +259,7 @@ fn statement(
             leaves,
             words,
             sizes,
-            place,
+            point,
             grid,
             vars,
             index,
@@ -274,7 +279,7 @@ fn statement(
         leaves,
         words,
         sizes,
-        place,
+        point,
         grid,
         vars,
         index,
@@ -287,22 +292,22 @@ fn statement(
 
 // The loop at a `forall`.
 fn forall(
-    leaves: &[u32; 32776],
+    leaves: &[u32; LEAF_WORDS],
     words: &[u32],
     sizes: &[u32],
-    place: &[u32],
+    point: &[u32],
     grid: &[i32],
-    vars: &mut [i32; 256],
-    index: &mut [i32; 16],
+    vars: &mut [i32; MOST_NAMES],
+    index: &mut [i32; MOST_OPEN],
     next: &mut [i32],
     site: Site,
     depth: usize,
     at: usize,
 ) -> Going
-    requires { ⌜ SiteReady (now leaves) (now words) (now sizes) (now place) (now grid) site depth × (at < site .tokens) ⌝ }
+    requires { ⌜ SiteReady (now leaves) (now words) (now sizes) (now point) (now grid) site depth × (at < site .tokens) ⌝ }
     ensures { λ r. ⌜ RunsLoop (site-table (now (words .entry)) (now (sizes .entry)) site) (env-of (now (words .entry)) (now (sizes .entry)) (now (grid .entry)) site) depth at (take (site .slots) (now (vars .entry))) (now (next .entry)) (now (index .entry)) (take (site .slots) (now (vars .exit))) (now (next .exit)) (now (index .exit)) r ⌝ }
 {
-    if 16 <= depth {
+    if MOST_OPEN <= depth {
         return Going::On;
     }
     let n = site.tokens;
@@ -310,7 +315,7 @@ fn forall(
     let high = Value::decode(word_at(words, n, 3, at + 1));
     let body = link_at(words, n, 2, at);
     let count = low.span(high);
-    if 4096 < count {
+    if MOST_TURNS < count {
         return Going::On;
     }
     let mut k: u64 = 0;
@@ -324,7 +329,7 @@ fn forall(
             leaves,
             table,
             sizes,
-            place,
+            point,
             old,
             vars,
             index,

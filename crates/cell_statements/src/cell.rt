@@ -8,8 +8,11 @@ ghost use Rattle.cell_statements.specs.Contracts.Running.{Fit, Evaluates
 use crate::Going;
 use crate::Outcome;
 use crate::blocks::block;
-use cell_meaning::Rule;
 use cell_operands::Site;
+use program::Rule;
+use value::limits::LEAF_WORDS;
+use value::limits::MOST_NAMES;
+use value::limits::MOST_OPEN;
 
 // Sets the first variables to 0.
 fn clear(vars: &mut [i32], slots: usize)
@@ -39,21 +42,21 @@ fn copy_fields(grid: &[i32], cell: usize, next: &mut [i32])
 }
 
 // Evaluates a cell, by the rule that stands in the table: its next fields are in `next`, unless there is a fault. Variables start at 0.
-// `sizes` are those of the grid, `place` the cell's coordinates, `cell` its number.
+// `sizes` are those of the grid, `point` the cell's coordinates, `cell` its number.
 pub fn evaluate_cell(
-    leaves: &[u32; 32776],
+    leaves: &[u32; LEAF_WORDS],
     words: &[u32],
     rule: Rule,
     sizes: &[u32],
-    place: &[u32],
+    point: &[u32],
     cell: usize,
     grid: &[i32],
     next: &mut [i32],
-    vars: &mut [i32; 256],
-    index: &mut [i32; 16],
+    vars: &mut [i32; MOST_NAMES],
+    index: &mut [i32; MOST_OPEN],
     time: u32,
 ) -> Outcome
-    requires { ⌜ Fit (now leaves) (now words) rule (now sizes) (now place) cell (now grid) (length (now next)) time ⌝ }
+    requires { ⌜ Fit (now leaves) (now words) rule (now sizes) (now point) cell (now grid) (length (now next)) time ⌝ }
     ensures { λ r. ⌜ Evaluates (now (words .entry)) rule (now (sizes .entry)) cell (now (grid .entry)) (now (next .exit)) time r ⌝ }
 {
     let slots = rule.slots as usize;
@@ -72,7 +75,7 @@ pub fn evaluate_cell(
         leaves,
         words,
         sizes,
-        place,
+        point,
         grid,
         vars,
         index,

@@ -8,6 +8,7 @@ use lib.Dec.{eqb, ltb}
 use lib.IntN.{ℤ, pos}
 use lib.ListN.{length, take, drop, replicate, length-replicate}
 use borrow.Author.Tests.{eq-eqb, ne-eqb, eqb-true, lt-ltb, le-ltb, not-true, not-false}
+use Rattle.value.proofs.Theorems.Truth.{and-false}
 use Rattle.value.specs.Limits.{most-bytes, table-words, most-names, name-words}
 use Rattle.value.specs.Choice.{if_then_else_}
 use Rattle.value.proofs.Theorems.Laws.{never}
@@ -70,10 +71,6 @@ stored-few source words = few-of (eqb words table-words && not (ltb most-bytes s
 pub rows-fit-flat : (words : ℕ) → rows-fit words 256 ≡ rooms-fit words 1024
 unfolding rows-fit rooms-fit
 rows-fit-flat words = refl
-
-and-false : (t : Bool) → (t && false) ≡ false
-and-false true = refl
-and-false false = refl
 
 -- the test of list and row
 module _ (list : List ℕ) (names : ℕ) {t : Bool} (e : t ≡ is-built-in list) where

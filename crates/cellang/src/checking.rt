@@ -13,11 +13,13 @@ use api_records::Name;
 use api_records::rows::rows_of;
 use api_records::rows::store_first;
 use read_source::Reply;
+use value::limits::MOST_NAMES;
+use value::limits::NAME_WORDS;
 
 // What a check returns: the reply, the records, and how many of them are stored.
 pub struct Answer {
     pub reply: Reply,
-    pub rows: [Name; 256],
+    pub rows: [Name; MOST_NAMES],
     pub count: usize,
 }
 
@@ -25,7 +27,7 @@ pub struct Answer {
 fn checked(source: &[u8], list: &[u8], words: &mut [u32], names: usize) -> Answer
     ensures { λ r. ⌜ ChecksOver (lent-rows-fit (now (list .entry)) (length (now (words .entry))) names) (now (source .entry)) (now (words .entry)) names r (now (words .exit)) ⌝ }
 {
-    let mut flat = [0u32; 1024];
+    let mut flat = [0u32; NAME_WORDS];
     if !row_fits(list, names) {
         return Answer {
             reply: Reply {

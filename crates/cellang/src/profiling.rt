@@ -12,11 +12,13 @@ use api_records::Name;
 use api_records::rows::rows_of;
 use api_records::rows::store_first;
 use move_profile::Profile;
+use value::limits::MOST_NAMES;
+use value::limits::NAME_WORDS;
 
 // What the call returns: the answer, the records, and how many of them are stored.
 pub struct ProfileAnswer {
     pub profile: Profile,
-    pub rows: [Name; 256],
+    pub rows: [Name; MOST_NAMES],
     pub count: usize,
 }
 
@@ -24,7 +26,7 @@ pub struct ProfileAnswer {
 fn profiled(source: &[u8], list: &[u8], words: &mut [u32], names: usize) -> ProfileAnswer
     ensures { λ r. ⌜ ProfilesOver (lent-rows-fit (now (list .entry)) (length (now (words .entry))) names) (now (source .entry)) (now (words .entry)) names r (now (words .exit)) ⌝ }
 {
-    let mut flat = [0u32; 1024];
+    let mut flat = [0u32; NAME_WORDS];
     if !row_fits(list, names) {
         return ProfileAnswer {
             profile: Profile {

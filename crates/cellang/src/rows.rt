@@ -2,6 +2,9 @@
 ghost use mathlib.Core.Path.{_≡_};
 ghost use Rattle.cellang.specs.Storing.{row-fits, stored-of};
 use spelling::is_built_in;
+use value::limits::MOST_BYTES;
+use value::limits::MOST_NAMES;
+use value::limits::TABLE_WORDS;
 
 // Whether the built-in list is passed, and a row of 256 records. `names` is the length of the row.
 pub fn row_fits(list: &[u8], names: usize) -> bool
@@ -10,18 +13,18 @@ pub fn row_fits(list: &[u8], names: usize) -> bool
     if !is_built_in(list) {
         return false;
     }
-    names == 256
+    names == MOST_NAMES
 }
 
 // How many records reading a source stores, where there is room for 256: none if it is turned away. `source` and `words` are the lengths of these.
 pub fn stored(source: usize, words: usize) -> usize
     ensures { λ r. ⌜ r ≡ stored-of source words ⌝ }
 {
-    if words != 16384 {
+    if words != TABLE_WORDS {
         return 0;
     }
-    if 65535 < source {
+    if MOST_BYTES < source {
         return 0;
     }
-    256
+    MOST_NAMES
 }

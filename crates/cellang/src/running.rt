@@ -16,11 +16,13 @@ use api_records::rows::rows_of;
 use api_records::rows::store_first;
 use run_steps::Manner;
 use run_steps::Report;
+use value::limits::MOST_NAMES;
+use value::limits::NAME_WORDS;
 
 // What a run returns: the report, the records, and how many of them are stored.
 pub struct RunAnswer {
     pub report: Report,
-    pub rows: [Name; 256],
+    pub rows: [Name; MOST_NAMES],
     pub count: usize,
 }
 
@@ -28,7 +30,7 @@ pub struct RunAnswer {
 fn turned_away() -> RunAnswer
     ensures { λ r. ⌜ TurnedAway r ⌝ }
 {
-    let flat = [0u32; 1024];
+    let flat = [0u32; NAME_WORDS];
     let rows = rows_of(&flat);
     let report = Report {
         number: 1,
@@ -68,7 +70,7 @@ fn ran(
     if !row_fits(list, names) {
         return turned_away();
     }
-    let mut flat = [0u32; 1024];
+    let mut flat = [0u32; NAME_WORDS];
     let count = stored(source.len(), words.len());
     let report = run_source::run(
         source,

@@ -12,11 +12,13 @@ use api_records::Name;
 use api_records::rows::rows_of;
 use api_records::rows::store_first;
 use list_writer::Written;
+use value::limits::MOST_NAMES;
+use value::limits::NAME_WORDS;
 
 // What the writer returns: its numbers, the records, and how many of them are stored.
 pub struct WriteAnswer {
     pub written: Written,
-    pub rows: [Name; 256],
+    pub rows: [Name; MOST_NAMES],
     pub count: usize,
 }
 
@@ -24,7 +26,7 @@ pub struct WriteAnswer {
 fn nothing_written() -> WriteAnswer
     ensures { λ r. ⌜ NothingWritten r ⌝ }
 {
-    let flat = [0u32; 1024];
+    let flat = [0u32; NAME_WORDS];
     let rows = rows_of(&flat);
     let written = Written {
         number: 1,
@@ -55,7 +57,7 @@ fn wrote(
     if !row_fits(list, names) {
         return nothing_written();
     }
-    let mut flat = [0u32; 1024];
+    let mut flat = [0u32; NAME_WORDS];
     let count = stored(source.len(), words.len());
     let written = list_writer::write_list(
         source,

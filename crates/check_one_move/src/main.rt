@@ -2,6 +2,8 @@
 // misses, for example `misses rule 1: refused 8 at 26`.
 use libc::STDIN_FILENO;
 use libc::STDOUT_FILENO;
+use value::limits::NAME_WORDS;
+use value::limits::TABLE_WORDS;
 
 // Writes the line of check_rule for a source that is refused.
 fn tell_refused(number: u32, place: u32) {
@@ -39,8 +41,8 @@ fn tell(rule: u32, number: u32, place: u32) {
 fn main() {
     let mut source = io::large_buffer();
     let n = io::read_full(STDIN_FILENO, &mut source);
-    let mut words = [0u32; 16384];
-    let mut names = [0u32; 1024];
+    let mut words = [0u32; TABLE_WORDS];
+    let mut names = [0u32; NAME_WORDS];
     let list = spelling::BUILT_IN;
     let answer = move_profile::check_one_move(&source[..n], &list, &mut words, &mut names);
     tell(answer.rule, answer.number, answer.place);

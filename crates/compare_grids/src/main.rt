@@ -13,6 +13,7 @@ use tool_console::shapes;
 use tool_console::texts::argument;
 use tool_console::texts::complain;
 use tool_console::texts::is_word;
+use value::limits::MOST_DIMS;
 
 // Whether all arguments are there and none is over. If not, how to call the program is said.
 fn all_there() -> bool {
@@ -88,7 +89,7 @@ fn main() {
     if !are_apart() {
         return;
     }
-    let mut sizes = [0u32; 3];
+    let mut sizes = [0u32; MOST_DIMS];
     if os::arg_count() == 3 {
         compare_in_shape(&sizes[..0]);
         return;

@@ -9,6 +9,7 @@ use Rattle.value.specs.Number.{within}
 use Rattle.value.specs.Worked.{decode-of, encode-of, opposite-of, span-of}
 use Rattle.token.specs.declared.Token.{Token}
 use Rattle.token.specs.Kind.{kind, keyword, operation, delimiter}
+use Rattle.names.specs.declared.Entry.{Entry}
 use Rattle.names.specs.Names.{name-kind, is}
 use Rattle.program.specs.Syntax.{Range, range}
 use Rattle.grammar.specs.Reader.{Reader, _>>=_, _>>_, _▷_, return, unit, nothing, Turn, again, done, repeat, turns, refuse, refuse-last, note, is-kind, next-token, position, advance, put, put-both, expect, opening, is-name, by-name, entry-in, declare, fresh-name, use-name}
@@ -18,11 +19,14 @@ use Rattle.grammar.specs.Reader.{Reader, _>>=_, _>>_, _▷_, return, uni
 unfoldable pub is-sign : Token → Bool
 is-sign t = is-kind t (operation .plus) || is-kind t (operation .minus)
 
+abbrev pub constant-of : Entry → ℤ
+constant-of e = decode-of (e .word)
+
 -- over the name in a slot, which must be that of a simple constant; its value
 unfoldable pub named-constant : ℕ → Reader ℤ
 named-constant slot =
     entry-in slot >>= λ e.
-    if is e (name-kind .constant) then use-name slot >> return (decode-of (e .word))
+    if is e (name-kind .constant) then use-name slot >> return (constant-of e)
     else refuse 8
 
 -- a constant: a literal, or the name of a simple constant
@@ -83,13 +87,13 @@ read-size = read-constant >>= λ z. if within (pos 1) (pos most-elements) z then
 
 -- from the `[` behind the name up to the size
 unfoldable pub array-head : Bool → Reader ℤ
-array-head room = do opening room; expect (delimiter .unbracket); expect (keyword .for); read-size
+array-head free = do opening free; expect (delimiter .unbracket); expect (keyword .for); read-size
 
 -- from the `[` behind the name, which stands at position i, on. The size and the list's position are noted at the name; until the source
 -- is read, the record's value is i
 unfoldable pub array-constant : Bool → ℕ → Reader Unit
-array-constant room i = do
-  z ← array-head room
+array-constant free i = do
+  z ← array-head free
   expect (delimiter .assign)
   first ← position
   read-values (encode-of z) first
@@ -103,15 +107,15 @@ simple-constant i = do advance; z ← read-signed; declare i (name-kind .constan
 
 -- what stands behind the name of a constant
 unfoldable pub constant-value : Bool → ℕ → Reader Unit
-constant-value room i =
+constant-value free i =
     next-token >>= λ t.
     if is-kind t (delimiter .assign) then simple-constant i
-    else if is-kind t (delimiter .bracket) then array-constant room i
+    else if is-kind t (delimiter .bracket) then array-constant free i
     else refuse 7
 
 -- a declaration, from `const` on. The name holds from the declaration's end on, and this position is noted at `const`
 unfoldable pub read-declaration : Bool → Reader Unit
-read-declaration room = do c ← position; advance; i ← fresh-name; constant-value room i; past ← position; put c 3 past
+read-declaration free = do c ← position; advance; i ← fresh-name; constant-value free i; past ← position; put c 3 past
 
 -- one more declaration, if there is one
 unfoldable pub constants-turn : Unit {0} → Reader (Turn Unit Unit)

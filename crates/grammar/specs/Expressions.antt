@@ -13,8 +13,8 @@ use Rattle.names.specs.declared.Entry.{Entry}
 use Rattle.names.specs.Names.{name-kind, is}
 use Rattle.program.specs.Syntax.{Index, fixed, moving, Expr, number, time, variable, index, field, element, unary, binary}
 use Rattle.program.specs.Table.{word-at}
-use Rattle.grammar.specs.Reader.{Reader, _>>=_, _>>_, _<<_, _▷_, return, Turn, again, done, repeat, turns, get-state, refuse, note, is-kind, next-token, position, advance, put, put-both, expect, expect-or, forbid, opening, is-name, by-name, entry-in, use-name}
-use Rattle.grammar.specs.Constants.{is-sign, read-signed}
+use Rattle.grammar.specs.Reader.{Reader, _>>=_, _>>_, _<<_, _▷_, return, Turn, again, done, repeat, turns, get-state, refuse, note, is-kind, next-token, position, advance, put, put-both, expect, expect-or, forbid, opening, is-name, by-name, entry-in, use-name, number-of, depth-of, array-at}
+use Rattle.grammar.specs.Constants.{is-sign, constant-of, read-signed}
 
 -- what the cell declaration says of a cell: how many dimensions there are, and whether its fields are named
 abbrev pub Cell : Type 0
@@ -39,7 +39,7 @@ dot-field = expect-or (delimiter .dot) 6 >> field-name
 
 -- the number of the field in a slot
 unfoldable pub field-number : ℕ → Reader ℕ
-field-number slot = entry-in slot ▷ λ e. e .word
+field-number slot = entry-in slot ▷ λ e. number-of e
 
 -- the number of the field behind `cell` or a relative index: that of `.name` where fields are named, else 0
 unfoldable pub read-field : Cell → Reader Unit → Reader ℕ
@@ -57,8 +57,8 @@ put-field i f = position >>= put-both i f
 unfoldable pub named-index : Token → ℕ → Reader Index
 named-index t slot =
     entry-in slot >>= λ e.
-    if is e (name-kind .index) then (use-name slot ▷ λ _. moving (t .start) (e .word))
-    else if is e (name-kind .constant) then (use-name slot ▷ λ _. fixed (t .start) (decode-of (e .word)))
+    if is e (name-kind .index) then (use-name slot ▷ λ _. moving (t .start) (depth-of e))
+    else if is e (name-kind .constant) then (use-name slot ▷ λ _. fixed (t .start) (constant-of e))
     else refuse 8
 
 -- a signed constant, noted in word 3 of its first token
@@ -90,9 +90,9 @@ read-indices cell = repeat turns (index-turn cell) []
 
 -- a relative index and the field behind it
 unfoldable pub read-neighbour : Cell → Bool → Reader Expr
-read-neighbour cell room = do
+read-neighbour cell free = do
   i ← position
-  opening room
+  opening free
   is ← read-indices cell
   f ← read-field cell (forbid (delimiter .dot) 12)
   put-field i f
@@ -113,53 +113,53 @@ values-from words first (suc n) = decode-of (word-at words first 3) ∷ values-f
 unfoldable pub array-values : List ℕ → ℕ → List ℤ
 array-values words i = values-from words (word-at words i 3) (word-at words i 2)
 
--- an expression between brackets: `room` for one more bracket, `inner` reads the expression, `close` is the closing token's kind
+-- an expression between brackets: `free` says whether one more may be open, `inner` reads the expression, `close` is the closing token's kind
 unfoldable pub read-bracket : Bool → Reader Expr → ℕ → Reader Expr
-read-bracket room inner close = opening room >> inner << expect close
+read-bracket free inner close = opening free >> inner << expect close
 
 -- an array constant's element, from the `[` behind its name on
 unfoldable pub read-element : Bool → Reader Expr → Entry → Reader Expr
-read-element room inner e = do
+read-element free inner e = do
   t ← next-token
   s ← get-state
-  d ← read-bracket room inner (delimiter .unbracket)
+  d ← read-bracket free inner (delimiter .unbracket)
   forbid (delimiter .dot) 12
-  return (element (t .start) (array-values (s .words) (e .word)) d)
+  return (element (t .start) (array-values (s .words) (array-at e)) d)
 
--- behind an array constant's name. Without `[` it counts as a plain number, and 12 is noted
+-- behind an array constant's name. Without `[` it counts as a plain number, no matter which, and 12 is noted
 unfoldable pub array-use : Bool → Reader Expr → Entry → Reader Expr
-array-use room inner e =
+array-use free inner e =
     next-token >>= λ t.
-    if is-kind t (delimiter .bracket) then read-element room inner e
-    else note 12 >> plain >> return (number (decode-of (e .word)))
+    if is-kind t (delimiter .bracket) then read-element free inner e
+    else note 12 >> plain >> return (number (constant-of e))
 
 -- the name in a slot, in an expression
 unfoldable pub name-use : Bool → Reader Expr → ℕ → Reader Expr
-name-use room inner slot =
+name-use free inner slot =
     use-name slot >>= λ e.
-    if is e (name-kind .array) then array-use room inner e
-    else if is e (name-kind .constant) then plain >> return (number (decode-of (e .word)))
-    else if is e (name-kind .variable) then plain >> return (variable (e .word))
-    else plain >> return (index (e .word))
+    if is e (name-kind .array) then array-use free inner e
+    else if is e (name-kind .constant) then plain >> return (number (constant-of e))
+    else if is e (name-kind .variable) then plain >> return (variable (number-of e))
+    else plain >> return (index (depth-of e))
 
 -- a primary: a literal, a bracket, a relative index, `cell`, `time` or a name
 unfoldable pub read-primary : Cell → Bool → Reader Expr → Reader Expr
-read-primary cell room inner =
+read-primary cell free inner =
     next-token >>= λ t.
     if is-kind t (kind .literal) then advance >> return (number (decode-of (t .value)))
-    else if is-kind t (delimiter .paren) then read-bracket room inner (delimiter .unparen)
-    else if is-kind t (delimiter .bracket) then read-neighbour cell room
+    else if is-kind t (delimiter .paren) then read-bracket free inner (delimiter .unparen)
+    else if is-kind t (delimiter .bracket) then read-neighbour cell free
     else if is-kind t (kind .cell) then read-own cell
     else if is-kind t (kind .time) then advance >> plain >> return time
-    else if is-kind t (kind .name) then by-name t false (name-use room inner) (refuse 8)
+    else if is-kind t (kind .name) then by-name t false (name-use free inner) (refuse 8)
     else refuse 7
 
 -- an operand: a primary with at most one unary operator
 unfoldable pub read-operand : Cell → Bool → Reader Expr → Reader Expr
-read-operand cell room inner =
+read-operand cell free inner =
     next-token >>= λ t.
-    if is-sign t || is-kind t (operation .not) then (advance >> read-primary cell room inner ▷ unary (t .kind) (t .start))
-    else read-primary cell room inner
+    if is-sign t || is-kind t (operation .not) then (advance >> read-primary cell free inner ▷ unary (t .kind) (t .start))
+    else read-primary cell free inner
 
 -- ---- operators
 
@@ -197,8 +197,8 @@ levels = 4
 -- an operand, where so many more brackets may be open
 unfoldable pub operand-in : Cell → ℕ → Reader Expr
 operand-in cell zero = read-operand cell false (refuse 14)
-operand-in cell (suc room) = read-operand cell true (λ input s. climb levels (operand-in cell room) 1 input s)
+operand-in cell (suc free) = read-operand cell true (λ input s. climb levels (operand-in cell free) 1 input s)
 
 -- an expression, where so many more brackets may be open
 abbrev pub read-expression : Cell → ℕ → Reader Expr
-read-expression cell room = climb levels (operand-in cell room) 1
+read-expression cell free = climb levels (operand-in cell free) 1

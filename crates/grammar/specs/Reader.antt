@@ -157,7 +157,7 @@ forbid k n = next-token >>= λ t. if is-kind t k then refuse n else nothing
 
 -- over an opening token, where one more may be open, else refused 14
 unfoldable pub opening : Bool → Reader Unit
-opening room = if room then advance else refuse 14
+opening free = if free then advance else refuse 14
 
 -- ---- names
 
@@ -177,6 +177,16 @@ by-name t fields found missing input s =
 -- the name in a slot
 unfoldable pub entry-in : ℕ → Reader Entry
 entry-in slot input s = ok (entry-at (s .names) slot, s)
+
+-- the value of a name's record while reading: the number of a field or a variable, an index's depth, where an array's name is declared
+abbrev pub number-of : Entry → ℕ
+number-of e = e .word
+
+abbrev pub depth-of : Entry → ℕ
+depth-of e = e .word
+
+abbrev pub array-at : Entry → ℕ
+array-at e = e .word
 
 -- a record of kind k with a value's word for the name at a token's position; its slot
 unfoldable pub declare : ℕ → ℕ → ℕ → Reader ℕ

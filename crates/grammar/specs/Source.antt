@@ -17,7 +17,7 @@ use Rattle.names.specs.Names.{name-kind, is, entry-at, with-value}
 use Rattle.program.specs.Syntax.{Range, Block, Program}
 use Rattle.program.specs.Table.{word-at, with-range}
 use Rattle.program.specs.Refusal.{no-refusal}
-use Rattle.grammar.specs.Reader.{Input, State, Result, ok, fail, Reader, _>>=_, _>>_, _▷_, return, Turn, again, done, repeat, turns, refuse-with, refuse, refuse-last, is-kind, next-token, kind-after, position, advance, expect, forbid, is-name, declare, fresh, token-of}
+use Rattle.grammar.specs.Reader.{Input, State, Result, ok, fail, Reader, _>>=_, _>>_, _▷_, return, Turn, again, done, repeat, turns, refuse-with, refuse, refuse-last, is-kind, next-token, kind-after, position, advance, expect, forbid, is-name, declare, fresh, token-of, array-at}
 use Rattle.grammar.specs.Constants.{is-sign, read-constant, any-range, read-constants}
 use Rattle.grammar.specs.Expressions.{Cell}
 use Rattle.grammar.specs.Statements.{read-block}
@@ -94,7 +94,7 @@ has-kind k words (suc n) = has-kind k words n || eqb (word-at words n 0) k
 -- the value of a name after acceptance: of an array constant its size, which the table notes at its name, of a variable 0, else as it was
 unfoldable pub settled-value : List ℕ → Entry → ℕ
 settled-value words e =
-    if is e (name-kind .array) then word-at words (e .word) 2
+    if is e (name-kind .array) then word-at words (array-at e) 2
     else if is e (name-kind .variable) then 0
     else e .word
 

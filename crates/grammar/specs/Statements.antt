@@ -12,7 +12,7 @@ use Rattle.token.specs.declared.Token.{Token}
 use Rattle.token.specs.Kind.{kind, keyword, delimiter}
 use Rattle.names.specs.Names.{name-kind, is, variables-in}
 use Rattle.program.specs.Syntax.{Expr, Target, to-field, to-variable, Clause, Block, empty, assign, select, loop, exit, constant}
-use Rattle.grammar.specs.Reader.{Reader, _>>=_, _>>_, _<<_, _▷_, return, Turn, again, done, repeat, turns, get-state, refuse, refuse-last, is-kind, next-token, position, advance, put, put-both, expect, expect-or, forbid, opening, is-name, by-name, entry-in, declare, release, fresh-name}
+use Rattle.grammar.specs.Reader.{Reader, _>>=_, _>>_, _<<_, _▷_, return, Turn, again, done, repeat, turns, get-state, refuse, refuse-last, is-kind, next-token, position, advance, put, put-both, expect, expect-or, forbid, opening, is-name, by-name, entry-in, declare, release, fresh-name, number-of}
 use Rattle.grammar.specs.Constants.{read-range, read-declaration}
 use Rattle.grammar.specs.Expressions.{Cell, dot-field, read-expression}
 
@@ -20,7 +20,7 @@ use Rattle.grammar.specs.Expressions.{Cell, dot-field, read-expression}
 
 -- over the name in a slot on a left side: it must be a variable; its number among the variables
 unfoldable pub old-variable : ℕ → Reader ℕ
-old-variable slot = entry-in slot >>= λ e. if is e (name-kind .variable) then advance >> return (e .word) else refuse 9
+old-variable slot = entry-in slot >>= λ e. if is e (name-kind .variable) then advance >> return (number-of e) else refuse 9
 
 -- over a new name on a left side, which begins a variable; its number among the variables
 unfoldable pub new-variable : Reader ℕ
@@ -33,7 +33,7 @@ new-variable = do
 
 -- `.name` on a left side: the number of the field, which must not be const
 unfoldable pub named-target : Reader ℕ
-named-target = dot-field >>= λ slot. entry-in slot >>= λ e. if is e (name-kind .const-field) then refuse-last 9 else return (e .word)
+named-target = dot-field >>= λ slot. entry-in slot >>= λ e. if is e (name-kind .const-field) then refuse-last 9 else return (number-of e)
 
 -- `cell` on a left side, with `.name` where fields are named: the field's number
 unfoldable pub field-target : Cell → Reader ℕ
@@ -131,8 +131,8 @@ arm-turn expr block got = do
 
 -- an `if`. The position past it is noted at its first token
 unfoldable pub read-if : Bool → Reader Expr → Reader Block → Reader (Block → Block)
-read-if room expr block =
-    if room then
+read-if free expr block =
+    if free then
     (position >>= λ i.
     repeat turns (arm-turn expr block) [] >>= λ statement.
     position >>= λ past.
@@ -144,9 +144,9 @@ read-if room expr block =
 -- a loop inside so many others. While it is open its index has a record, whose value is the loop's depth. The body's position and the
 -- position past the loop are noted at `forall`, the range at the index's name
 unfoldable pub read-forall : Bool → ℕ → Reader Block → Reader (Block → Block)
-read-forall room depth block = do
+read-forall free depth block = do
   i ← position
-  opening room
+  opening free
   name ← fresh-name
   expect-or (delimiter .colon) 6
   r ← read-range most-turns
@@ -169,7 +169,7 @@ read-exit = do i ← position; advance; put i 3 (i + 1); return exit
 -- what reads the parts of a statement: whether one more `if`, `forall` or bracket may be open; an expression here; an expression and a
 -- list of statements (by the number of open loops) inside an `if` or a `forall`
 abbrev pub Parts : Type 0
-Parts = record { room : Bool; expr : Reader Expr; inner-expr : Reader Expr; inner : ℕ → Reader Block }
+Parts = record { free : Bool; expr : Reader Expr; inner-expr : Reader Expr; inner : ℕ → Reader Block }
 
 -- a statement behind those `before` it
 abbrev pub put-after : (Block → Block) → (Block → Block) → Turn (Block → Block) Block
@@ -181,9 +181,9 @@ unfoldable pub statement-turn : Cell → Parts → ℕ → (Block → Block) →
 statement-turn cell parts loops before =
     next-token >>= λ t.
     if is-name t then (read-assignment cell (parts .expr) ▷ put-after before)
-    else if is-kind t (keyword .const) then (read-declaration (parts .room) ▷ λ _. put-after before constant)
-    else if is-kind t (keyword .if) then (read-if (parts .room) (parts .inner-expr) (parts .inner loops) ▷ put-after before)
-    else if is-kind t (keyword .forall) then (read-forall (parts .room) loops (parts .inner (loops + 1)) ▷ put-after before)
+    else if is-kind t (keyword .const) then (read-declaration (parts .free) ▷ λ _. put-after before constant)
+    else if is-kind t (keyword .if) then (read-if (parts .free) (parts .inner-expr) (parts .inner loops) ▷ put-after before)
+    else if is-kind t (keyword .forall) then (read-forall (parts .free) loops (parts .inner (loops + 1)) ▷ put-after before)
     else if is-kind t (keyword .exit) && ltb 0 loops then (read-exit ▷ put-after before)
     else return (done (before empty))
 
@@ -194,7 +194,7 @@ read-statements cell parts loops = repeat turns (statement-turn cell parts loops
 -- a list of statements, where so many more may be open and so many loops are
 unfoldable pub read-block : Cell → ℕ → ℕ → Reader Block
 read-block cell zero loops =
-    read-statements cell (record { room = false; expr = read-expression cell 0; inner-expr = refuse 14; inner = λ _. refuse 14 }) loops
-read-block cell (suc room) loops =
-    let inner : ℕ → Reader Block = λ l input s. read-block cell room l input s in
-    read-statements cell (record { room = true; expr = read-expression cell (suc room); inner-expr = read-expression cell room; inner = inner }) loops
+    read-statements cell (record { free = false; expr = read-expression cell 0; inner-expr = refuse 14; inner = λ _. refuse 14 }) loops
+read-block cell (suc free) loops =
+    let inner : ℕ → Reader Block = λ l input s. read-block cell free l input s in
+    read-statements cell (record { free = true; expr = read-expression cell (suc free); inner-expr = read-expression cell free; inner = inner }) loops

@@ -23,9 +23,9 @@ use Rattle.list_meaning.specs.Contracts.Walking.{to-end, said-cut, said-last, P
 use Rattle.list_reader.specs.declared.Lexed.{Lexed}
 use Rattle.list_reader.specs.declared.Lexed.the-variants.{Literal, Sign, End, Unreadable}
 use Rattle.list_reader.specs.Contracts.Promises.{LineEnds, line-tokens, Lexes}
-use Rattle.list_reader.specs.declared.places.Place.{Place}
-use Rattle.list_reader.specs.declared.places.Place.the-variants as place
-use Rattle.list_reader.specs.Contracts.Places.{place-in, placed-with, placed-of, PlaceOnward, ReadsPlace}
+use Rattle.list_reader.specs.declared.points.Point.{Point}
+use Rattle.list_reader.specs.declared.points.Point.the-variants as point
+use Rattle.list_reader.specs.Contracts.Points.{point-in, point-with, point-of, PointOnward, ReadsPoint}
 use Rattle.list_reader.specs.Contracts.Values.{line-values, NumbersValues}
 use Rattle.list_reader.specs.declared.checking.LineRead.{LineRead}
 use Rattle.list_reader.specs.declared.checking.LineRead.the-variants.{Right, Refused}
@@ -109,7 +109,7 @@ module _ (q : Limits) (fl : ℕ) (flag-is : q .flag ≡ some fl) (t : ℕ) where
       ap (place-number (q .fields) fl) (place-is n ns false 0 ps) ∙ ap (λ (ms : List ℕ). place-number (q .fields) fl (placed-by ms false 0 (indices ps))) (sym e) ∙ by-index (indices ps)
 
   -- the number of a cell's line is that of its walk
-  by-walk : (ns : List ℕ) (fs : List Range) → q .sizes ≡ ns → q .fields ≡ fs → (o : Option (List Piece)) → place-number fs fl (place-in ns false 0 o) ≡ line-number q (some t) (cell-said o)
+  by-walk : (ns : List ℕ) (fs : List Range) → q .sizes ≡ ns → q .fields ≡ fs → (o : Option (List Piece)) → place-number fs fl (point-in ns false 0 o) ≡ line-number q (some t) (cell-said o)
   by-walk ns fs e f none = refl
   by-walk ns fs e f (some ps) = ap (λ (rs : List Range). place-number rs fl (place-from ns false 0 ps)) (sym f) ∙ by-sizes ns e ps
 
@@ -132,17 +132,17 @@ by-values : (fs : List Range) (fl : ℕ) (outside : Bool) (o : Option (List (Opt
 by-values fs fl outside none = refl
 by-values fs fl outside (some vs) = rw (not-fifty fs fl vs)
 
-assigned-equal : (fs : List Range) (fl : ℕ) (outside : Bool) (c : ℕ) (o : Option (List Piece)) → place-number fs fl (placed-with outside c (with-piece (sign 61) o)) ≡ joined-number outside (values-number fs fl 0 false true true (line-values o))
+assigned-equal : (fs : List Range) (fl : ℕ) (outside : Bool) (c : ℕ) (o : Option (List Piece)) → place-number fs fl (point-with outside c (with-piece (sign 61) o)) ≡ joined-number outside (values-number fs fl 0 false true true (line-values o))
 unfolding assigned
 assigned-equal fs fl outside c none = refl
 assigned-equal fs fl outside c (some ps) = by-values fs fl outside (values ps)
 
-assigned-other : (fs : List Range) (fl : ℕ) (outside : Bool) (c b : ℕ) (o : Option (List Piece)) → (b ≡ 61 → ⊥) → place-number fs fl (placed-with outside c (with-piece (sign b) o)) ≡ 50
+assigned-other : (fs : List Range) (fl : ℕ) (outside : Bool) (c b : ℕ) (o : Option (List Piece)) → (b ≡ 61 → ⊥) → place-number fs fl (point-with outside c (with-piece (sign b) o)) ≡ 50
 unfolding assigned
 assigned-other fs fl outside c b none d = refl
 assigned-other fs fl outside c b (some ps) d = rw (ne-eqb b 61 d)
 
-assigned-literal : (fs : List Range) (fl : ℕ) (outside : Bool) (c n : ℕ) (o : Option (List Piece)) → place-number fs fl (placed-with outside c (with-piece (literal n) o)) ≡ 50
+assigned-literal : (fs : List Range) (fl : ℕ) (outside : Bool) (c n : ℕ) (o : Option (List Piece)) → place-number fs fl (point-with outside c (with-piece (literal n) o)) ≡ 50
 unfolding assigned
 assigned-literal fs fl outside c n none = refl
 assigned-literal fs fl outside c n (some ps) = refl
@@ -151,17 +151,17 @@ assigned-none : (fs : List Range) (fl : ℕ) (outside : Bool) (c : ℕ) → plac
 unfolding assigned
 assigned-none fs fl outside c = refl
 
-module _ (sizes : List ℕ) (fs : List Range) (fl : ℕ) (line : List ℕ) (at : ℕ) {x : Place} (w : ReadsPlace sizes line at x) where
-  numbered : {y : Place} {r : ℕ} → x ≡ y → r ≡ place-number fs fl (placed-of line y) → NumbersCell sizes fs fl line at r
-  numbered e h = record { is = λ q t a b d. h ∙ ap (place-number fs fl) (sym (w .is ∙ ap (placed-of line) e)) ∙ by-walk q fl d t sizes fs a b (pieces 0 (drop at line)) }
+module _ (sizes : List ℕ) (fs : List Range) (fl : ℕ) (line : List ℕ) (at : ℕ) {x : Point} (w : ReadsPoint sizes line at x) where
+  numbered : {y : Point} {r : ℕ} → x ≡ y → r ≡ place-number fs fl (point-of line y) → NumbersCell sizes fs fl line at r
+  numbered e h = record { is = λ q t a b d. h ∙ ap (place-number fs fl) (sym (w .is ∙ ap (point-of line) e)) ∙ by-walk q fl d t sizes fs a b (pieces 0 (drop at line)) }
 
-  pub cell-wrong : x ≡ place.Wrong → NumbersCell sizes fs fl line at 50
+  pub cell-wrong : x ≡ point.Wrong → NumbersCell sizes fs fl line at 50
   cell-wrong e = numbered e refl
 
-  module _ {outside : Bool} {c next : ℕ} (e : x ≡ place.At outside c next) where
+  module _ {outside : Bool} {c next : ℕ} (e : x ≡ point.At outside c next) where
     module _ {y : Lexed} (v : Lexes line next y) where
-      token : {z : Lexed} {r : ℕ} → y ≡ z → r ≡ place-number fs fl (placed-with outside c (line-tokens line z)) → NumbersCell sizes fs fl line at r
-      token f h = numbered e (h ∙ ap (λ (o : Option (List Piece)). place-number fs fl (placed-with outside c o)) (sym (v .is ∙ ap (line-tokens line) f)))
+      token : {z : Lexed} {r : ℕ} → y ≡ z → r ≡ place-number fs fl (point-with outside c (line-tokens line z)) → NumbersCell sizes fs fl line at r
+      token f h = numbered e (h ∙ ap (λ (o : Option (List Piece)). place-number fs fl (point-with outside c o)) (sym (v .is ∙ ap (line-tokens line) f)))
 
       pub cell-literal : {n past : ℕ} → y ≡ Literal n past → NumbersCell sizes fs fl line at 50
       cell-literal {n} {past} f = token f (sym (assigned-literal fs fl outside c n (pieces 0 (drop past line))))
@@ -181,7 +181,7 @@ module _ (sizes : List ℕ) (fs : List Range) (fl : ℕ) (line : List ℕ) (at :
           by-number h =
               token f
               (h ∙ ap (joined-number outside) (n .is) ∙ sym (assigned-equal fs fl outside c (pieces 0 (drop past line)))
-              ∙ ap (λ (k : ℕ). place-number fs fl (placed-with outside c (with-piece (sign k) (pieces 0 (drop past line))))) (sym d))
+              ∙ ap (λ (k : ℕ). place-number fs fl (point-with outside c (with-piece (sign k) (pieces 0 (drop past line))))) (sym d))
 
           pub cell-bad : m ≡ 50 → NumbersCell sizes fs fl line at 50
           cell-bad g = by-number (rw g)
@@ -194,8 +194,8 @@ module _ (sizes : List ℕ) (fs : List Range) (fl : ℕ) (line : List ℕ) (at :
 
 pub ruleset CellNumbers = (cell-wrong, cell-literal, cell-end, cell-unreadable, cell-other, cell-bad, cell-outward, cell-inward)
 
-pub place-past : (sizes line : List ℕ) (at : ℕ) {x : Place} {outside : Bool} {c next : ℕ} → ReadsPlace sizes line at x → x ≡ place.At outside c next → next ≤ length line
-place-past sizes line at {x} {outside} {c} {next} w e = let o : PlaceOnward line at (place.At outside c next) = subst (PlaceOnward line at) e (w .onward) in o .1
+pub place-past : (sizes line : List ℕ) (at : ℕ) {x : Point} {outside : Bool} {c next : ℕ} → ReadsPoint sizes line at x → x ≡ point.At outside c next → next ≤ length line
+place-past sizes line at {x} {outside} {c} {next} w e = let o : PointOnward line at (point.At outside c next) = subst (PointOnward line at) e (w .onward) in o .1
 
 -- ---- a line
 

@@ -14,9 +14,9 @@ use Rattle.value.specs.Choice.{if_then_else_}
 use Rattle.value.proofs.Theorems.Laws.{never, and-both}
 use Rattle.automaton.specs.Shape.{product}
 use Rattle.program.specs.Syntax.{Program}
-use Rattle.cell_meaning.specs.declared.Rule.{Rule}
 use Rattle.cell_meaning.specs.Contracts.Stands.{Holds}
 use Rattle.program.specs.Refusal.{Refusal, refusal}
+use Rattle.program.specs.declared.Rule.{Rule}
 use Rattle.run_meaning.specs.Admission.{Request, all-between, good-sizes, admission}
 use Rattle.run_meaning.specs.Contracts.Fitting.{held-fields}
 use Rattle.move_meaning.specs.Contracts.Flags.{flag-told}
@@ -25,7 +25,7 @@ use Rattle.list_meaning.specs.ListChecking.{Limits, limits-of, Verdict, check-l
 use Rattle.list_meaning.specs.Setting.{set-lines, set-block}
 use Rattle.list_meaning.proofs.Theorems.Told.{told-check}
 use Rattle.list_meaning.specs.Contracts.Passing.{LinePasses, passes-first, rises-told, starts-told, not-yet}
-use Rattle.list_reader.specs.Contracts.Places.{Dimensions}
+use Rattle.list_reader.specs.Contracts.Points.{Dimensions}
 use Rattle.list_reader.specs.Contracts.Values.{fields-in}
 use Rattle.list_reader.specs.declared.checking.Verdict as declared
 use Rattle.list_reader.specs.Contracts.Checks.{limits, ChecksLines}

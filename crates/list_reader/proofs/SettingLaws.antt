@@ -29,9 +29,9 @@ use Rattle.list_meaning.proofs.Theorems.Kept.{right-cell}
 use Rattle.list_reader.specs.declared.Lexed.{Lexed}
 use Rattle.list_reader.specs.declared.Lexed.the-variants.{Literal, Sign, End, Unreadable}
 use Rattle.list_reader.specs.Contracts.Promises.{LineEnds, line-tokens, Lexes}
-use Rattle.list_reader.specs.declared.places.Place.{Place}
-use Rattle.list_reader.specs.declared.places.Place.the-variants as place
-use Rattle.list_reader.specs.Contracts.Places.{place-in, placed-with, placed-of, PlaceOnward, ReadsPlace}
+use Rattle.list_reader.specs.declared.points.Point.{Point}
+use Rattle.list_reader.specs.declared.points.Point.the-variants as point
+use Rattle.list_reader.specs.Contracts.Points.{point-in, point-with, point-of, PointOnward, ReadsPoint}
 use Rattle.list_reader.specs.declared.values.Given.{Given}
 use Rattle.list_reader.specs.declared.values.Given.the-variants as given
 use Rattle.list_reader.specs.declared.values.Valued.{Valued}
@@ -156,7 +156,7 @@ pub ruleset StoreWays = (store-start, store-out, store-bad, store-last, store-mo
 pub record CellTold (sizes : List ℕ) (o : Option (List Piece)) (is : List ℕ) (vs : List (Option ℤ)) : Type 0 where
   pub outside : Bool
   pub rest : List Piece
-  pub walk : place-in sizes false 0 o ≡ placed outside (shape.cell-number sizes is) rest
+  pub walk : point-in sizes false 0 o ≡ placed outside (shape.cell-number sizes is) rest
   pub told : assigned rest ≡ some vs
 
 place-all : (ns : List ℕ) (ps : List Piece) → place-from ns false 0 ps ≡ placed-by ns false 0 (indices ps)
@@ -189,7 +189,7 @@ cell-told sizes (some ps) is vs e l = by-index (indices ps) refl e
     by-index (some i) p f = by-values i p (assigned (i .rest)) refl f
 
 -- a place that was read is that of the walk
-placed-told : (out : Bool) (c : ℕ) (o : Option (List Piece)) (outside : Bool) (n : ℕ) (rest : List Piece) → placed-with out c o ≡ placed outside n rest → (c ≡ n) × (o ≡ some rest)
+placed-told : (out : Bool) (c : ℕ) (o : Option (List Piece)) (outside : Bool) (n : ℕ) (rest : List Piece) → point-with out c o ≡ placed outside n rest → (c ≡ n) × (o ≡ some rest)
 placed-told out c none outside n rest e = never (ap is-placed e)
 placed-told out c (some ps) outside n rest e = (cc, ap some (let h : ps ≡ rest = cc in h))
 
@@ -211,14 +211,14 @@ assigned-sign b (some ps) rest vs e f = let h : sign b ∷ ps ≡ rest = cc in b
     by true q = q
     by false q = never (ap is-some q)
 
-module _ (sizes : List ℕ) (fields : ℕ) (line : List ℕ) (at : ℕ) (g : List ℤ) {x : Place} (w : ReadsPlace sizes line at x) where
-  walked : {y : Place} → x ≡ y → {is : List ℕ} {vs : List (Option ℤ)} → (k : CellTold sizes (pieces 0 (drop at line)) is vs) → placed-of line y ≡ placed (k .outside) (shape.cell-number sizes is) (k .rest)
-  walked e k = sym (w .is ∙ ap (placed-of line) e) ∙ k .walk
+module _ (sizes : List ℕ) (fields : ℕ) (line : List ℕ) (at : ℕ) (g : List ℤ) {x : Point} (w : ReadsPoint sizes line at x) where
+  walked : {y : Point} → x ≡ y → {is : List ℕ} {vs : List (Option ℤ)} → (k : CellTold sizes (pieces 0 (drop at line)) is vs) → point-of line y ≡ placed (k .outside) (shape.cell-number sizes is) (k .rest)
+  walked e k = sym (w .is ∙ ap (point-of line) e) ∙ k .walk
 
-  pub cell-nowhere : x ≡ place.Wrong → StoresCell sizes fields line at g g
+  pub cell-nowhere : x ≡ point.Wrong → StoresCell sizes fields line at g g
   cell-nowhere e = record { is = λ is vs p l. never (ap is-placed (walked e (cell-told sizes (pieces 0 (drop at line)) is vs p l))) }
 
-  module _ {out : Bool} {c next : ℕ} (e : x ≡ place.At out c next) {y : Lexed} (v : Lexes line next y) where
+  module _ {out : Bool} {c next : ℕ} (e : x ≡ point.At out c next) {y : Lexed} (v : Lexes line next y) where
     found : {z : Lexed} → y ≡ z → {is : List ℕ} {vs : List (Option ℤ)} → (k : CellTold sizes (pieces 0 (drop at line)) is vs) → (c ≡ shape.cell-number sizes is) × (line-tokens line z ≡ some (k .rest))
     found f {is} k =
         let h = placed-told out c (pieces 0 (drop next line)) (k .outside) (shape.cell-number sizes is) (k .rest) (walked e k) in
@@ -245,8 +245,8 @@ module _ (sizes : List ℕ) (fields : ℕ) (line : List ℕ) (at : ℕ) (g : Lis
 
 pub ruleset CellWays = (cell-nowhere, cell-literal, cell-end, cell-unreadable, cell-stored)
 
-pub cell-bound : (sizes line : List ℕ) (at : ℕ) {x : Place} {out : Bool} {c next : ℕ} → ReadsPlace sizes line at x → x ≡ place.At out c next → c ≤ 72057594037927936
-cell-bound sizes line at {x} {out} {c} {next} w e = let o : PlaceOnward line at (place.At out c next) = subst (PlaceOnward line at) e (w .onward) in o .2
+pub cell-bound : (sizes line : List ℕ) (at : ℕ) {x : Point} {out : Bool} {c next : ℕ} → ReadsPoint sizes line at x → x ≡ point.At out c next → c ≤ 72057594037927936
+cell-bound sizes line at {x} {out} {c} {next} w e = let o : PointOnward line at (point.At out c next) = subst (PointOnward line at) e (w .onward) in o .2
 
 pub entry-fits : (c f : ℕ) → c ≤ 72057594037927936 → f ≤ 64 → Fits w64 (c * f)
 entry-fits c f a b = omega (arith, mul-le-mul-left c b)

@@ -18,7 +18,7 @@ use Rattle.value.specs.Worked.{value, decode-of}
 use Rattle.value.specs.declared.Value.{Value}
 use Rattle.automaton.specs.Contracts.ListedLaws.{length-list-of, getD-list-of}
 use Rattle.program.specs.Syntax.{Range, no-range}
-use Rattle.cell_meaning.specs.declared.Rule.{Rule}
+use Rattle.program.specs.declared.Rule.{Rule}
 use Rattle.cell_meaning.specs.Evaluation.{in-field}
 use Rattle.cell_meaning.specs.Contracts.Stands.{rule-table, range-in}
 use Rattle.token.specs.Contracts.Promises.{too-large}

@@ -14,11 +14,11 @@ use borrow.Author.Tests.{eq-eqb, ne-eqb, eqb-true, lt-ltb, le-ltb, leb-true}
 use Rattle.value.proofs.Theorems.Laws.{and-both}
 use Rattle.automaton.specs.Shape.{product}
 use Rattle.program.specs.Syntax.{Program}
-use Rattle.cell_meaning.specs.declared.Rule.{Rule}
 use Rattle.cell_meaning.specs.Contracts.Stands.{Holds}
 use Rattle.program.specs.Refusal.{Refusal, refusal}
+use Rattle.program.specs.declared.Rule.{Rule}
 use Rattle.run_meaning.specs.Admission.{all-between, good-sizes, admission}
-use Rattle.run_meaning.specs.Contracts.Fitting.{Sized}
+use Rattle.program.specs.Contracts.Fitting.{Sized}
 use Rattle.run_admission.specs.declared.admitting.Admitted.{Admitted}
 use Rattle.run_admission.specs.declared.Refusal as declared
 use Rattle.run_admission.specs.Contracts.Admitting.{cells-of, request-of, Admits}

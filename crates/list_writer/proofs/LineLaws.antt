@@ -94,8 +94,8 @@ module _ {sizes : List ℕ} {fields : ℕ} {earlier later : List ℤ} (w : Grids
     unfolding changed-line
     same-put n old at = rw (sym e ∙ not-true t n, changed-line) (puts-nothing old at)
 
-    pub changed-put : not t ≡ false → {old new : List ℕ} {at r : ℕ} {place : List ℕ} → (c < product sizes → place ≡ coordinates sizes c)
-        → Puts old at (cell-line place (shown flag (take (c * fields + fields - c * fields) (drop (c * fields) later))) ++ 10 ∷ []) new r → Puts old at (changed-line sizes fields flag earlier later c) new r
+    pub changed-put : not t ≡ false → {old new : List ℕ} {at r : ℕ} {point : List ℕ} → (c < product sizes → point ≡ coordinates sizes c)
+        → Puts old at (cell-line point (shown flag (take (c * fields + fields - c * fields) (drop (c * fields) later))) ++ 10 ∷ []) new r → Puts old at (changed-line sizes fields flag earlier later c) new r
     unfolding changed-line
     changed-put n {old} {new} {at} {r} h x =
         rw (sym e ∙ not-false t n, changed-line)
@@ -105,8 +105,8 @@ module _ {sizes : List ℕ} {fields : ℕ} {earlier later : List ℤ} (w : Grids
 -- ---- all cells
 
 -- memory for the coordinates
-pub place-fits : {sizes : List ℕ} {fields : ℕ} {earlier later : List ℤ} → Grids sizes fields earlier later → (zs : List ℕ) → length zs ≡ 3 → length (take (length sizes) zs) ≡ length sizes
-place-fits {sizes} w zs e = length-take-le (length sizes) zs (omega (arith, w .dims))
+pub point-fits : {sizes : List ℕ} {fields : ℕ} {earlier later : List ℤ} → Grids sizes fields earlier later → (zs : List ℕ) → length zs ≡ 3 → length (take (length sizes) zs) ≡ length sizes
+point-fits {sizes} w zs e = length-take-le (length sizes) zs (omega (arith, w .dims))
 
 module _ (sizes : List ℕ) (fields : ℕ) (flag : Option ℕ) (earlier later : List ℤ) where
   one-cell : (n c : ℕ) → cells-text sizes fields flag earlier later (suc n) c ≡ changed-line sizes fields flag earlier later c ++ cells-text sizes fields flag earlier later n (suc c)

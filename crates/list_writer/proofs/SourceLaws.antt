@@ -5,20 +5,20 @@ use mathlib.Core.Path.{_≡_, refl, sym, _∙_, subst}
 use mathlib.Core.Bool.{Bool, true}
 use mathlib.Core.List.{List}
 use lib.ListN.{length}
+use Rattle.program.specs.declared.Rule.{Rule}
 use Rattle.grammar.specs.Source.{Accepted}
 use Rattle.grammar.specs.Checking.{accepted, rooms-fit, read-source}
-use Rattle.cell_meaning.specs.declared.Rule.{Rule}
+use Rattle.grammar.specs.Contracts.Traces.{accepted-by, Trace}
 use Rattle.cell_meaning.specs.Contracts.Stands.{Holds}
 use Rattle.cell_meaning.specs.Written.{relatives-in}
 use Rattle.read_links.proofs.Theorems.Accepted.{written}
-use Rattle.run_meaning.specs.Contracts.Fitting.{Sized}
-use Rattle.read_source.specs.declared.checking.Outline.{Outline}
-use Rattle.read_source.specs.Contracts.Promises.{Trace, Outlines, accepted-by, Loads, Checks}
-use Rattle.move_profile.specs.Contracts.Standing.{rule-in, Stood}
+use Rattle.program.specs.Contracts.Fitting.{Sized}
+use Rattle.read_source.specs.Contracts.Promises.{RuleIs, Loads, Checks}
+use Rattle.move_profile.specs.Contracts.Standing.{Stood}
 use Rattle.move_profile.proofs.StandingLaws.{linked-by, parsed-by, rule-by, sized, stood}
 use Rattle.run_admission.specs.Contracts.Admitting.{Lists}
 
--- what is known of a source that is accepted, and of the rule that is made of its outline
+-- what is known of a source that is accepted, and of its rule
 pub record Read (fit : Bool) (source words names : List ℕ) (rule : Rule) : Type 0 where
   pub read : Accepted
   pub is : read-source fit source ≡ accepted read
@@ -27,8 +27,8 @@ pub record Read (fit : Bool) (source words names : List ℕ) (rule : Rule) : Typ
   pub sized : Sized (length words) rule
   pub some-fields : 0 < rule .fields
 
-module _ {source ws ns : List ℕ} {known : Bool} {o : Outline} {n i : ℕ} {ws′ ns′ : List ℕ} (checked : Checks (rooms-fit (length ws) (length ns)) source ws ns n i ws′ ns′) (loaded : Loads source ws ns known o) (sure : known ≡ true) where
-  read-by : (t : Trace source) → Outlines source t o → Read (rooms-fit (length ws) (length ns)) source ws′ ns′ (rule-in o)
+module _ {source ws ns : List ℕ} {known : Bool} {rule : Rule} {n i : ℕ} {ws′ ns′ : List ℕ} (checked : Checks (rooms-fit (length ws) (length ns)) source ws ns n i ws′ ns′) (loaded : Loads source ws ns known rule) (sure : known ≡ true) where
+  read-by : (t : Trace source) → RuleIs source t rule → Read (rooms-fit (length ws) (length ns)) source ws′ ns′ rule
   read-by t y =
       let a = accepted-by t in
       let is = loaded .reads sure t in
@@ -38,11 +38,11 @@ module _ {source ws ns : List ℕ} {known : Bool} {o : Outline} {n i : ℕ} {ws�
         is = is;
         stands = s;
         lists =
-            subst (λ (ws : List ℕ). Lists ws (rule-in o) (relatives-in (a .program))) (sym (s .words-are))
+            subst (λ (ws : List ℕ). Lists ws rule (relatives-in (a .program))) (sym (s .words-are))
             (subst (λ (r : Rule). Lists (a .words) r (relatives-in (a .program))) (sym (rule-by checked loaded sure t y)) (written source a (parsed-by checked loaded sure t)));
         sized = sized checked loaded sure;
         some-fields = omega (arith, y .fields, linked-by checked loaded sure t .some-fields);
       }
 
-  pub source-read : {rule : Rule} → rule ≡ rule-in o → Read (rooms-fit (length ws) (length ns)) source ws′ ns′ rule
-  source-read e = let g = loaded .given sure in subst (Read (rooms-fit (length ws) (length ns)) source ws′ ns′) (sym e) (read-by (g .0) (g .1))
+  pub source-read : Read (rooms-fit (length ws) (length ns)) source ws′ ns′ rule
+  source-read = let g = loaded .given sure in read-by (g .0) (g .1)

@@ -19,17 +19,15 @@ use Rattle.value.proofs.Theorems.Laws.{never}
 use Rattle.token.specs.Lexeme.{is-built-in}
 use Rattle.program.specs.Syntax.{Program}
 use Rattle.program.specs.Refusal.{Refusal, refusal}
+use Rattle.program.specs.declared.Rule.{Rule}
 use Rattle.grammar.specs.Checking as checking
 use Rattle.grammar.specs.Checking.{SourceRead, turned-away, accepted, rooms-fit, read-source, check, words-after}
 use Rattle.grammar.specs.Contracts.Flat.{names-after}
-use Rattle.cell_meaning.specs.declared.Rule.{Rule}
 use Rattle.run_meaning.specs.Contracts.Fitting.{held-fields}
 use Rattle.run_calls.specs.Calls.{NameForm, flat-names, SourceLent, source-fits, names-left}
-use Rattle.read_source.specs.declared.checking.Outline.{Outline}
 use Rattle.read_source.specs.Contracts.Promises.{Loads, Checks, is-accepted}
 use Rattle.run_admission.specs.declared.Refusal as declared
 use Rattle.move_meaning.specs.Profile.{profile-flag}
-use Rattle.move_profile.specs.Contracts.Standing.{rule-in}
 use Rattle.move_profile.specs.Contracts.Flags.{FlagOf}
 use Rattle.list_meaning.proofs.Theorems.Told.{told-text}
 use Rattle.list_meaning.specs.Writing.{written-text, Wanted, Wrote, unwritten, put-text, writing-admission, write, write-read, write-source}
@@ -113,7 +111,7 @@ module _ (fit : Bool) (source : List ℕ) (q : Wanted) (room : List ℕ) {n i : 
       by (checking.refused k j) c d = ap (λ (x : Refusal). unwritten (x .number) (x .place) room) c
       by (accepted a) c d = never (sym d)
 
-module _ {source ws ns : List ℕ} {known : Bool} {o : Outline} {n i : ℕ} {ws′ ns′ : List ℕ} (checked : Checks (rooms-fit (length ws) (length ns)) source ws ns n i ws′ ns′) (loaded : Loads source ws ns known o)
+module _ {source ws ns : List ℕ} {known : Bool} {rule : Rule} {n i : ℕ} {ws′ ns′ : List ℕ} (checked : Checks (rooms-fit (length ws) (length ns)) source ws ns n i ws′ ns′) (loaded : Loads source ws ns known rule)
     (q : Wanted) (room : List ℕ) where
   pub source-refused : not known ≡ true → WritesSource (rooms-fit (length ws) (length ns)) source q ws ns room (record { number = n; place = i; length = 0 }) ws′ ns′ room
   source-refused unknown =
@@ -123,9 +121,9 @@ module _ {source ws ns : List ℕ} {known : Bool} {o : Outline} {n i : ℕ} {ws�
         names-are = checked .names;
       }
 
-  module _ (sure : not known ≡ false) {rule : Rule} (rule-is : rule ≡ rule-in o) where
+  module _ (sure : not known ≡ false) where
     source-known : Read (rooms-fit (length ws) (length ns)) source ws′ ns′ rule
-    source-known = source-read checked loaded (not-false known sure) rule-is
+    source-known = source-read checked loaded (not-false known sure)
 
     pub source-written : {told : ℕ} {r : Written} {room′ : List ℕ} → FlagOf source ws′ ns′ rule told → WritesLoaded ws′ rule told q room r room′
         → WritesSource (rooms-fit (length ws) (length ns)) source q ws ns room r ws′ ns′ room′

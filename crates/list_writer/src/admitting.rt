@@ -3,20 +3,21 @@ ghost use mathlib.Core.Path.{_≡_};
 ghost use Prim.Native.Nat.{_<_};
 ghost use lib.ListN.{length};
 ghost use Rattle.program.specs.Refusal.{refusal};
-ghost use Rattle.run_meaning.specs.Contracts.Fitting.{Sized};
+ghost use Rattle.program.specs.Contracts.Fitting.{Sized};
 ghost use Rattle.list_meaning.specs.Writing.{lower};
 ghost use Rattle.list_writer.specs.WriterCalls.{wanted};
 ghost use Rattle.list_writer.specs.Contracts.Admitting.{CountsCells, AdmitsGrid, AdmitsBoth};
-use cell_meaning::Rule;
+use program::Rule;
 use run_admission::Refusal;
 use run_admission::admit;
 use run_admission::cells;
+use value::limits::MOST_DIMS;
 
 // The number of cells of a grid with these sizes, where a run could have them.
 pub fn cell_count(sizes: &[u32]) -> usize
     ensures { λ r. ⌜ CountsCells (now (sizes .entry)) r ⌝ }
 {
-    if 3 < sizes.len() {
+    if MOST_DIMS < sizes.len() {
         return 0;
     }
     cells(sizes) as usize

@@ -6,7 +6,7 @@ ghost use lib.ListN.{length};
 ghost use Rattle.automaton.specs.Shape.{product};
 ghost use Rattle.grammar.specs.Checking.{rooms-fit};
 ghost use Rattle.run_calls.specs.Calls.{flat-names, source-lent};
-ghost use Rattle.run_meaning.specs.Contracts.Fitting.{Sized};
+ghost use Rattle.program.specs.Contracts.Fitting.{Sized};
 ghost use Rattle.list_meaning.specs.Writing.{written-text, put-text};
 ghost use Rattle.list_writer.specs.WriterCalls.{wanted, wrote-of};
 ghost use Rattle.list_writer.specs.Contracts.Lines.{Grids};
@@ -18,11 +18,10 @@ mod printing;
 
 use admitting::admit_both;
 use admitting::cell_count;
-use cell_meaning::Rule;
 use lines::put_list;
 use lines::text_length;
 use move_profile::flag_of;
-use move_profile::rule_of;
+use program::Rule;
 use read_source::load;
 use spelling::is_built_in;
 
@@ -119,7 +118,7 @@ fn write_listed(
             length: 0,
         };
     }
-    let rule = rule_of(loaded.outline);
+    let rule = loaded.rule;
     let flag = flag_of(source, words, names, rule);
     write_loaded(words, rule, flag, sizes, earlier, later, time, room)
 }

@@ -24,7 +24,7 @@ use Rattle.names.specs.declared.Found.the-variants.{At, Missing}
 use Rattle.names.specs.Names.{is-field, entry-at, entries-from, letters, find}
 use Rattle.names.specs.Contracts.Finding.{found-of, Below}
 use Rattle.program.specs.Syntax.{Range, no-range}
-use Rattle.cell_meaning.specs.declared.Rule.{Rule}
+use Rattle.program.specs.declared.Rule.{Rule}
 use Rattle.cell_meaning.specs.Contracts.Stands.{range-in, rule-table, ranges-in}
 use Rattle.cell_meaning.specs.Links.{word-in}
 use Rattle.move_meaning.specs.Profile.{moved-slot, is-flag, flag-of, flag-in}

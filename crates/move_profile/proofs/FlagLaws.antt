@@ -14,19 +14,20 @@ use Rattle.token.specs.Lexeme.{is-built-in}
 use Rattle.token.specs.Scanning.{scan}
 use Rattle.program.specs.Syntax.{Range}
 use Rattle.program.specs.Refusal.{Refusal, refusal, no-refusal}
+use Rattle.program.specs.declared.Rule.{Rule}
 use Rattle.grammar.specs.Source.{Accepted}
 use Rattle.grammar.specs.Checking.{SourceRead, turned-away, refused, accepted, rooms-fit, read-source, reply-of, check}
 use Rattle.grammar.specs.Contracts.Flat.{lent-fit}
-use Rattle.cell_meaning.specs.declared.Rule.{Rule}
-use Rattle.run_meaning.specs.Contracts.Fitting.{Sized, held-fields}
-use Rattle.read_source.specs.declared.checking.Outline.{Outline}
-use Rattle.read_source.specs.Contracts.Promises.{is-accepted, accepted-by, Loads, Checks}
+use Rattle.grammar.specs.Contracts.Traces.{accepted-by}
+use Rattle.program.specs.Contracts.Fitting.{Sized}
+use Rattle.run_meaning.specs.Contracts.Fitting.{held-fields}
+use Rattle.read_source.specs.Contracts.Promises.{is-accepted, Loads, Checks}
 use Rattle.read_source.proofs.Checks.{unlisted, list-right}
 use Rattle.move_meaning.specs.Profile.{moved-slot, flag-in, flag-field, tokens-in, tokens-of, statements-at, moves-once, if-moves, profile-flag, rule-missed, missed, answer-of, one-move}
 use Rattle.move_meaning.specs.Contracts.Flags.{flag-told}
 use Rattle.move_meaning.proofs.Theorems.InProfile.{flag-found}
 use Rattle.move_profile.specs.declared.Profile.{Profile}
-use Rattle.move_profile.specs.Contracts.Standing.{rule-in, Stood}
+use Rattle.move_profile.specs.Contracts.Standing.{Stood}
 use Rattle.move_profile.specs.Contracts.Fields.{field-in, FlagField}
 use Rattle.move_profile.specs.Contracts.Moves.{DecidesMove}
 use Rattle.move_profile.specs.Contracts.Flags.{FlagOf, RuleMissed, CheckOneMove}
@@ -156,14 +157,14 @@ module _ {fit : Bool} {source ws ns : List ℕ} {number place : ℕ} {ws′ ns�
       go (refused n p) q = refl
       go (accepted a) q = absurd (z (ap (λ (x : Refusal). x .number) q))
 
-module _ {source ws ns : List ℕ} {known : Bool} {o : Outline} {n place : ℕ} {ws′ ns′ : List ℕ}
-    (checked : Checks (rooms-fit (length ws) (length ns)) source ws ns n place ws′ ns′) (loaded : Loads source ws ns known o) where
+module _ {source ws ns : List ℕ} {known : Bool} {rule : Rule} {n place : ℕ} {ws′ ns′ : List ℕ}
+    (checked : Checks (rooms-fit (length ws) (length ns)) source ws ns n place ws′ ns′) (loaded : Loads source ws ns known rule) where
   pub not-loaded : not known ≡ true → CheckOneMove (rooms-fit (length ws) (length ns)) source ws ns (profile 1 n place) ws′ ns′
   not-loaded u = refused-answer checked (sym (loaded .is) ∙ not-true known u)
 
-  module _ (sure : not known ≡ false) {rule : Rule} (is : rule ≡ rule-in o) where
+  module _ (sure : not known ≡ false) where
     pub can-miss : length ns ≡ length ns′ → (Sized (length ws′) rule) × (length ns′ ≡ name-words)
-    can-miss k = (subst (Sized (length ws′)) (sym is) (sized checked loaded (not-false known sure)), sym k ∙ loaded .list (not-false known sure))
+    can-miss k = (sized checked loaded (not-false known sure), sym k ∙ loaded .list (not-false known sure))
 
     pub told-missed : {r : ℕ} → RuleMissed source ws′ ns′ rule r → CheckOneMove (rooms-fit (length ws) (length ns)) source ws ns (profile r 0 0) ws′ ns′
     unfolding one-move
@@ -173,7 +174,7 @@ module _ {source ws ns : List ℕ} {known : Bool} {o : Outline} {n place : ℕ} 
         let e = loaded .reads known-so t in
         record {
           answer =
-              ap (λ (x : ℕ). missed x 0 0) (m .is (accepted-by t) (subst (λ (x : Rule). Stood source ws′ ns′ x (accepted-by t)) (sym is) (stood checked loaded known-so (accepted-by t) e)))
+              ap (λ (x : ℕ). missed x 0 0) (m .is (accepted-by t) (stood checked loaded known-so (accepted-by t) e))
               ∙ ap (answer-of source) (sym e);
           words = checked .words;
           names = checked .names;

@@ -2,18 +2,19 @@
 ghost use mathlib.Core.Path.{_≡_};
 ghost use Prim.Native.Nat.{_*_, _<_, _≤_};
 ghost use lib.ListN.{length};
-ghost use Rattle.value.specs.Limits.{most-names, name-words};
+ghost use Rattle.value.specs.Limits.{most-tokens, most-names, name-words};
 ghost use Rattle.token.specs.Bytes.{as-bytes, same};
 ghost use Rattle.names.specs.Names.{letters};
-ghost use Rattle.run_meaning.specs.Contracts.Fitting.{Sized};
+ghost use Rattle.program.specs.Contracts.Fitting.{Sized};
 ghost use Rattle.move_profile.specs.Contracts.Fields.{NamesMoved, MovedSlot, IsFlag, FlagField};
-use cell_meaning::Rule;
 use cell_operands::table::word_at;
 use names::Found;
 use names::entry_in;
 use names::folded;
 use names::is_field;
+use program::Rule;
 use value::Value;
+use value::limits::MOST_NAMES;
 
 // Whether so many bytes of the source from a place on spell `moved`, letter case aside.
 fn is_moved(source: &[u8], start: u32, len: u32) -> bool
@@ -56,7 +57,7 @@ fn moved_slot(source: &[u8], names: &[u32]) -> Found
     ensures { λ r. ⌜ MovedSlot (now (source .entry)) (now (names .entry)) r ⌝ }
 {
     let mut i: usize = 0;
-    while i < 256 {
+    while i < MOST_NAMES {
         if names_moved(source, names, i) {
             return Found::At(i);
         }
@@ -67,7 +68,7 @@ fn moved_slot(source: &[u8], names: &[u32]) -> Found
 
 // Whether the range at a position is 0..1.
 fn is_flag(words: &[u32], n: usize, at: usize) -> bool
-    requires { ⌜ (4 * n ≤ length (now words)) × (n ≤ 4096) ⌝ }
+    requires { ⌜ (4 * n ≤ length (now words)) × (n ≤ most-tokens) ⌝ }
     ensures { λ r. ⌜ IsFlag (now (words .entry)) n at r ⌝ }
 {
     let low = Value::decode(word_at(words, n, 2, at));

@@ -4,17 +4,15 @@ ghost use lib.ListN.{length};
 ghost use Rattle.value.specs.Limits.{name-words};
 ghost use Rattle.grammar.specs.Checking.{rooms-fit};
 ghost use Rattle.grammar.specs.Contracts.Flat.{lent-fit};
-ghost use Rattle.run_meaning.specs.Contracts.Fitting.{Sized};
-ghost use Rattle.move_profile.specs.Contracts.Standing.{rule-in};
+ghost use Rattle.program.specs.Contracts.Fitting.{Sized};
 ghost use Rattle.move_profile.specs.Contracts.Flags.{FlagOf, RuleMissed, CheckOneMove};
 
 mod fields;
 mod moves;
 
-use cell_meaning::Rule;
 use fields::flag_field;
 use moves::moves_once;
-use read_source::Outline;
+use program::Rule;
 use read_source::load;
 use spelling::is_built_in;
 
@@ -24,20 +22,6 @@ pub struct Profile {
     pub rule: u32,
     pub number: u32,
     pub place: u32,
-}
-
-// The rule of an outline.
-pub fn rule_of(outline: Outline) -> Rule
-    ensures { λ r. ⌜ r ≡ rule-in outline ⌝ }
-{
-    Rule {
-        tokens: outline.tokens,
-        base: outline.base,
-        body: outline.body,
-        dims: outline.dims,
-        fields: outline.fields,
-        slots: outline.slots,
-    }
 }
 
 // The flag of an accepted source that was read into words and names: its field's number, if the source is in the profile, else the number of fields.
@@ -81,9 +65,8 @@ fn check_listed(source: &[u8], words: &mut [u32], names: &mut [u32]) -> Profile
             place: loaded.place,
         };
     }
-    let rule = rule_of(loaded.outline);
     Profile {
-        rule: rule_missed(source, words, names, rule),
+        rule: rule_missed(source, words, names, loaded.rule),
         number: 0,
         place: 0,
     }

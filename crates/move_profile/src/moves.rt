@@ -4,6 +4,7 @@ ghost use mathlib.Core.Bool.{_&&_};
 ghost use Prim.Native.Nat.{_*_, _/_, _≤_};
 ghost use lib.Dec.{eqb};
 ghost use lib.ListN.{length};
+ghost use Rattle.value.specs.Limits.{most-tokens};
 ghost use Rattle.value.specs.Choice.{if_then_else_};
 ghost use Rattle.token.specs.Kind.{keyword};
 ghost use Rattle.cell_meaning.specs.Links.{word-in};
@@ -15,7 +16,7 @@ use token::kind;
 
 // Whether the tokens from a position on are of these kinds.
 fn kinds_at(words: &[u32], n: usize, at: usize, kinds: &[u32]) -> bool
-    requires { ⌜ (4 * n ≤ length (now words)) × (n ≤ 4096) × (at ≤ 4096) × (length (now kinds) ≤ 8) ⌝ }
+    requires { ⌜ (4 * n ≤ length (now words)) × (n ≤ most-tokens) × (at ≤ most-tokens) × (length (now kinds) ≤ 8) ⌝ }
     ensures { λ r. ⌜ KindsAt (now (words .entry)) n at (now (kinds .entry)) r ⌝ }
 {
     let mut i: usize = 0;
@@ -30,7 +31,7 @@ fn kinds_at(words: &[u32], n: usize, at: usize, kinds: &[u32]) -> bool
 
 // Whether the literal at a position is one digit, d.
 fn digit_at(words: &[u32], n: usize, at: usize, d: u32) -> bool
-    requires { ⌜ (4 * n ≤ length (now words)) × (n ≤ 4096) ⌝ }
+    requires { ⌜ (4 * n ≤ length (now words)) × (n ≤ most-tokens) ⌝ }
     ensures { λ r. ⌜ r ≡ (eqb (word-in (now (words .entry)) n 1 at / 65536) 1 && eqb (word-in (now (words .entry)) n 2 at) d) ⌝ }
 {
     if word_at(words, n, 1, at) / 65536 != 1 {
@@ -41,7 +42,7 @@ fn digit_at(words: &[u32], n: usize, at: usize, d: u32) -> bool
 
 // Whether `if cell.moved = 0 then` is at a position, where the field is `moved`.
 fn opens_at(words: &[u32], n: usize, field: u32, at: usize) -> bool
-    requires { ⌜ (4 * n ≤ length (now words)) × (n ≤ 4096) × (at ≤ n) ⌝ }
+    requires { ⌜ (4 * n ≤ length (now words)) × (n ≤ most-tokens) × (at ≤ n) ⌝ }
     ensures { λ r. ⌜ OpensAt (now (words .entry)) n field at r ⌝ }
 {
     let row = [
@@ -67,7 +68,7 @@ fn opens_at(words: &[u32], n: usize, field: u32, at: usize) -> bool
 
 // Whether the assignment `cell.moved := 1` is at a position, without a condition, and the `end` or a constant after it.
 fn closes_at(words: &[u32], n: usize, field: u32, at: usize) -> bool
-    requires { ⌜ (4 * n ≤ length (now words)) × (n ≤ 4096) × (at ≤ n) ⌝ }
+    requires { ⌜ (4 * n ≤ length (now words)) × (n ≤ most-tokens) × (at ≤ n) ⌝ }
     ensures { λ r. ⌜ ClosesAt (now (words .entry)) n field at r ⌝ }
 {
     let row = [
@@ -98,7 +99,7 @@ fn closes_at(words: &[u32], n: usize, field: u32, at: usize) -> bool
 
 // The position after the constants that are declared from a position on.
 fn past_constants(words: &[u32], n: usize, at: usize) -> usize
-    requires { ⌜ (4 * n ≤ length (now words)) × (n ≤ 4096) × (at ≤ n) ⌝ }
+    requires { ⌜ (4 * n ≤ length (now words)) × (n ≤ most-tokens) × (at ≤ n) ⌝ }
     ensures { λ r. ⌜ PastConstants (now (words .entry)) n at r ⌝ }
 {
     let mut here = at;
@@ -121,7 +122,7 @@ fn later(first: u32, last: usize, here: usize) -> usize
 
 // The position of the last statement, constants aside, of those from a position on; n if there is none.
 fn last_statement(words: &[u32], n: usize, at: usize) -> usize
-    requires { ⌜ (4 * n ≤ length (now words)) × (n ≤ 4096) ⌝ }
+    requires { ⌜ (4 * n ≤ length (now words)) × (n ≤ most-tokens) ⌝ }
     ensures { λ r. ⌜ LastStatement (now (words .entry)) n at r ⌝ }
 {
     let mut last = n;
@@ -136,7 +137,7 @@ fn last_statement(words: &[u32], n: usize, at: usize) -> usize
 // Whether the statements from a position on are, constants aside, `if cell.moved = 0 then` .. `end` alone, without `elsif` and `else`, whose last
 // statement, constants aside, is `cell.moved := 1`.
 pub fn moves_once(words: &[u32], n: usize, field: u32, at: usize) -> bool
-    requires { ⌜ (4 * n ≤ length (now words)) × (n ≤ 4096) × (at ≤ n) ⌝ }
+    requires { ⌜ (4 * n ≤ length (now words)) × (n ≤ most-tokens) × (at ≤ n) ⌝ }
     ensures { λ r. ⌜ DecidesMove (now (words .entry)) n field at r ⌝ }
 {
     let i = past_constants(words, n, at);

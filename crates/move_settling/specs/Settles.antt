@@ -5,7 +5,7 @@ use mathlib.Core.List.{List, []}
 use Prim.Native.Nat.{ℕ, suc, _+_, _<_, _≤_}
 use lib.ListN.{length}
 use lib.IntN.{ℤ, pos, natAbs}
-use Rattle.automaton.specs.Step.{Outcome, state, no-fault, Run, Step, step-of, run-of}
+use Rattle.automaton.specs.Step.{Outcome, result, no-fault, Run, Step, step-of, run-of}
 use Rattle.automaton.specs.Shape.{product, neighbour}
 use Rattle.automaton.specs.Grid.{cell-of}
 use Rattle.program.specs.Syntax.{Program}
@@ -51,7 +51,7 @@ pub record MovesOnce (f : ℕ) (p : Program) (q : Asked) : Type 0 where
       → flag-at f p (first-steps p q k .grid) c ≡ pos 1 → flag-at f p (first-steps p q m .grid) c ≡ pos 1
   -- no later step changes that cell, and it faults in none
   pub never-changes : (k m : ℕ) → k ≤ m → first-steps p q m .fault ≡ no-fault → (c : ℕ) → c < product (q .request .sizes)
-      → flag-at f p (first-steps p q k .grid) c ≡ pos 1 → next-of p q m c ≡ state (fields-of p (first-steps p q m .grid) c)
+      → flag-at f p (first-steps p q k .grid) c ≡ pos 1 → next-of p q m c ≡ result (fields-of p (first-steps p q m .grid) c)
   -- after one completed step every flag is 1
   pub all-moved : (k : ℕ) → first-steps p q (suc k) .fault ≡ no-fault → (c : ℕ) → c < product (q .request .sizes) → flag-at f p (first-steps p q (suc k) .grid) c ≡ pos 1
   -- every later step completes, and changes nothing

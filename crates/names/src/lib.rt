@@ -9,6 +9,8 @@ ghost use Rattle.names.specs.Contracts.Finding.{Matches, Finds};
 
 pub mod kind;
 
+use value::tables::put_four;
+
 // A name: the place of its first byte, its length, its kind, and its value as a word.
 pub struct Entry {
     pub start: u32,
@@ -43,10 +45,7 @@ pub fn write_entry(names: &mut [u32], slot: usize, e: Entry)
     requires { ⌜ (slot < most-names) × (length (now names) ≡ name-words) ⌝ }
     ensures { λ _. ⌜ now (names .exit) ≡ with-entry (now (names .entry)) slot e ⌝ }
 {
-    names[4 * slot] = e.start;
-    names[4 * slot + 1] = e.len;
-    names[4 * slot + 2] = e.kind;
-    names[4 * slot + 3] = e.word;
+    put_four(names, 4 * slot, e.start, e.len, e.kind, e.word);
 }
 
 // Sets the value of the name in a slot.

@@ -1,4 +1,4 @@
-// The word table of a program: four words a token.
+// The word table of a program, four words a token, and an accepted source as it stands in it.
 ghost use mathlib.Core.Path.{_≡_};
 ghost use Prim.Native.Nat.{_<_, _≤_};
 ghost use lib.ListN.{length};
@@ -9,6 +9,19 @@ ghost use Rattle.program.specs.Contracts.Standing.{Stands};
 use token::Scan;
 use token::Token;
 use token::kind;
+use value::limits::MOST_TOKENS;
+
+// An accepted source, as it stands in the word table: the number of its tokens, the position of the token that has the first field's range,
+// that of its first statement, the numbers of dimensions, of fields and of slots that its variables need, and whether `time` occurs in it.
+pub struct Rule {
+    pub tokens: usize,
+    pub base: usize,
+    pub body: usize,
+    pub dims: u32,
+    pub fields: u32,
+    pub slots: u32,
+    pub timed: bool,
+}
 
 // The token at position i, or the stop after the last one.
 pub fn token_at(words: &[u32], scan: Scan, i: usize) -> Token
@@ -48,7 +61,7 @@ pub fn word_at(words: &[u32], i: usize, w: usize) -> u32
     requires { ⌜ (w < 4) × (length (now words) ≡ table-words) ⌝ }
     ensures { λ r. ⌜ r ≡ word-at (now (words .entry)) i w ⌝ }
 {
-    if i < 4096 {
+    if i < MOST_TOKENS {
         return words[4 * i + w];
     }
     0
@@ -59,7 +72,7 @@ pub fn put_word(words: &mut [u32], i: usize, w: usize, v: u32)
     requires { ⌜ (w < 4) × (length (now words) ≡ table-words) ⌝ }
     ensures { λ _. ⌜ now (words .exit) ≡ with-word (now (words .entry)) i w v ⌝ }
 {
-    if i < 4096 {
+    if i < MOST_TOKENS {
         words[4 * i + w] = v;
     }
 }

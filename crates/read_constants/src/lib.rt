@@ -4,7 +4,7 @@ ghost use Prim.Native.Nat.{_<_, _≤_};
 ghost use lib.ListN.{length};
 ghost use Rattle.value.specs.Limits.{most-names};
 ghost use Rattle.grammar.specs.Constants.{read-constant, read-signed, range-rule, read-range, read-values, read-size, array-head, array-constant, simple-constant, constant-value, read-declaration, read-constants};
-ghost use Rattle.read_state.specs.Contracts.Reading.{anything, number, bounds, Ready, Reads, Stays};
+ghost use Rattle.read_state.specs.Contracts.Reading.{anything, in-value, bounds, Ready, Reads, Stays};
 ghost use Rattle.value.specs.Worked.{decode-of};
 use names::Found;
 use names::entry_in;
@@ -13,7 +13,7 @@ use program::put_word;
 use program::token_at;
 use read_state::Read;
 use read_state::Reading;
-use read_state::carrying;
+use read_state::carrying_value;
 use read_state::declare;
 use read_state::expect;
 use read_state::fresh;
@@ -26,6 +26,7 @@ use read_state::use_name;
 use token::Scan;
 use token::kind;
 use value::Value;
+use value::limits::MOST_ELEMENTS;
 use value::opposite;
 
 // ---- constants and ranges
@@ -39,11 +40,11 @@ pub fn read_constant(
     s: Reading,
 ) -> Read
     requires { ⌜ Ready scan (length (now names)) (length (now words)) s ⌝ }
-    ensures { λ r. ⌜ Reads number read-constant (now (source .entry)) scan (s .count) s (now (names .entry)) (now (words .entry)) r (now (names .entry)) (now (words .exit)) ⌝ }
+    ensures { λ r. ⌜ Reads in-value read-constant (now (source .entry)) scan (s .count) s (now (names .entry)) (now (words .entry)) r (now (names .entry)) (now (words .exit)) ⌝ }
 {
     let t = token_at(words, scan, s.at);
     if t.kind == kind::LITERAL {
-        return Read::Next(carrying(moved(s), t.value, 0));
+        return Read::Next(carrying_value(moved(s), t.value, 0));
     }
     if is_name(t) {
         let f = find_name(source, names, s.count, false, t.start, t.len);
@@ -53,7 +54,7 @@ pub fn read_constant(
         let e = entry_in(names, slot);
         if e.kind == names::kind::CONSTANT {
             let a = use_name(words, s, e);
-            return Read::Next(carrying(a, e.word, 0));
+            return Read::Next(carrying_value(a, e.word, 0));
         }
         return refuse(words, scan, s, s.at, 8);
     }
@@ -63,7 +64,7 @@ pub fn read_constant(
 // A constant with at most one sign.
 pub fn read_signed(source: &[u8], names: &[u32], words: &mut [u32], scan: Scan, s: Reading) -> Read
     requires { ⌜ Ready scan (length (now names)) (length (now words)) s ⌝ }
-    ensures { λ r. ⌜ Reads number read-signed (now (source .entry)) scan (s .count) s (now (names .entry)) (now (words .entry)) r (now (names .entry)) (now (words .exit)) ⌝ }
+    ensures { λ r. ⌜ Reads in-value read-signed (now (source .entry)) scan (s .count) s (now (names .entry)) (now (words .entry)) r (now (names .entry)) (now (words .exit)) ⌝ }
 {
     let t = token_at(words, scan, s.at);
     if t.kind == kind::MINUS {
@@ -71,7 +72,7 @@ pub fn read_signed(source: &[u8], names: &[u32], words: &mut [u32], scan: Scan, 
         let Read::Next(a) = r else {
             return r;
         };
-        return Read::Next(carrying(a, opposite(a.word), 0));
+        return Read::Next(carrying_value(a, opposite(a.value), 0));
     }
     if t.kind == kind::PLUS {
         return read_constant(source, names, words, scan, moved(s));
@@ -118,9 +119,9 @@ pub fn read_range(
     let Read::Next(high) = p else {
         return p;
     };
-    let n = range_rule(low.word, high.word, most);
+    let n = range_rule(low.value, high.value, most);
     if n == 0 {
-        return Read::Next(carrying(high, high.word, low.word));
+        return Read::Next(carrying_value(high, high.value, low.value));
     }
     refuse(words, scan, high, high.at - 1, n)
 }
@@ -148,7 +149,7 @@ fn read_values(
         let Read::Next(a) = r else {
             return r;
         };
-        put_word(words, first + k, 3, a.word);
+        put_word(words, first + k, 3, a.value);
         let t = token_at(words, scan, a.at);
         let next = k + 1;
         if t.kind != kind::COMMA {
@@ -168,14 +169,14 @@ fn read_values(
 // The size of an array constant, else refused 44.
 fn read_size(source: &[u8], names: &[u32], words: &mut [u32], scan: Scan, s: Reading) -> Read
     requires { ⌜ Ready scan (length (now names)) (length (now words)) s ⌝ }
-    ensures { λ r. ⌜ Reads number read-size (now (source .entry)) scan (s .count) s (now (names .entry)) (now (words .entry)) r (now (names .entry)) (now (words .exit)) ⌝ }
+    ensures { λ r. ⌜ Reads in-value read-size (now (source .entry)) scan (s .count) s (now (names .entry)) (now (words .entry)) r (now (names .entry)) (now (words .exit)) ⌝ }
 {
     let r = read_constant(source, names, words, scan, s);
     let Read::Next(a) = r else {
         return r;
     };
-    let v = Value::decode(a.word);
-    if v.within(Value { n: 1 }, Value { n: 1024 }) {
+    let v = Value::decode(a.value);
+    if v.within(Value { n: 1 }, Value { n: MOST_ELEMENTS }) {
         return Read::Next(a);
     }
     refuse(words, scan, a, a.at - 1, 44)
@@ -188,12 +189,12 @@ fn array_head(
     words: &mut [u32],
     scan: Scan,
     s: Reading,
-    room: bool,
+    free: bool,
 ) -> Read
     requires { ⌜ Ready scan (length (now names)) (length (now words)) s × (s .at < scan .count) ⌝ }
-    ensures { λ r. ⌜ Reads number (array-head room) (now (source .entry)) scan (s .count) s (now (names .entry)) (now (words .entry)) r (now (names .entry)) (now (words .exit)) ⌝ }
+    ensures { λ r. ⌜ Reads in-value (array-head free) (now (source .entry)) scan (s .count) s (now (names .entry)) (now (words .entry)) r (now (names .entry)) (now (words .exit)) ⌝ }
 {
-    let r = opening(words, scan, s, room);
+    let r = opening(words, scan, s, free);
     let Read::Next(a) = r else {
         return r;
     };
@@ -215,13 +216,13 @@ fn array_constant(
     words: &mut [u32],
     scan: Scan,
     s: Reading,
-    room: bool,
+    free: bool,
     i: usize,
 ) -> Read
     requires { ⌜ Ready scan (length (now names)) (length (now words)) s × (s .at < scan .count) × (s .count < most-names) × (i < scan .count) ⌝ }
-    ensures { λ r. ⌜ Reads anything (array-constant room i) (now (source .entry)) scan 256 s (now (names .entry)) (now (words .entry)) r (now (names .exit)) (now (words .exit)) ⌝ }
+    ensures { λ r. ⌜ Reads anything (array-constant free i) (now (source .entry)) scan 256 s (now (names .entry)) (now (words .entry)) r (now (names .exit)) (now (words .exit)) ⌝ }
 {
-    let r = array_head(source, names, words, scan, s, room);
+    let r = array_head(source, names, words, scan, s, free);
     let Read::Next(size) = r else {
         return r;
     };
@@ -229,11 +230,11 @@ fn array_constant(
     let Read::Next(first) = q else {
         return q;
     };
-    let p = read_values(source, names, words, scan, first, size.word);
+    let p = read_values(source, names, words, scan, first, size.value);
     let Read::Next(a) = p else {
         return p;
     };
-    put_word(words, i, 2, size.word);
+    put_word(words, i, 2, size.value);
     put_word(words, i, 3, first.at as u32);
     Read::Next(declare(names, words, scan, a, i, names::kind::ARRAY, i as u32))
 }
@@ -254,7 +255,7 @@ fn simple_constant(
     let Read::Next(a) = r else {
         return r;
     };
-    Read::Next(declare(names, words, scan, a, i, names::kind::CONSTANT, a.word))
+    Read::Next(declare(names, words, scan, a, i, names::kind::CONSTANT, a.value))
 }
 
 // What follows the name of a constant.
@@ -264,18 +265,18 @@ fn constant_value(
     words: &mut [u32],
     scan: Scan,
     s: Reading,
-    room: bool,
+    free: bool,
     i: usize,
 ) -> Read
     requires { ⌜ Ready scan (length (now names)) (length (now words)) s × (s .count < most-names) × (i < scan .count) ⌝ }
-    ensures { λ r. ⌜ Reads anything (constant-value room i) (now (source .entry)) scan 256 s (now (names .entry)) (now (words .entry)) r (now (names .exit)) (now (words .exit)) ⌝ }
+    ensures { λ r. ⌜ Reads anything (constant-value free i) (now (source .entry)) scan 256 s (now (names .entry)) (now (words .entry)) r (now (names .exit)) (now (words .exit)) ⌝ }
 {
     let t = token_at(words, scan, s.at);
     if t.kind == kind::ASSIGN {
         return simple_constant(source, names, words, scan, s, i);
     }
     if t.kind == kind::BRACKET {
-        return array_constant(source, names, words, scan, s, room, i);
+        return array_constant(source, names, words, scan, s, free, i);
     }
     refuse(words, scan, s, s.at, 7)
 }
@@ -287,16 +288,16 @@ pub fn read_declaration(
     words: &mut [u32],
     scan: Scan,
     s: Reading,
-    room: bool,
+    free: bool,
 ) -> Read
     requires { ⌜ Ready scan (length (now names)) (length (now words)) s × (s .at < scan .count) ⌝ }
-    ensures { λ r. ⌜ Reads anything (read-declaration room) (now (source .entry)) scan 256 s (now (names .entry)) (now (words .entry)) r (now (names .exit)) (now (words .exit)) ⌝ }
+    ensures { λ r. ⌜ Reads anything (read-declaration free) (now (source .entry)) scan 256 s (now (names .entry)) (now (words .entry)) r (now (names .exit)) (now (words .exit)) ⌝ }
 {
     let r = fresh(source, names, words, scan, moved(s), false, 0);
     let Read::Next(a) = r else {
         return r;
     };
-    let q = constant_value(source, names, words, scan, a, room, a.at - 1);
+    let q = constant_value(source, names, words, scan, a, free, a.at - 1);
     let Read::Next(past) = q else {
         return q;
     };

@@ -34,12 +34,12 @@ module _ {A : Type 0} {R Q : A → Reading → Type 0} {m : Reader A} {source : 
   stopped {c} e y = rw e (no-further x y)
 
 -- the cell, from its number of dimensions and its fields
-pub cell-of : {words : List ℕ} {z : ℤ} {a t : Reading} {d : Declared} (c : CellRead) → Dims z a → Fielded words (c .base) z d t → c .dims ≡ a .word → c .named ≡ eqb (t .low) 1 → c .fields ≡ t .word → DeclaresField words c d t
+pub cell-of : {words : List ℕ} {z : ℤ} {a t : Reading} {d : Declared} (c : CellRead) → Dims z a → Fielded words (c .base) z d t → c .dims ≡ a .value → c .named ≡ eqb (t .named) 1 → c .fields ≡ t .fields → DeclaresField words c d t
 cell-of {a = a} c x f p q r =
     let l = x .least in
     let m = x .most in
     record {
-      dims = f .dims ∙ word-of (a .word) (x .is) (omega arith) ∙ sym p;
+      dims = f .dims ∙ word-of (a .value) (x .is) (omega arith) ∙ sym p;
       least = omega arith;
       most = omega arith;
       named = f .named ∙ sym q;

@@ -17,7 +17,7 @@ use Rattle.program.specs.Syntax.{Range}
 use Rattle.grammar.specs.Reader.{is-kind}
 use Rattle.grammar.specs.Constants.{is-sign}
 use Rattle.grammar.specs.Source.{is-unnamed}
-use Rattle.read_state.specs.Contracts.Reading.{Moved, Carries, carrying, Named}
+use Rattle.read_state.specs.Contracts.Reading.{Moved, Carries, carrying-number, Named}
 use Rattle.read_state.specs.declared.Reading.{Reading}
 use Rattle.read_declaration.specs.Contracts.Fields.{full-of, FieldsEnd, Starts}
 
@@ -70,16 +70,16 @@ pub end-test : {t : Token} {n : ℕ} {r v : Bool} → FieldsEnd t n r → (rs : 
 end-test {t} x rs e q = ap (λ (m : ℕ). is-kind t (keyword .end) && ltb 0 m) e ∙ sym (x .is) ∙ q
 
 module _ {t : Token} {s : Reading} where
-  pub starts-const : t .kind ≡ 5 → {m r : Reading} → Moved s m → Carries m 6 0 r → Starts t s r
+  pub starts-const : t .kind ≡ 5 → {m r : Reading} → Moved s m → Carries m (carrying-number m 6) r → Starts t s r
   starts-const e {m} x y =
       record {
-        is = y .is ∙ ap (λ (z : Reading). carrying z 6 0) (x .is) ∙ sym (rw (eq-eqb (t .kind) 5 e));
+        is = y .is ∙ ap (λ (z : Reading). carrying-number z 6) (x .is) ∙ sym (rw (eq-eqb (t .kind) 5 e));
         past = omega (arith, x .at, y .at);
         near = omega (arith, x .at, y .at, e);
         count = y .count ∙ x .count;
       }
 
-  pub starts-plain : (t .kind ≡ 5 → ⊥) → {r : Reading} → Carries s 3 0 r → Starts t s r
+  pub starts-plain : (t .kind ≡ 5 → ⊥) → {r : Reading} → Carries s (carrying-number s 3) r → Starts t s r
   starts-plain e y =
       record { is = y .is ∙ sym (rw (ne-eqb (t .kind) 5 e)); past = omega (arith, y .at); near = omega (arith, y .at); count = y .count }
 

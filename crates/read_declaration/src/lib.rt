@@ -4,7 +4,7 @@ ghost use mathlib.Core.List.{List, []};
 ghost use Prim.Native.Nat.{_+_, _≤_, _<_, min};
 ghost use lib.ListN.{length};
 ghost use lib.IntN.{ℤ};
-ghost use Rattle.value.specs.Limits.{most-tokens, table-words};
+ghost use Rattle.value.specs.Limits.{most-tokens, table-words, most-fields};
 ghost use Rattle.value.specs.Worked.{decode-of};
 ghost use Rattle.program.specs.Syntax.{Range, range};
 ghost use Rattle.grammar.specs.Reader.{repeat, turns};
@@ -18,7 +18,8 @@ use read_constants::read_constant;
 use read_constants::read_range;
 use read_state::Read;
 use read_state::Reading;
-use read_state::carrying;
+use read_state::carrying_fields;
+use read_state::carrying_number;
 use read_state::declare;
 use read_state::expect;
 use read_state::forbid;
@@ -29,14 +30,19 @@ use read_state::refuse;
 use token::Scan;
 use token::Token;
 use token::kind;
+use value::limits::MOST_DIMS;
+use value::limits::MOST_FIELDS;
 
 // ---- a group of fields
+
+// Dimensions of a grid.
+const DIMS: u32 = MOST_DIMS as u32;
 
 // The rule that refuses one more field name after n fields; 0: none.
 fn full(n: u32) -> u32
     ensures { λ r. ⌜ r ≡ full-of n ⌝ }
 {
-    if 8 <= n {
+    if MOST_FIELDS <= n {
         return 43;
     }
     0
@@ -52,7 +58,7 @@ fn read_names(
     kind: u32,
     got: u32,
 ) -> Read
-    requires { ⌜ Ready scan (length (now names)) (length (now words)) s × (got ≤ 8) ⌝ }
+    requires { ⌜ Ready scan (length (now names)) (length (now words)) s × (got ≤ most-fields) ⌝ }
     ensures { λ r. ⌜ Reads (Counted got (s .at)) (repeat turns (field-turn kind) got) (now (source .entry)) scan 256 s (now (names .entry)) (now (words .entry)) r (now (names .exit)) (now (words .entry)) ⌝ }
 {
     let mut here = s;
@@ -74,7 +80,7 @@ fn read_names(
             let Read::Next(d) = p else {
                 return p;
             };
-            return Read::Next(carrying(d, n, 0));
+            return Read::Next(carrying_fields(d, n, 0));
         }
         here = moved(f);
     }
@@ -104,7 +110,7 @@ fn read_group(
     got: u32,
     kind: u32,
 ) -> Read
-    requires { ⌜ Ready scan (length (now names)) (length (now words)) s × (base + got < s .at) × (got ≤ 8) ⌝ }
+    requires { ⌜ Ready scan (length (now names)) (length (now words)) s × (base + got < s .at) × (got ≤ most-fields) ⌝ }
     ensures { λ r. ⌜ ((ranges : List Range) → Ranges (now (words .entry)) base ranges got → Reads (Fields (now (words .exit)) base 1) (read-group base ranges kind) (now (source .entry)) scan 256 s (now (names .entry)) (now (words .entry)) r (now (names .exit)) (now (words .exit))) ⌝ }
 {
     let r = read_names(source, names, words, scan, s, kind, got);
@@ -115,9 +121,9 @@ fn read_group(
     let Read::Next(b) = q else {
         return q;
     };
-    let more = a.word - got;
-    write_ranges(words, base + got as usize, more as usize, b.low, b.word);
-    Read::Next(carrying(b, a.word, 1))
+    let more = a.fields - got;
+    write_ranges(words, base + got as usize, more as usize, b.low, b.value);
+    Read::Next(carrying_fields(b, a.fields, 1))
 }
 
 // ---- the fields
@@ -138,9 +144,9 @@ fn group_start(s: Reading, t: Token) -> Reading
     ensures { λ r. ⌜ Starts t s r ⌝ }
 {
     if t.kind == kind::CONST_WORD {
-        return carrying(moved(s), names::kind::CONST_FIELD, 0);
+        return carrying_number(moved(s), names::kind::CONST_FIELD);
     }
-    carrying(s, names::kind::FIELD, 0)
+    carrying_number(s, names::kind::FIELD)
 }
 
 // The groups of named fields, and the `end` after them: how many fields there are.
@@ -160,14 +166,14 @@ fn read_groups(
     loop {
         let t = token_at(words, scan, here.at);
         if is_end(t, n) {
-            return Read::Next(carrying(moved(here), n, 1));
+            return Read::Next(carrying_fields(moved(here), n, 1));
         }
         let b = group_start(here, t);
-        let r = read_group(source, names, words, scan, b, base, n, b.word);
+        let r = read_group(source, names, words, scan, b, base, n, b.number);
         let Read::Next(a) = r else {
             return r;
         };
-        n = a.word;
+        n = a.fields;
         here = a;
     }
 }
@@ -211,8 +217,8 @@ fn read_fields(
         let Read::Next(a) = r else {
             return r;
         };
-        write_ranges(words, base, 1, a.low, a.word);
-        return Read::Next(carrying(a, 1, 0));
+        write_ranges(words, base, 1, a.low, a.value);
+        return Read::Next(carrying_fields(a, 1, 0));
     }
     read_groups(source, names, words, scan, s, base)
 }
@@ -228,10 +234,10 @@ fn read_dims(source: &[u8], names: &[u32], words: &mut [u32], scan: Scan, s: Rea
     let Read::Next(a) = r else {
         return r;
     };
-    if a.word < 1 {
+    if a.value < 1 {
         return refuse(words, scan, a, a.at - 1, 40);
     }
-    if 3 < a.word {
+    if DIMS < a.value {
         return refuse(words, scan, a, a.at - 1, 40);
     }
     Read::Next(a)
@@ -288,9 +294,9 @@ pub fn read_cell(
     };
     CellRead {
         read: f,
-        dims: a.word,
-        named: d.low == 1,
-        fields: d.word,
+        dims: a.value,
+        named: d.named == 1,
+        fields: d.fields,
         base: b.at,
     }
 }

@@ -20,13 +20,6 @@ use Rattle.read_state.proofs.Steps.{by-another}
 pub first-holds : {a : Bool} (b : Bool) → a ≡ true → (a || b) ≡ true
 first-holds b p = rw p
 
-pub second-holds : (a : Bool) {b : Bool} → b ≡ true → (a || b) ≡ true
-second-holds true p = refl
-second-holds false p = p
-
-pub neither : {a b : Bool} → a ≡ false → b ≡ false → (a || b) ≡ false
-neither p q = rw (p, q)
-
 -- the word of a number that was read is written
 pub put-decoded : {source : List ℕ} {sc : Scan} {s : Reading} {ns ws ns₁ ws₁ : List ℕ} {r : Read} (i w : ℕ) → w < 4294967296 → Gives anything (put i 3 w) source sc s ns ws r ns₁ ws₁ → Gives anything (put i 3 (encode-of (decode-of w))) source sc s ns ws r ns₁ ws₁
 put-decoded {source} {sc} {s} {ns} {ws} i w h x = by-another (ap (λ (v : ℕ). put i 3 v (input source sc) (state s ns ws)) (encode-decode w h)) x

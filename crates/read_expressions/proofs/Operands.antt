@@ -17,7 +17,7 @@ use Rattle.read_state.specs.declared.Reading.{Reading}
 use Rattle.read_state.specs.declared.Read.{Read}
 use Rattle.read_state.specs.Contracts.Reading.{anything, Gives, Passes, refusing, Moved}
 use Rattle.read_state.proofs.Steps.{by-another, on, off, refused, advanced}
-use Rattle.read_expressions.specs.Contracts.Promises.{has-room, inner-in}
+use Rattle.read_expressions.specs.Contracts.Promises.{some-free, inner-in}
 
 -- ---- steps
 
@@ -34,35 +34,35 @@ module _ {A : Type 0} {source : List ℕ} {sc : Scan} {R : A → Reading → Typ
 
 -- ---- brackets
 
--- whether there is room is a test of the number
-room-test : (room : ℕ) → ltb 0 room ≡ has-room room
-room-test zero = refl
-room-test (suc room) = lt-ltb 0 (suc room) (omega arith)
+-- whether one more may be open is a test of the number
+free-test : (free : ℕ) → ltb 0 free ≡ some-free free
+free-test zero = refl
+free-test (suc free) = lt-ltb 0 (suc free) (omega arith)
 
-pub opening-as : {sc : Scan} {s : Reading} {ws : List ℕ} {r : Read} (room : ℕ) → Passes anything (opening (ltb 0 room)) sc 1 s ws r → Passes anything (opening (has-room room)) sc 1 s ws r
-opening-as room x = rw (← room-test room) x
+pub opening-as : {sc : Scan} {s : Reading} {ws : List ℕ} {r : Read} (free : ℕ) → Passes anything (opening (ltb 0 free)) sc 1 s ws r → Passes anything (opening (some-free free)) sc 1 s ws r
+opening-as free x = rw (← free-test free) x
 
-module _ {source : List ℕ} {sc : Scan} {s : Reading} {ns ws : List ℕ} {r : Read} (cell : Cell) (room : ℕ) where
-  -- an operand, by the room for its brackets
-  pub operand-by : {R : Expr → Reading → Type 0} {ws₁ : List ℕ} → Gives R (read-operand cell (has-room room) (inner-in cell room)) source sc s ns ws r ns ws₁ → Gives R (operand-in cell room) source sc s ns ws r ns ws₁
+module _ {source : List ℕ} {sc : Scan} {s : Reading} {ns ws : List ℕ} {r : Read} (cell : Cell) (free : ℕ) where
+  -- an operand, by how many more brackets may be open
+  pub operand-by : {R : Expr → Reading → Type 0} {ws₁ : List ℕ} → Gives R (read-operand cell (some-free free) (inner-in cell free)) source sc s ns ws r ns ws₁ → Gives R (operand-in cell free) source sc s ns ws r ns ws₁
   unfolding operand-in
-  operand-by {R} {ws₁} x = by room x
+  operand-by {R} {ws₁} x = by free x
     where
-      by : (n : ℕ) → Gives R (read-operand cell (has-room n) (inner-in cell n)) source sc s ns ws r ns ws₁ → Gives R (operand-in cell n) source sc s ns ws r ns ws₁
+      by : (n : ℕ) → Gives R (read-operand cell (some-free n) (inner-in cell n)) source sc s ns ws r ns ws₁ → Gives R (operand-in cell n) source sc s ns ws r ns ws₁
       by zero y = y
       by (suc n) y = y
 
-  -- no room for one more bracket
-  pub closed : (close : ℕ) → room ≡ 0 → r ≡ refusing ws sc s (s .at) 14 → Gives anything (read-bracket (has-room room) (inner-in cell room) close) source sc s ns ws r ns ws
+  -- no bracket more may be open
+  pub closed : (close : ℕ) → free ≡ 0 → r ≡ refusing ws sc s (s .at) 14 → Gives anything (read-bracket (some-free free) (inner-in cell free) close) source sc s ns ws r ns ws
   unfolding read-bracket opening
   closed close e y = rw e (off _ (off {R = anything} {Q = anything} _ (refused _ y) y) y)
 
   -- an expression behind an opening bracket
-  pub entered : (room ≡ 0 → ⊥) → {a : Reading} {ws₁ : List ℕ} → Moved s a → Gives anything (climb levels (operand-in cell (room - 1)) 1) source sc a ns ws r ns ws₁ → Gives anything (opening (has-room room) >> inner-in cell room) source sc s ns ws r ns ws₁
+  pub entered : (free ≡ 0 → ⊥) → {a : Reading} {ws₁ : List ℕ} → Moved s a → Gives anything (climb levels (operand-in cell (free - 1)) 1) source sc a ns ws r ns ws₁ → Gives anything (opening (some-free free) >> inner-in cell free) source sc s ns ws r ns ws₁
   unfolding opening
-  entered h {a} {ws₁} m x = by room h x
+  entered h {a} {ws₁} m x = by free h x
     where
-      by : (n : ℕ) → (n ≡ 0 → ⊥) → Gives anything (climb levels (operand-in cell (n - 1)) 1) source sc a ns ws r ns ws₁ → Gives anything (opening (has-room n) >> inner-in cell n) source sc s ns ws r ns ws₁
+      by : (n : ℕ) → (n ≡ 0 → ⊥) → Gives anything (climb levels (operand-in cell (n - 1)) 1) source sc a ns ws r ns ws₁ → Gives anything (opening (some-free n) >> inner-in cell n) source sc s ns ws r ns ws₁
       by zero f y = absurd (f refl)
       by (suc n) f y =
           let e : suc n - 1 ≡ n = omega arith in

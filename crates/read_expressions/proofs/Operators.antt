@@ -14,11 +14,12 @@ use Rattle.program.specs.Syntax.{Expr}
 use Rattle.program.specs.Contracts.Standing.{Stands}
 use Rattle.grammar.specs.Reader.{_>>=_, Result, ok, fail, Input, State, Reader, and-then, return, next-token, Turn, done, turned, repeat, turns}
 use Rattle.grammar.specs.Expressions.{LeftPart, left-part, read-right, operator-turn, climb}
+use Rattle.grammar.proofs.Theorems.Ends.{bind-ok}
 use Rattle.read_state.specs.declared.Reading.{Reading}
 use Rattle.read_state.specs.declared.Read.{Read}
 use Rattle.read_state.specs.declared.Read.the-variants.{Next}
 use Rattle.read_state.specs.Contracts.Reading.{input, state, anything, once-more, at-end, Gives, refusing, Moved}
-use Rattle.read_state.proofs.Steps.{bind-ok, by-another, on, so, other, token, made, refused, returned, advanced}
+use Rattle.read_state.proofs.Steps.{by-another, on, so, other, token, made, refused, returned, advanced}
 use Rattle.read_expressions.specs.Contracts.Promises.{are-relations}
 use Rattle.token.proofs.Levels.{level-few}
 

@@ -7,9 +7,9 @@ ghost use Rattle.value.specs.Limits.{most-tokens, table-words};
 ghost use Rattle.token.specs.declared.Token.{Token};
 ghost use Rattle.names.specs.declared.Entry.{Entry};
 ghost use Rattle.grammar.specs.Expressions.{plain, field-name, dot-field, read-field, put-field, named-index, fixed-index, read-index, read-indices, read-neighbour, read-own, read-bracket, read-element, array-use, name-use, read-primary, operand-in};
-ghost use Rattle.read_state.specs.Contracts.Reading.{anything, in-word, Ready, Gives, Reads, Stays, Passes};
+ghost use Rattle.read_state.specs.Contracts.Reading.{anything, in-number, Ready, Gives, Reads, Stays, Passes};
 ghost use Rattle.read_state.specs.declared.Read.the-variants.{Next};
-ghost use Rattle.read_expressions.specs.Contracts.Promises.{cell-as, slot-in, unnamed-of, has-room, inner-in, Unary, Climbs, are-relations};
+ghost use Rattle.read_expressions.specs.Contracts.Promises.{cell-as, slot-in, unnamed-of, some-free, inner-in, Unary, Climbs, are-relations};
 use names::Found;
 use names::entry_in;
 use names::find_name;
@@ -18,7 +18,7 @@ use program::token_at;
 use read_constants::read_signed;
 use read_state::Read;
 use read_state::Reading;
-use read_state::carrying;
+use read_state::carrying_number;
 use read_state::expect;
 use read_state::forbid;
 use read_state::is_name;
@@ -63,7 +63,7 @@ fn field_name(source: &[u8], names: &[u32], words: &[u32], scan: Scan, s: Readin
         let Found::At(slot) = f else {
             return refuse(words, scan, s, s.at, 12);
         };
-        return Read::Next(carrying(moved(s), slot as u32, 0));
+        return Read::Next(carrying_number(moved(s), slot as u32));
     }
     refuse(words, scan, s, s.at, 7)
 }
@@ -102,7 +102,7 @@ fn read_field(
     own: bool,
 ) -> Read
     requires { ⌜ Ready scan (length (now names)) (length (now words)) s ⌝ }
-    ensures { λ r. ⌜ Stays in-word (read-field (cell-as cell) (unnamed-of own)) (now (source .entry)) scan (s .count) s (now (names .entry)) (now (words .entry)) r (now (names .entry)) (now (words .entry)) ⌝ }
+    ensures { λ r. ⌜ Stays in-number (read-field (cell-as cell) (unnamed-of own)) (now (source .entry)) scan (s .count) s (now (names .entry)) (now (words .entry)) r (now (names .entry)) (now (words .entry)) ⌝ }
 {
     if cell.named {
         let r = dot_field(source, names, words, scan, s);
@@ -113,22 +113,22 @@ fn read_field(
         let Read::Next(b) = q else {
             return q;
         };
-        let e = entry_in(names, a.word as usize);
-        return Read::Next(carrying(b, e.word, 0));
+        let e = entry_in(names, a.number as usize);
+        return Read::Next(carrying_number(b, e.word));
     }
     let r = unnamed(words, scan, s, own);
     let Read::Next(a) = r else {
         return r;
     };
-    Read::Next(carrying(a, 0, 0))
+    Read::Next(carrying_number(a, 0))
 }
 
 // The field's number, which is read, and the position past it are noted at position i.
 fn put_field(words: &mut [u32], s: Reading, i: usize)
     requires { ⌜ (length (now words) ≡ table-words) × (s .at ≤ most-tokens) ⌝ }
-    ensures { λ _. ⌜ ((source ns : List ℕ) (scan : Scan) → Gives anything (put-field i (s .word)) source scan s ns (now (words .entry)) (Next s) ns (now (words .exit))) ⌝ }
+    ensures { λ _. ⌜ ((source ns : List ℕ) (scan : Scan) → Gives anything (put-field i (s .number)) source scan s ns (now (words .entry)) (Next s) ns (now (words .exit))) ⌝ }
 {
-    put_word(words, i, 2, s.word);
+    put_word(words, i, 2, s.number);
     put_word(words, i, 3, s.at as u32);
 }
 
@@ -158,7 +158,7 @@ fn fixed_index(source: &[u8], names: &[u32], words: &mut [u32], scan: Scan, s: R
     let Read::Next(a) = r else {
         return r;
     };
-    put_word(words, s.at, 3, a.word);
+    put_word(words, s.at, 3, a.value);
     Read::Next(a)
 }
 
@@ -223,12 +223,12 @@ fn read_neighbour(
     scan: Scan,
     s: Reading,
     cell: Cell,
-    room: u32,
+    free: u32,
 ) -> Read
     requires { ⌜ Ready scan (length (now names)) (length (now words)) s × (s .at < scan .count) ⌝ }
-    ensures { λ r. ⌜ Reads anything (read-neighbour (cell-as cell) (has-room room)) (now (source .entry)) scan (s .count) s (now (names .entry)) (now (words .entry)) r (now (names .entry)) (now (words .exit)) ⌝ }
+    ensures { λ r. ⌜ Reads anything (read-neighbour (cell-as cell) (some-free free)) (now (source .entry)) scan (s .count) s (now (names .entry)) (now (words .entry)) r (now (names .entry)) (now (words .exit)) ⌝ }
 {
-    let o = opening(words, scan, s, 0 < room);
+    let o = opening(words, scan, s, 0 < free);
     let Read::Next(a) = o else {
         return o;
     };
@@ -289,7 +289,7 @@ fn is_unary(t: Token) -> bool
     t.kind == kind::NOT
 }
 
-// ---- expressions: `room` is how many more brackets may be open
+// ---- expressions: `free` is how many more brackets may be open
 
 // An expression of operators of a level or tighter: an operand, then operators from left to right. A relation cannot take a bare relation
 // as operand.
@@ -301,12 +301,12 @@ pub fn read_expression(
     s: Reading,
     cell: Cell,
     level: u32,
-    room: u32,
+    free: u32,
 ) -> Read
     requires { ⌜ Ready scan (length (now names)) (length (now words)) s × (1 ≤ level) ⌝ }
-    ensures { λ r. ⌜ Climbs cell level room (now (source .entry)) scan s (now (names .entry)) (now (words .entry)) r (now (words .exit)) ⌝ }
+    ensures { λ r. ⌜ Climbs cell level free (now (source .entry)) scan s (now (names .entry)) (now (words .entry)) r (now (words .exit)) ⌝ }
 {
-    let first = read_operand(source, names, words, scan, s, cell, room);
+    let first = read_operand(source, names, words, scan, s, cell, free);
     let Read::Next(a) = first else {
         return first;
     };
@@ -321,7 +321,7 @@ pub fn read_expression(
         if are_relations(own, last) {
             return refuse(words, scan, here, here.at, 13);
         }
-        let right = read_expression(source, names, words, scan, moved(here), cell, own + 1, room);
+        let right = read_expression(source, names, words, scan, moved(here), cell, own + 1, free);
         let Read::Next(b) = right else {
             return right;
         };
@@ -338,15 +338,15 @@ fn read_operand(
     scan: Scan,
     s: Reading,
     cell: Cell,
-    room: u32,
+    free: u32,
 ) -> Read
     requires { ⌜ Ready scan (length (now names)) (length (now words)) s ⌝ }
-    ensures { λ r. ⌜ Reads anything (operand-in (cell-as cell) room) (now (source .entry)) scan (s .count) s (now (names .entry)) (now (words .entry)) r (now (names .entry)) (now (words .exit)) ⌝ }
+    ensures { λ r. ⌜ Reads anything (operand-in (cell-as cell) free) (now (source .entry)) scan (s .count) s (now (names .entry)) (now (words .entry)) r (now (names .entry)) (now (words .exit)) ⌝ }
 {
     if is_unary(token_at(words, scan, s.at)) {
-        return read_primary(source, names, words, scan, moved(s), cell, room);
+        return read_primary(source, names, words, scan, moved(s), cell, free);
     }
-    read_primary(source, names, words, scan, s, cell, room)
+    read_primary(source, names, words, scan, s, cell, free)
 }
 
 // A primary: a literal, a bracket, a relative index, `cell`, `time` or a name.
@@ -357,20 +357,20 @@ fn read_primary(
     scan: Scan,
     s: Reading,
     cell: Cell,
-    room: u32,
+    free: u32,
 ) -> Read
     requires { ⌜ Ready scan (length (now names)) (length (now words)) s ⌝ }
-    ensures { λ r. ⌜ Reads anything (read-primary (cell-as cell) (has-room room) (inner-in (cell-as cell) room)) (now (source .entry)) scan (s .count) s (now (names .entry)) (now (words .entry)) r (now (names .entry)) (now (words .exit)) ⌝ }
+    ensures { λ r. ⌜ Reads anything (read-primary (cell-as cell) (some-free free) (inner-in (cell-as cell) free)) (now (source .entry)) scan (s .count) s (now (names .entry)) (now (words .entry)) r (now (names .entry)) (now (words .exit)) ⌝ }
 {
     let t = token_at(words, scan, s.at);
     if t.kind == kind::LITERAL {
         return Read::Next(moved(s));
     }
     if t.kind == kind::PAREN {
-        return read_bracket(source, names, words, scan, s, cell, room, kind::UNPAREN);
+        return read_bracket(source, names, words, scan, s, cell, free, kind::UNPAREN);
     }
     if t.kind == kind::BRACKET {
-        return read_neighbour(source, names, words, scan, s, cell, room);
+        return read_neighbour(source, names, words, scan, s, cell, free);
     }
     if t.kind == kind::CELL {
         return read_own(source, names, words, scan, s, cell);
@@ -383,7 +383,7 @@ fn read_primary(
         let Found::At(slot) = f else {
             return refuse(words, scan, s, s.at, 8);
         };
-        return name_use(source, names, words, scan, s, cell, room, slot);
+        return name_use(source, names, words, scan, s, cell, free, slot);
     }
     refuse(words, scan, s, s.at, 7)
 }
@@ -396,16 +396,16 @@ fn name_use(
     scan: Scan,
     s: Reading,
     cell: Cell,
-    room: u32,
+    free: u32,
     slot: usize,
 ) -> Read
     requires { ⌜ Ready scan (length (now names)) (length (now words)) s × (s .at < scan .count) × (slot < s .count) ⌝ }
-    ensures { λ r. ⌜ Reads anything (name-use (has-room room) (inner-in (cell-as cell) room) slot) (now (source .entry)) scan (s .count) s (now (names .entry)) (now (words .entry)) r (now (names .entry)) (now (words .exit)) ⌝ }
+    ensures { λ r. ⌜ Reads anything (name-use (some-free free) (inner-in (cell-as cell) free) slot) (now (source .entry)) scan (s .count) s (now (names .entry)) (now (words .entry)) r (now (names .entry)) (now (words .exit)) ⌝ }
 {
     let e = entry_in(names, slot);
     let a = use_name(words, s, e);
     if e.kind == names::kind::ARRAY {
-        return array_use(source, names, words, scan, a, cell, room);
+        return array_use(source, names, words, scan, a, cell, free);
     }
     plain(words, scan, a)
 }
@@ -418,14 +418,14 @@ fn array_use(
     scan: Scan,
     s: Reading,
     cell: Cell,
-    room: u32,
+    free: u32,
 ) -> Read
     requires { ⌜ Ready scan (length (now names)) (length (now words)) s ⌝ }
-    ensures { λ r. ⌜ ((e : Entry) → Stays anything (array-use (has-room room) (inner-in (cell-as cell) room) e) (now (source .entry)) scan (s .count) s (now (names .entry)) (now (words .entry)) r (now (names .entry)) (now (words .exit))) ⌝ }
+    ensures { λ r. ⌜ ((e : Entry) → Stays anything (array-use (some-free free) (inner-in (cell-as cell) free) e) (now (source .entry)) scan (s .count) s (now (names .entry)) (now (words .entry)) r (now (names .entry)) (now (words .exit))) ⌝ }
 {
     let t = token_at(words, scan, s.at);
     if t.kind == kind::BRACKET {
-        return read_element(source, names, words, scan, s, cell, room);
+        return read_element(source, names, words, scan, s, cell, free);
     }
     plain(words, scan, noting(words, scan, s, 12))
 }
@@ -438,12 +438,12 @@ fn read_element(
     scan: Scan,
     s: Reading,
     cell: Cell,
-    room: u32,
+    free: u32,
 ) -> Read
     requires { ⌜ Ready scan (length (now names)) (length (now words)) s × (s .at < scan .count) ⌝ }
-    ensures { λ r. ⌜ ((e : Entry) → Reads anything (read-element (has-room room) (inner-in (cell-as cell) room) e) (now (source .entry)) scan (s .count) s (now (names .entry)) (now (words .entry)) r (now (names .entry)) (now (words .exit))) ⌝ }
+    ensures { λ r. ⌜ ((e : Entry) → Reads anything (read-element (some-free free) (inner-in (cell-as cell) free) e) (now (source .entry)) scan (s .count) s (now (names .entry)) (now (words .entry)) r (now (names .entry)) (now (words .exit))) ⌝ }
 {
-    let r = read_bracket(source, names, words, scan, s, cell, room, kind::UNBRACKET);
+    let r = read_bracket(source, names, words, scan, s, cell, free, kind::UNBRACKET);
     let Read::Next(a) = r else {
         return r;
     };
@@ -458,16 +458,16 @@ fn read_bracket(
     scan: Scan,
     s: Reading,
     cell: Cell,
-    room: u32,
+    free: u32,
     close: u32,
 ) -> Read
     requires { ⌜ Ready scan (length (now names)) (length (now words)) s × (s .at < scan .count) × (1 ≤ close) ⌝ }
-    ensures { λ r. ⌜ Reads anything (read-bracket (has-room room) (inner-in (cell-as cell) room) close) (now (source .entry)) scan (s .count) s (now (names .entry)) (now (words .entry)) r (now (names .entry)) (now (words .exit)) ⌝ }
+    ensures { λ r. ⌜ Reads anything (read-bracket (some-free free) (inner-in (cell-as cell) free) close) (now (source .entry)) scan (s .count) s (now (names .entry)) (now (words .entry)) r (now (names .entry)) (now (words .exit)) ⌝ }
 {
-    if room == 0 {
+    if free == 0 {
         return refuse(words, scan, s, s.at, 14);
     }
-    let r = read_expression(source, names, words, scan, moved(s), cell, 1, room - 1);
+    let r = read_expression(source, names, words, scan, moved(s), cell, 1, free - 1);
     let Read::Next(a) = r else {
         return r;
     };

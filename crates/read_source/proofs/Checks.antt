@@ -10,10 +10,12 @@ use Rattle.token.specs.declared.Scan.{Scan}
 use Rattle.token.specs.Kind.{kind}
 use Rattle.token.specs.Lexeme.{is-built-in}
 use Rattle.token.specs.Contracts.Promises.{Scans}
+use Rattle.program.specs.declared.Rule.{Rule}
 use Rattle.grammar.specs.Reader.{ok, fail}
 use Rattle.grammar.specs.Source.{Accepted, has-kind, settled, read-program, what-is-read, parse}
 use Rattle.grammar.specs.Checking.{source-read, rooms-fit, read-source, check, words-after}
 use Rattle.grammar.specs.Contracts.Flat.{lent-fit, names-after}
+use Rattle.grammar.proofs.Theorems.Traces.{parses}
 use Rattle.read_state.specs.Contracts.Reading.{input, state, Told}
 use Rattle.read_state.specs.declared.Reading.{Reading}
 use Rattle.read_state.specs.declared.Read.{Read}
@@ -21,9 +23,8 @@ use Rattle.read_state.specs.declared.Read.the-variants.{Next, Refused}
 use Rattle.read_state.proofs.Steps.{went-on}
 use Rattle.read_source.specs.Contracts.Promises.{begun, Whole, Programs, Checks, is-accepted, Loads, Unloaded}
 use Rattle.read_source.specs.declared.checking.ProgramRead.{ProgramRead}
-use Rattle.read_source.specs.declared.checking.Outline.{Outline}
 use Rattle.read_source.specs.declared.checking.Loaded.{Loaded}
-use Rattle.read_source.proofs.Traces.{parses, outlined}
+use Rattle.read_source.proofs.Traces.{rule-read}
 
 -- ---- whether the rooms fit
 
@@ -42,7 +43,7 @@ module _ (ws ns : List ℕ) where
 
 -- what loading a source gives
 abbrev Answers : (source ws ns : List ℕ) → Loaded → (ws′ ns′ : List ℕ) → Type 0
-Answers source ws ns u ws′ ns′ = Checks (rooms-fit (length ws) (length ns)) source ws ns (u .number) (u .place) ws′ ns′ × Loads source ws ns (u .accepted) (u .outline)
+Answers source ws ns u ws′ ns′ = Checks (rooms-fit (length ws) (length ns)) source ws ns (u .number) (u .place) ws′ ns′ × Loads source ws ns (u .accepted) (u .rule)
 
 -- a source that is not accepted
 unaccepted : {source ws ns ws′ ns′ : List ℕ} {k p : ℕ} {u : Loaded} → Checks (rooms-fit (length ws) (length ns)) source ws ns k p ws′ ns′
@@ -56,7 +57,7 @@ unaccepted x e y = (
     table = λ q. never (sym (y .unaccepted) ∙ q);
     list = λ q. never (sym (y .unaccepted) ∙ q);
     short = λ q. never (sym (y .unaccepted) ∙ q);
-    none = λ _. y .outline;
+    none = λ _. y .rule;
   },
 )
 
@@ -112,10 +113,10 @@ module _ (source ws ns : List ℕ) (e : length ws ≡ 16384) (f : length ns ≡ 
         unaccepted (rw (c ∙ ap (λ (n : ℕ). replicate n 0) a, d ∙ ap (λ (n : ℕ). replicate n 0) b) (refuses k n (read-refused q))) (simp (reads, read-refused q))
 
     pub accepted-with : {t : Reading} {ns′ : List ℕ} → p .read ≡ Next t → ns′ ≡ settled ws₂ ns₂ (t .count)
-        → (o : Outline) → o .tokens ≡ sc .count → o .base ≡ p .base → o .body ≡ p .body → o .dims ≡ p .dims → o .fields ≡ p .fields → o .slots ≡ t .count
-        → o .timed ≡ has-kind (kind .time) ws₂ (sc .count)
-        → Checks (rooms-fit (length ws) (length ns)) source ws ns 0 0 ws₂ ns′ × Loads source ws ns true o
-    accepted-with {t} {ns′} q d o tokens base body dims fields slots timed =
+        → (rule : Rule) → rule .tokens ≡ sc .count → rule .base ≡ p .base → rule .body ≡ p .body → rule .dims ≡ p .dims → rule .fields ≡ p .fields → rule .slots ≡ t .count
+        → rule .timed ≡ has-kind (kind .time) ws₂ (sc .count)
+        → Checks (rooms-fit (length ws) (length ns)) source ws ns 0 0 ws₂ ns′ × Loads source ws ns true rule
+    accepted-with {t} {ns′} q d rule tokens base body dims fields slots timed =
         let y = went-on (g .gives) q .is in
         let a = y .0 in
         let w = y .1 in
@@ -123,7 +124,7 @@ module _ (source ws ns : List ℕ) (e : length ws ≡ 16384) (f : length ns ≡ 
           subst (λ (l : List ℕ). Checks (rooms-fit (length ws) (length ns)) source ws ns 0 0 l ns′) (w .words) (subst (λ (l : List ℕ). Checks (rooms-fit (length ws) (length ns)) source ws ns 0 0 (a .words) l) (w .names ∙ sym d) (accepts a h)),
           record {
             is = simp (reads, h);
-            given = λ _. outlined x z (g .follows t q) o tokens base body dims fields slots timed;
+            given = λ _. rule-read x z (g .follows t q) rule tokens base body dims fields slots timed;
             reads = λ _ u. reads ∙ ap source-read (parses u);
             table = λ _. e;
             list = λ _. f;

@@ -9,12 +9,11 @@ use Rattle.value.specs.Limits.{most-names, most-open}
 use Rattle.token.specs.declared.Scan.{Scan}
 use Rattle.token.specs.declared.Token.{Token}
 use Rattle.token.specs.Scanning.{token-in}
-use Rattle.program.specs.Syntax.{Block}
 use Rattle.program.specs.Contracts.Standing.{Stands}
-use Rattle.grammar.specs.Reader.{ok}
 use Rattle.grammar.specs.Expressions.{Cell}
 use Rattle.grammar.specs.Statements.{read-block}
 use Rattle.grammar.specs.Source.{Declared, finish, accepted-as}
+use Rattle.grammar.proofs.Theorems.Traces.{finish-ok}
 use Rattle.read_state.specs.Contracts.Reading.{input, state, anything, Gives, refusing}
 use Rattle.read_state.specs.declared.Reading.{Reading}
 use Rattle.read_state.specs.declared.Read.{Read}
@@ -24,12 +23,6 @@ use Rattle.read_expressions.specs.Contracts.Promises.{cell-as}
 use Rattle.read_declaration.specs.Contracts.Fields.{DeclaresField}
 use Rattle.read_declaration.specs.declared.CellRead.{CellRead}
 use Rattle.read_source.specs.Contracts.Promises.{Finished, Ends, Few, Reaches}
-
--- what is left where the source ends
-pub end-of : (source ns : List ℕ) {ws : List ℕ} {scan : Scan} {s : Reading} (d : Declared) (b : Block) → Finished ws scan s
-    → finish d b (input source scan) (state s ns ws) ≡ ok (accepted-as (input source scan) d b (state s ns ws), state s ns ws)
-unfolding finish
-end-of source ns d b f = simp (eq-eqb _ _ (f .stop), eq-eqb _ _ (f .last), eq-eqb _ _ (f .clear))
 
 -- a refusal does not go on
 pub never-next : {X : Type 0} {r : Read} {t : Reading} {k p : ℕ} → r ≡ Refused k p → r ≡ Next t → X
@@ -77,7 +70,7 @@ module _ (ws : List ℕ) (scan : Scan) (s : Reading) {t : Token} (x : Stands ws 
   ended k v n =
       let f : Finished ws scan s = record { stop = kind-is k; last = value-is v; clear = n } in
       record {
-        gives = λ source ns d b. record { is = (accepted-as (input source scan) d b (state s ns ws), record { words = refl; names = refl }, end-of source ns d b f) };
+        gives = λ source ns d b. record { is = (accepted-as (input source scan) d b (state s ns ws), record { words = refl; names = refl }, finish-ok (input source scan) d b (state s ns ws) (f .stop) (f .last) (f .clear)) };
         stays = λ u q. same q;
         finished = λ u q. f;
       }

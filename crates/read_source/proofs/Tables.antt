@@ -8,6 +8,7 @@ use mathlib.Core.Bool.{Bool, true, false, _||_}
 use lib.ListN.{length, getD, length-set}
 use lib.Dec.{eqb}
 use borrow.Author.Tests.{eq-eqb, ne-eqb}
+use Rattle.value.proofs.Theorems.Truth.{or-second}
 use Rattle.value.specs.Choice.{if_then_else_}
 use Rattle.names.specs.declared.Entry.{Entry}
 use Rattle.names.specs.Names.{entry-at, with-value}
@@ -23,10 +24,6 @@ pub record Unseen (kind : ℕ) (words : List ℕ) (n i : ℕ) : Type 0 where
 
 pub unseen-start : (kind : ℕ) (words : List ℕ) (n : ℕ) → Unseen kind words n n
 unseen-start kind words n = record { within = omega arith; left = refl }
-
-or-second : (a : Bool) {b : Bool} → b ≡ true → (a || b) ≡ true
-or-second true e = refl
-or-second false e = e
 
 or-first : (a : Bool) {b : Bool} → b ≡ false → (a || b) ≡ a
 or-first true e = refl

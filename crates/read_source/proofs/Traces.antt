@@ -8,23 +8,24 @@ use Rattle.token.specs.declared.Scan.{Scan}
 use Rattle.token.specs.Kind.{kind}
 use Rattle.token.specs.Scanning.{scan, scan-of, scanned-words}
 use Rattle.token.specs.Contracts.Promises.{Scans}
-use Rattle.grammar.specs.Reader.{Input, State, ok, unit}
+use Rattle.program.specs.declared.Rule.{Rule}
+use Rattle.grammar.specs.Reader.{State}
 use Rattle.grammar.specs.Constants.{read-constants}
 use Rattle.grammar.specs.Statements.{read-block}
-use Rattle.grammar.specs.Source.{read-cell, has-kind, read-program, what-is-read, parse}
-use Rattle.read_state.specs.Contracts.Reading.{input, state, anything, Gives}
+use Rattle.grammar.specs.Source.{read-cell, has-kind, read-program}
+use Rattle.grammar.specs.Contracts.Traces.{Trace}
+use Rattle.read_state.specs.Contracts.Reading.{state, anything, Gives}
 use Rattle.read_state.specs.declared.Reading.{Reading}
 use Rattle.read_state.specs.declared.Read.{Read}
 use Rattle.read_state.specs.declared.Read.the-variants.{Next, Refused}
-use Rattle.read_state.proofs.Steps.{bind-ok, went-on, on}
+use Rattle.read_state.proofs.Steps.{went-on, on}
 use Rattle.read_expressions.specs.Contracts.Promises.{cell-as}
 use Rattle.read_declaration.specs.Contracts.Fields.{DeclaresField}
 use Rattle.read_declaration.specs.declared.CellRead.{CellRead}
 use Rattle.read_declaration.proofs.Cells.{stopped}
-use Rattle.read_source.specs.Contracts.Promises.{begun, Ends, Traced, accepted-by, Follows, Programs, Trace, Outlines}
+use Rattle.read_source.specs.Contracts.Promises.{begun, Ends, Follows, Programs, RuleIs}
 use Rattle.read_source.specs.declared.checking.ProgramRead.{ProgramRead}
-use Rattle.read_source.specs.declared.checking.Outline.{Outline}
-use Rattle.read_source.proofs.Finishing.{cell-is, in-cell, end-of, never-next, few-left}
+use Rattle.read_source.proofs.Finishing.{cell-is, in-cell, never-next, few-left}
 
 -- the readers of a program gave this, one after the other
 module _ {source : List ℕ} {sc : Scan} {ns ws ns₁ ws₁ ns₂ ws₂ ns₃ ws₃ : List ℕ} {a e : Read} {c : CellRead} {s₁ s₂ s₃ : Reading}
@@ -52,8 +53,8 @@ module _ {source : List ℕ} {sc : Scan} {ns ws ns₁ ws₁ ns₂ ws₂ ns₃ ws
               cell = y₂ .2;
               block = y₃ .2;
               stop = f .stop;
+              last = f .last;
               clear = f .clear;
-              end = end-of source ns₃ d (y₃ .0) f;
             };
         base = base;
         body = body;
@@ -78,27 +79,13 @@ pub unread : {source : List ℕ} {sc : Scan} {ns ws ns′ ws′ : List ℕ} {r :
     → Gives anything read-program source sc begun ns ws r ns′ ws′ → p .read ≡ r → r ≡ Refused k n → Programs source sc ns ws p ns′ ws′
 unread p g e y = record { gives = stopped g e y; reaches = record { few = rw (e ∙ y) tt }; follows = λ t q. never-next (e ∙ y) q }
 
--- reading a program so is reading it
-pub traced-whole : {input : Input} {start : State} (t : Traced input start) → read-program input start ≡ ok (accepted-by t, t .s₃)
-unfolding read-program
-traced-whole {input} {start} t =
-    bind-ok read-constants _ input start (t .s₁) unit (t .constants)
-    ∙ bind-ok read-cell _ input (t .s₁) (t .s₂) (t .declaration) (t .cell)
-    ∙ bind-ok (read-block (t .declaration .cell) most-open 0) _ input (t .s₂) (t .s₃) (t .body) (t .block)
-    ∙ t .end
-
--- a source that is read so is accepted
-pub parses : {source : List ℕ} (t : Trace source) → parse source ≡ ok (accepted-by t)
-unfolding parse
-parses t = ap what-is-read (traced-whole t)
-
--- the outline, from what reading the source's tokens tells where no name is declared
-pub outlined : {source : List ℕ} {sc : Scan} {ns ws ns′ ws′ : List ℕ} {p : ProgramRead} {t : Reading} → Scans source sc ws → ns ≡ replicate 1024 0
+-- the rule, from what reading the source's tokens tells where no name is declared
+pub rule-read : {source : List ℕ} {sc : Scan} {ns ws ns′ ws′ : List ℕ} {p : ProgramRead} {t : Reading} → Scans source sc ws → ns ≡ replicate 1024 0
     → Follows source sc ns ws p t ns′ ws′
-    → (o : Outline) → o .tokens ≡ sc .count → o .base ≡ p .base → o .body ≡ p .body → o .dims ≡ p .dims → o .fields ≡ p .fields → o .slots ≡ t .count
-    → o .timed ≡ has-kind (kind .time) ws′ (sc .count)
-    → (u : Trace source) × Outlines source u o
-outlined {source} {sc} {ns} {ws} {ns′} {ws′} {p} {t} x z f o tokens base body dims fields slots timed =
+    → (rule : Rule) → rule .tokens ≡ sc .count → rule .base ≡ p .base → rule .body ≡ p .body → rule .dims ≡ p .dims → rule .fields ≡ p .fields → rule .slots ≡ t .count
+    → rule .timed ≡ has-kind (kind .time) ws′ (sc .count)
+    → (u : Trace source) × RuleIs source u rule
+rule-read {source} {sc} {ns} {ws} {ns′} {ws′} {p} {t} x z f rule tokens base body dims fields slots timed =
     let g : Follows source (scan-of (scan source)) (replicate 1024 0) (scanned-words (scan source)) p t ns′ ws′ = rw (x .is, x .words, z) at f in (
       g .trace,
       record {

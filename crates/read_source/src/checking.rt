@@ -8,6 +8,7 @@ ghost use Rattle.grammar.specs.Contracts.Flat.{lent-fit};
 ghost use Rattle.read_source.specs.Contracts.Promises.{Ends, Programs, Checks, Unloaded, Loads};
 use crate::has_kind;
 use crate::settle_values;
+use program::Rule;
 use program::token_at;
 use read_constants::read_constants;
 use read_declaration::read_cell;
@@ -21,6 +22,9 @@ use token::Scan;
 use token::kind;
 use token::scan_source;
 use token::scanning::clear;
+use value::limits::MOST_BYTES;
+use value::limits::NAME_WORDS;
+use value::limits::TABLE_WORDS;
 
 // A reply: its number, 0 if the source is accepted, and its place.
 pub struct Reply {
@@ -28,24 +32,12 @@ pub struct Reply {
     pub place: u32,
 }
 
-// An accepted source as its reading leaves it: the number of tokens, the position of the token that has the first field's range, that of the
-// first statement, the numbers of dimensions, of fields and of names, and whether `time` occurs in it.
-pub struct Outline {
-    pub tokens: usize,
-    pub base: usize,
-    pub body: usize,
-    pub dims: u32,
-    pub fields: u32,
-    pub slots: u32,
-    pub timed: bool,
-}
-
-// A source as it was read: whether it is accepted, the number and place of the reply, and the outline, all zero if it is not accepted.
+// A source as it was read: whether it is accepted, the number and place of the reply, and the rule, all zero if it is not accepted.
 pub struct Loaded {
     pub accepted: bool,
     pub number: u32,
     pub place: u32,
-    pub outline: Outline,
+    pub rule: Rule,
 }
 
 // How the reading of a program ends; where it goes on, the position of the token that has the first field's range, that of the first statement,
@@ -100,8 +92,12 @@ fn read_program(source: &[u8], names: &mut [u32], words: &mut [u32], scan: Scan)
         noted: 0,
         place: 0,
         count: 0,
-        word: 0,
+        value: 0,
         low: 0,
+        number: 0,
+        fields: 0,
+        named: 0,
+        more: 0,
     };
     let a = read_constants(source, names, words, scan, start);
     let Read::Next(b) = a else {
@@ -133,7 +129,7 @@ fn read_program(source: &[u8], names: &mut [u32], words: &mut [u32], scan: Scan)
 fn unloaded(number: u32, place: u32) -> Loaded
     ensures { λ r. ⌜ Unloaded number place r ⌝ }
 {
-    let outline = Outline {
+    let rule = Rule {
         tokens: 0,
         base: 0,
         body: 0,
@@ -146,7 +142,7 @@ fn unloaded(number: u32, place: u32) -> Loaded
         accepted: false,
         number,
         place,
-        outline,
+        rule,
     }
 }
 
@@ -154,7 +150,7 @@ fn unloaded(number: u32, place: u32) -> Loaded
 fn load_into(source: &[u8], words: &mut [u32], names: &mut [u32]) -> Loaded
     requires { ⌜ (length (now words) ≡ table-words) × (length (now names) ≡ name-words) × (length (now source) ≤ most-bytes) ⌝ }
     ensures { λ r. ⌜ Checks (rooms-fit (length (now (words .entry))) (length (now (names .entry)))) (now (source .entry)) (now (words .entry)) (now (names .entry)) (r .number) (r .place) (now (words .exit)) (now (names .exit)) ⌝ }
-    ensures { λ r. ⌜ Loads (now (source .entry)) (now (words .entry)) (now (names .entry)) (r .accepted) (r .outline) ⌝ }
+    ensures { λ r. ⌜ Loads (now (source .entry)) (now (words .entry)) (now (names .entry)) (r .accepted) (r .rule) ⌝ }
 {
     let scan = scan_source(source, words);
     clear(names);
@@ -163,7 +159,7 @@ fn load_into(source: &[u8], words: &mut [u32], names: &mut [u32]) -> Loaded
     match r {
         Read::Next(s) => {
             settle_values(words, names, s.count);
-            let outline = Outline {
+            let rule = Rule {
                 tokens: scan.count,
                 base: p.base,
                 body: p.body,
@@ -176,7 +172,7 @@ fn load_into(source: &[u8], words: &mut [u32], names: &mut [u32]) -> Loaded
                 accepted: true,
                 number: 0,
                 place: 0,
-                outline,
+                rule,
             }
         }
         Read::Refused(number, place) => {
@@ -191,15 +187,15 @@ fn load_into(source: &[u8], words: &mut [u32], names: &mut [u32]) -> Loaded
 // program in the table and its names in the list.
 pub fn load(source: &[u8], words: &mut [u32], names: &mut [u32]) -> Loaded
     ensures { λ r. ⌜ Checks (rooms-fit (length (now (words .entry))) (length (now (names .entry)))) (now (source .entry)) (now (words .entry)) (now (names .entry)) (r .number) (r .place) (now (words .exit)) (now (names .exit)) ⌝ }
-    ensures { λ r. ⌜ Loads (now (source .entry)) (now (words .entry)) (now (names .entry)) (r .accepted) (r .outline) ⌝ }
+    ensures { λ r. ⌜ Loads (now (source .entry)) (now (words .entry)) (now (names .entry)) (r .accepted) (r .rule) ⌝ }
 {
-    if words.len() != 16384 {
+    if words.len() != TABLE_WORDS {
         return unloaded(1, 0);
     }
-    if names.len() != 1024 {
+    if names.len() != NAME_WORDS {
         return unloaded(1, 0);
     }
-    if 65535 < source.len() {
+    if MOST_BYTES < source.len() {
         return unloaded(2, 65535);
     }
     load_into(source, words, names)

@@ -12,7 +12,6 @@ use program::word_at;
 mod checking;
 
 pub use checking::Loaded;
-pub use checking::Outline;
 pub use checking::Reply;
 pub use checking::check;
 pub use checking::load;

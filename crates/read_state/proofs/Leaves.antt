@@ -110,12 +110,12 @@ module _ {sc : Scan} {s : Reading} {ws : List ℕ} (kind n : ℕ) {t : Token} (e
   unfolding forbid
   allowed k h = record { gives = λ source ns. token _ e (other _ _ (ne-eqb _ _ k) (returned _ tt)); onward = goes-on (omega arith) h (omega arith) }
 
-module _ {sc : Scan} {s : Reading} {ws : List ℕ} {room : Bool} where
-  pub opened : room ≡ true → s .at < sc .count → {r : Reading} → Moved s r → Passes anything (opening room) sc 1 s ws (Next r)
+module _ {sc : Scan} {s : Reading} {ws : List ℕ} {free : Bool} where
+  pub opened : free ≡ true → s .at < sc .count → {r : Reading} → Moved s r → Passes anything (opening free) sc 1 s ws (Next r)
   unfolding opening
   opened e h m = record { gives = λ source ns. so _ _ e (advanced m); onward = goes-on (omega arith) (omega arith) (omega arith) }
 
-  pub unopened : room ≡ false → {r : Read} → r ≡ refusing ws sc s (s .at) 14 → Passes anything (opening room) sc 1 s ws r
+  pub unopened : free ≡ false → {r : Read} → r ≡ refusing ws sc s (s .at) 14 → Passes anything (opening free) sc 1 s ws r
   unfolding opening
   unopened e x = record { gives = λ source ns. other _ _ e (refused _ x); onward = nowhere x }
 
@@ -139,7 +139,7 @@ pub released-none : (s : Reading) → s .count ≤ 0 → Released s s
 released-none s h =
     let e : s .count ≡ s .count - 1 = omega arith in
     record {
-      is = ap (λ (n : ℕ). record { at = s .at; noted = s .noted; place = s .place; count = n; word = s .word; low = s .low }) e;
+      is = ap (λ (n : ℕ). record { at = s .at; noted = s .noted; place = s .place; count = n; value = s .value; low = s .low; number = s .number; fields = s .fields; named = s .named; more = s .more }) e;
       at = refl;
       count = e;
     }

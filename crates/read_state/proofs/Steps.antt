@@ -16,22 +16,14 @@ use Rattle.names.specs.Names.{entry-at, without-entry, find-name}
 use Rattle.names.specs.Contracts.Finding.{found-of, Below, Finds}
 use Rattle.program.specs.Table.{with-word}
 use Rattle.program.specs.Contracts.Standing.{Stands}
-use Rattle.grammar.specs.Reader.{Result, ok, fail, Input, State, Reader, and-then, _>>=_, _▷_, return, unit, get-state, refuse, refuse-last, note, next-token, kind-after, position, advance, put, on-slot, by-name, entry-in, declare, release, use-name}
-use Rattle.read_state.specs.Contracts.Reading.{input, state, exactly, anything, in-word, only, Told, Gives, refusing, moved-of, Moved, Carries, Noted, released-of, Released, declared-of, Declares, Uses}
+use Rattle.grammar.specs.Reader.{Result, ok, State, Reader, _>>=_, _▷_, return, unit, get-state, refuse, refuse-last, note, next-token, kind-after, position, advance, put, on-slot, by-name, entry-in, declare, release, use-name}
+use Rattle.grammar.proofs.Theorems.Ends.{bind-ok, bind-fail}
+use Rattle.read_state.specs.Contracts.Reading.{input, state, exactly, anything, in-number, only, Told, Gives, refusing, moved-of, Moved, Carries, Noted, released-of, Released, declared-of, Declares, Uses}
 use Rattle.read_state.specs.declared.Reading.{Reading}
 use Rattle.read_state.specs.declared.Read.{Read}
 use Rattle.read_state.specs.declared.Read.the-variants.{Next, Refused}
 
 -- ---- putting readers together
-
-module _ {A B : Type 0} (m : Reader A) (h : A → Reader B) (i : Input) (s : State) where
-  pub bind-ok : (t : State) (a : A) → m i s ≡ ok (a, t) → (m >>= h) i s ≡ h a i t
-  unfolding _>>=_
-  bind-ok t a e = ap (λ (x : Result (A × State)). and-then x (λ b u. h b i u)) e
-
-  bind-fail : (k p : ℕ) → m i s ≡ fail k p → (m >>= h) i s ≡ fail k p
-  unfolding _>>=_
-  bind-fail k p e = ap (λ (x : Result (A × State)). and-then x (λ b u. h b i u)) e
 
 -- what a reader gives by another that ends the same way
 pub by-another : {A : Type 0} {R : A → Reading → Type 0} {m m′ : Reader A} {source : List ℕ} {sc : Scan} {s s′ : Reading} {ns ws ns′ ws′ ns₁ ws₁ : List ℕ} {r : Read} → m (input source sc) (state s ns ws) ≡ m′ (input source sc) (state s′ ns′ ws′) → Gives R m′ source sc s′ ns′ ws′ r ns₁ ws₁ → Gives R m source sc s ns ws r ns₁ ws₁
@@ -177,10 +169,10 @@ module _ {A : Type 0} {source : List ℕ} {sc : Scan} {R : A → Reading → Typ
   unfolding return
   returned a h = record { is = (a, h, refl) }
 
-  -- with other words beside the place of reading, which the definition's state does not have
-  pub carried : (a : A) {w l : ℕ} {r : Reading} → Carries s w l r → R a r → Gives R (return a) source sc s ns ws (Next r) ns ws
+  -- with something else carried, which the definition's state does not have
+  pub carried : (a : A) {t r : Reading} → Carries s t r → R a r → Gives R (return a) source sc s ns ws (Next r) ns ws
   unfolding return
-  carried a {w} {l} {r} e h = record { is = (a, h, sym (ap (λ (z : Reading). ok (a, state z ns ws)) (e .is))) }
+  carried a {t} {r} e h = record { is = (a, h, sym (ap (λ (z : State). ok (a, z)) (e .here ns ws))) }
 
 -- ---- steps
 
@@ -199,13 +191,13 @@ module _ {source : List ℕ} {sc : Scan} {s : Reading} {ns ws : List ℕ} where
   put-in i w v e = record { is = (unit, tt, ap (λ (x : List ℕ). ok (unit, state s ns x)) (sym e)) }
 
   -- a new name, and a new value for a name
-  pub declared : (i k v : ℕ) {r : Reading} {ns₁ : List ℕ} → Declares i k v sc s ns ws r ns₁ → Gives in-word (declare i k v) source sc s ns ws (Next r) ns₁ ws
+  pub declared : (i k v : ℕ) {r : Reading} {ns₁ : List ℕ} → Declares i k v sc s ns ws r ns₁ → Gives in-number (declare i k v) source sc s ns ws (Next r) ns₁ ws
   unfolding declare
   declared i k v {r} {ns₁} d =
       record {
         is = (
           s .count,
-          sym (d .word),
+          sym (d .number),
           ap (λ (x : List ℕ). ok (s .count, state (declared-of s) x ws)) (sym (d .words)) ∙ sym (ap (λ (z : Reading). ok (s .count, state z ns₁ ws)) (d .is)),
         );
       }

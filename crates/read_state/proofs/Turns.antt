@@ -5,11 +5,12 @@ use mathlib.Core.Path.{_≡_, refl, ap, _∙_}
 use mathlib.Core.List.{List}
 use Rattle.token.specs.declared.Scan.{Scan}
 use Rattle.grammar.specs.Reader.{ok, Reader, _>>=_, Turn, again, done, turned, repeat, turns}
+use Rattle.grammar.proofs.Theorems.Ends.{bind-ok}
 use Rattle.read_state.specs.Contracts.Reading.{input, state, anything, once-more, at-end, Gives}
 use Rattle.read_state.specs.declared.Reading.{Reading}
 use Rattle.read_state.specs.declared.Read.{Read}
 use Rattle.read_state.specs.declared.Read.the-variants.{Next, Refused}
-use Rattle.read_state.proofs.Steps.{bind-ok, by-another, on, off, returned}
+use Rattle.read_state.proofs.Steps.{by-another, on, off, returned}
 
 -- after some turns of the code's loop: what is left of m is what the turns that are left give from here on, with some x of which X holds,
 -- and they are enough

@@ -6,7 +6,7 @@ ghost use Rattle.value.specs.Limits.{most-tokens, table-words, most-names, name
 ghost use Rattle.program.specs.Refusal.{refusal};
 ghost use Rattle.grammar.specs.Ranking.{rank, broken};
 ghost use Rattle.grammar.specs.Reader.{expect-or, forbid, opening, fresh};
-ghost use Rattle.read_state.specs.Contracts.Reading.{anything, passed, Ready, Reads, Passes, first-refused, refusing, Moved, Carries, Noted, Named, Declares, Released, Uses};
+ghost use Rattle.read_state.specs.Contracts.Reading.{anything, passed, Ready, Reads, Passes, first-refused, refusing, Moved, Carries, carrying-value, carrying-number, carrying-fields, carrying-more, Noted, Named, Declares, Released, Uses};
 use names::Entry;
 use names::Found;
 use names::find_name;
@@ -16,16 +16,23 @@ use program::token_at;
 use token::Scan;
 use token::Token;
 use token::kind;
+use value::limits::MOST_NAMES;
 
 // The state of a reading: the position of the next token, the number and place of the refusal noted so far (number 0: none), how many
-// names are declared; and the words read last: a value, a slot or a position in `word`, and a range's lower bound in `low`.
+// names are declared; and what was read last: a value or a range (`value`, the upper bound; `low`, the lower one), the number of a slot, a
+// field, a variable or a kind of names (`number`), how many fields there are and whether they have names (`fields`; `named`, 1 or 0),
+// whether one more part follows (`more`, 1 or 0).
 pub struct Reading {
     pub at: usize,
     pub noted: u32,
     pub place: u32,
     pub count: usize,
-    pub word: u32,
+    pub value: u32,
     pub low: u32,
+    pub number: u32,
+    pub fields: u32,
+    pub named: u32,
+    pub more: u32,
 }
 
 // How a reading ends: with its state then, or with the number and the place of the reply that refuses.
@@ -118,13 +125,41 @@ pub fn moved(s: Reading) -> Reading
     t
 }
 
-// The same place with other words beside it.
-pub fn carrying(s: Reading, word: u32, low: u32) -> Reading
-    ensures { λ r. ⌜ Carries s word low r ⌝ }
+// The same place, with a value or a range that was read.
+pub fn carrying_value(s: Reading, value: u32, low: u32) -> Reading
+    ensures { λ r. ⌜ Carries s (carrying-value s value low) r ⌝ }
 {
     let mut t = s;
-    t.word = word;
+    t.value = value;
     t.low = low;
+    t
+}
+
+// With the number of a slot, a field, a variable or a kind of names.
+pub fn carrying_number(s: Reading, number: u32) -> Reading
+    ensures { λ r. ⌜ Carries s (carrying-number s number) r ⌝ }
+{
+    let mut t = s;
+    t.number = number;
+    t
+}
+
+// With the number of fields, and whether they have names.
+pub fn carrying_fields(s: Reading, fields: u32, named: u32) -> Reading
+    ensures { λ r. ⌜ Carries s (carrying-fields s fields named) r ⌝ }
+{
+    let mut t = s;
+    t.fields = fields;
+    t.named = named;
+    t
+}
+
+// With whether one more part follows.
+pub fn carrying_more(s: Reading, more: u32) -> Reading
+    ensures { λ r. ⌜ Carries s (carrying-more s more) r ⌝ }
+{
+    let mut t = s;
+    t.more = more;
     t
 }
 
@@ -153,11 +188,11 @@ pub fn forbid(words: &[u32], scan: Scan, s: Reading, kind: u32, n: u32) -> Read
 }
 
 // Over an opening token, where one more may be open, else refused 14.
-pub fn opening(words: &[u32], scan: Scan, s: Reading, room: bool) -> Read
+pub fn opening(words: &[u32], scan: Scan, s: Reading, free: bool) -> Read
     requires { ⌜ (scan .count ≤ most-tokens) × (length (now words) ≡ table-words) × (s .at < scan .count) ⌝ }
-    ensures { λ r. ⌜ Passes anything (opening room) scan 1 s (now (words .entry)) r ⌝ }
+    ensures { λ r. ⌜ Passes anything (opening free) scan 1 s (now (words .entry)) r ⌝ }
 {
-    if room {
+    if free {
         return Read::Next(moved(s));
     }
     refuse(words, scan, s, s.at, 14)
@@ -199,7 +234,7 @@ pub fn fresh(
                 if full != 0 {
                     return refuse(words, scan, s, s.at, full);
                 }
-                if s.count < 256 {
+                if s.count < MOST_NAMES {
                     return Read::Next(moved(s));
                 }
                 return refuse(words, scan, s, s.at, 15);
@@ -238,7 +273,7 @@ pub fn declare(
     );
     let mut r = s;
     r.count = slot + 1;
-    r.word = slot as u32;
+    r.number = slot as u32;
     r
 }
 

@@ -76,17 +76,17 @@ forall-apart depth block i s =
     same-after advance i t _ _ (λ _ u. sym (head-apart depth (λ h. position >>= λ inner. block >>= λ body. loop-end at inner (h .1) (loop (h .0) body)) i u)))
 
 module _ (cell : Cell) {source : List ℕ} {sc : Scan} {s : Reading} {ns ws ns₁ ws₁ : List ℕ} {r : Read} where
-  pub forall-open : (room loops : ℕ) → 1 ≤ room → Gives anything (forall-body loops (read-block cell (room - 1) (loops + 1))) source sc s ns ws r ns₁ ws₁ → Gives anything (forall-with (parts-of cell room) loops) source sc s ns ws r ns₁ ws₁
+  pub forall-open : (free loops : ℕ) → 1 ≤ free → Gives anything (forall-body loops (read-block cell (free - 1) (loops + 1))) source sc s ns ws r ns₁ ws₁ → Gives anything (forall-with (parts-of cell free) loops) source sc s ns ws r ns₁ ws₁
   forall-open zero loops h x = absurd (omega arith)
-  forall-open (suc room) loops h x =
-      let e : suc room - 1 ≡ room = omega arith in
-      by-another (forall-apart loops (read-block cell room (loops + 1)) (input source sc) (state s ns ws)) (rw e at x)
+  forall-open (suc free) loops h x =
+      let e : suc free - 1 ≡ free = omega arith in
+      by-another (forall-apart loops (read-block cell free (loops + 1)) (input source sc) (state s ns ws)) (rw e at x)
 
 module _ (cell : Cell) {source : List ℕ} {sc : Scan} {s : Reading} {ns ws : List ℕ} {r : Read} where
-  pub forall-shut : (room loops : ℕ) → room ≡ 0 → r ≡ refusing ws sc s (s .at) 14 → Gives anything (forall-with (parts-of cell room) loops) source sc s ns ws r ns ws
+  pub forall-shut : (free loops : ℕ) → free ≡ 0 → r ≡ refusing ws sc s (s .at) 14 → Gives anything (forall-with (parts-of cell free) loops) source sc s ns ws r ns ws
   unfolding read-forall opening
   forall-shut zero loops h e = here _ (off {R = anything} _ (refused 14 e) e)
-  forall-shut (suc room) loops h e = absurd (omega arith)
+  forall-shut (suc free) loops h e = absurd (omega arith)
 
 -- a loop's end, with the slot that the code has
 pub ended-at : {R : (Block → Block) → Reading → Type 0} (i inner : ℕ) {slot n : ℕ} (x : Block → Block) {source : List ℕ} {sc : Scan} {s : Reading} {ns ws ns₁ ws₁ : List ℕ} {r : Read} → slot ≡ n → Gives R (loop-end i inner n x) source sc s ns ws r ns₁ ws₁ → Gives R (loop-end i inner slot x) source sc s ns ws r ns₁ ws₁

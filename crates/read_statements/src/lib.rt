@@ -4,14 +4,14 @@ ghost use mathlib.Core.Bool.{false};
 ghost use mathlib.Core.List.{List, []};
 ghost use Prim.Native.Nat.{ℕ, _+_, _<_, _≤_};
 ghost use lib.ListN.{length};
-ghost use Rattle.value.specs.Limits.{most-tokens, table-words, most-names};
+ghost use Rattle.value.specs.Limits.{most-tokens, table-words, most-names, most-open};
 ghost use Rattle.token.specs.Kind.{keyword};
 ghost use Rattle.grammar.specs.Reader.{by-name, expect, repeat, turns};
 ghost use Rattle.grammar.specs.Expressions.{read-expression};
 ghost use Rattle.grammar.specs.Statements.{old-variable, new-variable, named-target, field-target, read-target, clause-turn, read-assignment, arm-end, arm-turn, statement-turn, read-block};
-ghost use Rattle.read_state.specs.Contracts.Reading.{anything, in-word, Ready, Reads, Stays, Passes};
+ghost use Rattle.read_state.specs.Contracts.Reading.{anything, in-number, Ready, Reads, Stays, Passes};
 ghost use Rattle.read_expressions.specs.Contracts.Promises.{cell-as};
-ghost use Rattle.read_statements.specs.Contracts.Promises.{Each, whatever, target-noted, is-first, chain-in, when-behind, end-behind, zero-in, loop-range, loop-head, index-noted, loop-end, Exits, arms-in, if-with, forall-with, parts-of, list-in};
+ghost use Rattle.read_statements.specs.Contracts.Promises.{Each, whatever, target-noted, is-first, chain-in, when-behind, end-behind, none-follows, loop-range, loop-head, index-noted, loop-end, Exits, arms-in, if-with, forall-with, parts-of, list-in};
 use names::Found;
 use names::count_variables;
 use names::entry_in;
@@ -26,7 +26,8 @@ use read_expressions::dot_field;
 use read_expressions::read_expression;
 use read_state::Read;
 use read_state::Reading;
-use read_state::carrying;
+use read_state::carrying_more;
+use read_state::carrying_number;
 use read_state::declare;
 use read_state::expect;
 use read_state::forbid;
@@ -38,6 +39,7 @@ use read_state::released;
 use token::Scan;
 use token::Token;
 use token::kind;
+use value::limits::MOST_TURNS;
 
 // ---- left sides
 
@@ -51,7 +53,7 @@ fn variable_target(
     t: Token,
 ) -> Read
     requires { ⌜ Ready scan (length (now names)) (length (now words)) s × (s .at < scan .count) ⌝ }
-    ensures { λ r. ⌜ Reads in-word (by-name t false old-variable new-variable) (now (source .entry)) scan 256 s (now (names .entry)) (now (words .entry)) r (now (names .exit)) (now (words .entry)) ⌝ }
+    ensures { λ r. ⌜ Reads in-number (by-name t false old-variable new-variable) (now (source .entry)) scan 256 s (now (names .entry)) (now (words .entry)) r (now (names .exit)) (now (words .entry)) ⌝ }
 {
     let f = find_name(source, names, s.count, false, t.start, t.len);
     let Found::At(slot) = f else {
@@ -61,11 +63,11 @@ fn variable_target(
         };
         let k = count_variables(names, a.count);
         let b = declare(names, words, scan, a, a.at - 1, names::kind::VARIABLE, k);
-        return Read::Next(carrying(b, k, 0));
+        return Read::Next(carrying_number(b, k));
     };
     let e = entry_in(names, slot);
     if e.kind == names::kind::VARIABLE {
-        return Read::Next(carrying(moved(s), e.word, 0));
+        return Read::Next(carrying_number(moved(s), e.word));
     }
     refuse(words, scan, s, s.at, 9)
 }
@@ -73,17 +75,17 @@ fn variable_target(
 // `.name` on a left side; the field's number.
 fn named_target(source: &[u8], names: &[u32], words: &[u32], scan: Scan, s: Reading) -> Read
     requires { ⌜ Ready scan (length (now names)) (length (now words)) s ⌝ }
-    ensures { λ r. ⌜ Reads in-word named-target (now (source .entry)) scan (s .count) s (now (names .entry)) (now (words .entry)) r (now (names .entry)) (now (words .entry)) ⌝ }
+    ensures { λ r. ⌜ Reads in-number named-target (now (source .entry)) scan (s .count) s (now (names .entry)) (now (words .entry)) r (now (names .entry)) (now (words .entry)) ⌝ }
 {
     let r = dot_field(source, names, words, scan, s);
     let Read::Next(a) = r else {
         return r;
     };
-    let e = entry_in(names, a.word as usize);
+    let e = entry_in(names, a.number as usize);
     if e.kind == names::kind::CONST_FIELD {
         return refuse(words, scan, a, a.at - 1, 9);
     }
-    Read::Next(carrying(a, e.word, 0))
+    Read::Next(carrying_number(a, e.word))
 }
 
 // `cell` on a left side, with `.name` where fields are named; the field's number.
@@ -96,7 +98,7 @@ fn field_target(
     cell: Cell,
 ) -> Read
     requires { ⌜ Ready scan (length (now names)) (length (now words)) s × (s .at < scan .count) ⌝ }
-    ensures { λ r. ⌜ Reads in-word (field-target (cell-as cell)) (now (source .entry)) scan (s .count) s (now (names .entry)) (now (words .entry)) r (now (names .entry)) (now (words .entry)) ⌝ }
+    ensures { λ r. ⌜ Reads in-number (field-target (cell-as cell)) (now (source .entry)) scan (s .count) s (now (names .entry)) (now (words .entry)) r (now (names .entry)) (now (words .entry)) ⌝ }
 {
     let a = moved(s);
     if cell.named {
@@ -106,7 +108,7 @@ fn field_target(
     let Read::Next(b) = r else {
         return r;
     };
-    Read::Next(carrying(b, 0, 0))
+    Read::Next(carrying_number(b, 0))
 }
 
 // The left side of an assignment; its number.
@@ -136,7 +138,7 @@ fn read_target(
     let Read::Next(b) = q else {
         return q;
     };
-    Read::Next(carrying(b, a.word, 0))
+    Read::Next(carrying_number(b, a.number))
 }
 
 // ---- right sides
@@ -149,23 +151,23 @@ fn when_clause(
     scan: Scan,
     s: Reading,
     cell: Cell,
-    room: u32,
+    free: u32,
     i: usize,
 ) -> Read
     requires { ⌜ Ready scan (length (now names)) (length (now words)) s × (s .at < scan .count) ⌝ }
-    ensures { λ r. ⌜ Each whatever chain-in (when-behind cell room i) (now (source .entry)) scan (s .count) (s .at + 1) s (now (names .entry)) (now (words .entry)) r (now (names .entry)) (now (words .exit)) ⌝ }
+    ensures { λ r. ⌜ Each whatever chain-in (when-behind cell free i) (now (source .entry)) scan (s .count) (s .at + 1) s (now (names .entry)) (now (words .entry)) r (now (names .entry)) (now (words .exit)) ⌝ }
 {
     let a = moved(s);
-    let r = read_expression(source, names, words, scan, a, cell, 1, room);
+    let r = read_expression(source, names, words, scan, a, cell, 1, free);
     let Read::Next(b) = r else {
         return r;
     };
     put_word(words, i, 2, a.at as u32);
     let t = token_at(words, scan, b.at);
     if t.kind == kind::ASSIGN {
-        return Read::Next(carrying(b, 1, 0));
+        return Read::Next(carrying_more(b, 1));
     }
-    Read::Next(carrying(b, 0, 0))
+    Read::Next(carrying_more(b, 0))
 }
 
 // What follows a clause's expression. Carries 1 if one more clause follows, else 0.
@@ -176,28 +178,28 @@ fn clause_end(
     scan: Scan,
     s: Reading,
     cell: Cell,
-    room: u32,
+    free: u32,
     i: usize,
     first: bool,
 ) -> Read
     requires { ⌜ Ready scan (length (now names)) (length (now words)) s ⌝ }
-    ensures { λ r. ⌜ Each (λ b. is-first first (b .got)) chain-in (end-behind cell room i) (now (source .entry)) scan (s .count) (s .at) s (now (names .entry)) (now (words .entry)) r (now (names .entry)) (now (words .exit)) ⌝ }
+    ensures { λ r. ⌜ Each (λ b. is-first first (b .got)) chain-in (end-behind cell free i) (now (source .entry)) scan (s .count) (s .at) s (now (names .entry)) (now (words .entry)) r (now (names .entry)) (now (words .exit)) ⌝ }
 {
     let t = token_at(words, scan, s.at);
     if t.kind == kind::WHEN_WORD {
-        return when_clause(source, names, words, scan, s, cell, room, i);
+        return when_clause(source, names, words, scan, s, cell, free, i);
     }
     if t.kind == kind::COMMA {
         return refuse(words, scan, s, s.at, 6);
     }
     if first {
-        return Read::Next(carrying(s, 0, 0));
+        return Read::Next(carrying_more(s, 0));
     }
     let r = expect(words, scan, s, kind::OTHERWISE_WORD, 7);
     let Read::Next(a) = r else {
         return r;
     };
-    Read::Next(carrying(a, 0, 0))
+    Read::Next(carrying_more(a, 0))
 }
 
 // One more clause, from its `:=` on. Carries 1 if one more follows, else 0.
@@ -208,22 +210,22 @@ fn read_clause(
     scan: Scan,
     s: Reading,
     cell: Cell,
-    room: u32,
+    free: u32,
     first: bool,
 ) -> Read
     requires { ⌜ Ready scan (length (now names)) (length (now words)) s ⌝ }
-    ensures { λ r. ⌜ Each (is-first first) chain-in (clause-turn (read-expression (cell-as cell) room)) (now (source .entry)) scan (s .count) (s .at + 1) s (now (names .entry)) (now (words .entry)) r (now (names .entry)) (now (words .exit)) ⌝ }
+    ensures { λ r. ⌜ Each (is-first first) chain-in (clause-turn (read-expression (cell-as cell) free)) (now (source .entry)) scan (s .count) (s .at + 1) s (now (names .entry)) (now (words .entry)) r (now (names .entry)) (now (words .exit)) ⌝ }
 {
     let i = s.at;
     let r = expect(words, scan, s, kind::ASSIGN, 7);
     let Read::Next(a) = r else {
         return r;
     };
-    let q = read_expression(source, names, words, scan, a, cell, 1, room);
+    let q = read_expression(source, names, words, scan, a, cell, 1, free);
     let Read::Next(b) = q else {
         return q;
     };
-    let p = clause_end(source, names, words, scan, b, cell, room, i, first);
+    let p = clause_end(source, names, words, scan, b, cell, free, i, first);
     let Read::Next(d) = p else {
         return p;
     };
@@ -238,19 +240,19 @@ fn read_clauses(
     scan: Scan,
     s: Reading,
     cell: Cell,
-    room: u32,
+    free: u32,
 ) -> Read
     requires { ⌜ Ready scan (length (now names)) (length (now words)) s ⌝ }
-    ensures { λ r. ⌜ Reads anything (repeat turns (clause-turn (read-expression (cell-as cell) room)) []) (now (source .entry)) scan (s .count) s (now (names .entry)) (now (words .entry)) r (now (names .entry)) (now (words .exit)) ⌝ }
+    ensures { λ r. ⌜ Reads anything (repeat turns (clause-turn (read-expression (cell-as cell) free)) []) (now (source .entry)) scan (s .count) s (now (names .entry)) (now (words .entry)) r (now (names .entry)) (now (words .exit)) ⌝ }
 {
     let mut here = s;
     let mut first = true;
     loop {
-        let r = read_clause(source, names, words, scan, here, cell, room, first);
+        let r = read_clause(source, names, words, scan, here, cell, free, first);
         let Read::Next(a) = r else {
             return r;
         };
-        if a.word == 0 {
+        if a.more == 0 {
             return Read::Next(a);
         }
         here = a;
@@ -266,10 +268,10 @@ fn read_assignment(
     scan: Scan,
     s: Reading,
     cell: Cell,
-    room: u32,
+    free: u32,
 ) -> Read
     requires { ⌜ Ready scan (length (now names)) (length (now words)) s × (s .at < scan .count) ⌝ }
-    ensures { λ r. ⌜ Reads anything (read-assignment (cell-as cell) (read-expression (cell-as cell) room)) (now (source .entry)) scan 256 s (now (names .entry)) (now (words .entry)) r (now (names .exit)) (now (words .exit)) ⌝ }
+    ensures { λ r. ⌜ Reads anything (read-assignment (cell-as cell) (read-expression (cell-as cell) free)) (now (source .entry)) scan 256 s (now (names .entry)) (now (words .entry)) r (now (names .exit)) (now (words .exit)) ⌝ }
 {
     let i = s.at;
     let r = read_target(source, names, words, scan, s, cell);
@@ -280,11 +282,11 @@ fn read_assignment(
     let Read::Next(b) = q else {
         return q;
     };
-    let p = read_clauses(source, names, words, scan, b, cell, room);
+    let p = read_clauses(source, names, words, scan, b, cell, free);
     let Read::Next(d) = p else {
         return p;
     };
-    put_word(words, i, 2, a.word);
+    put_word(words, i, 2, a.number);
     put_word(words, i, 3, d.at as u32);
     Read::Next(d)
 }
@@ -294,13 +296,13 @@ fn read_assignment(
 // Over an `end`. Carries 0.
 fn read_end(words: &[u32], scan: Scan, s: Reading) -> Read
     requires { ⌜ (scan .count ≤ most-tokens) × (length (now words) ≡ table-words) ⌝ }
-    ensures { λ r. ⌜ Passes zero-in (expect (keyword .end)) scan 1 s (now (words .entry)) r ⌝ }
+    ensures { λ r. ⌜ Passes none-follows (expect (keyword .end)) scan 1 s (now (words .entry)) r ⌝ }
 {
     let r = expect(words, scan, s, kind::END_WORD, 7);
     let Read::Next(a) = r else {
         return r;
     };
-    Read::Next(carrying(a, 0, 0))
+    Read::Next(carrying_more(a, 0))
 }
 
 // ---- loops
@@ -321,12 +323,12 @@ fn loop_range(
     let Read::Next(a) = r else {
         return r;
     };
-    let q = read_range(source, names, words, scan, a, 4096);
+    let q = read_range(source, names, words, scan, a, MOST_TURNS);
     let Read::Next(b) = q else {
         return q;
     };
     put_word(words, i, 2, b.low);
-    put_word(words, i, 3, b.word);
+    put_word(words, i, 3, b.value);
     Read::Next(b)
 }
 
@@ -339,7 +341,7 @@ fn loop_head(
     s: Reading,
     depth: u32,
 ) -> Read
-    requires { ⌜ Ready scan (length (now names)) (length (now words)) s × (depth ≤ 16) ⌝ }
+    requires { ⌜ Ready scan (length (now names)) (length (now words)) s × (depth ≤ most-open) ⌝ }
     ensures { λ r. ⌜ Reads index-noted (loop-head depth) (now (source .entry)) scan 256 s (now (names .entry)) (now (words .entry)) r (now (names .exit)) (now (words .exit)) ⌝ }
 {
     let r = fresh(source, names, words, scan, s, false, 0);
@@ -398,17 +400,17 @@ fn arm_end(
     s: Reading,
     cell: Cell,
     loops: u32,
-    room: u32,
+    free: u32,
 ) -> Read
-    requires { ⌜ Ready scan (length (now names)) (length (now words)) s × (loops + room ≤ 16) ⌝ }
-    ensures { λ r. ⌜ Each whatever (arms-in scan) (arm-end (read-block (cell-as cell) room loops)) (now (source .entry)) scan 256 (s .at) s (now (names .entry)) (now (words .entry)) r (now (names .exit)) (now (words .exit)) ⌝ }
+    requires { ⌜ Ready scan (length (now names)) (length (now words)) s × (loops + free ≤ most-open) ⌝ }
+    ensures { λ r. ⌜ Each whatever (arms-in scan) (arm-end (read-block (cell-as cell) free loops)) (now (source .entry)) scan 256 (s .at) s (now (names .entry)) (now (words .entry)) r (now (names .exit)) (now (words .exit)) ⌝ }
 {
     let t = token_at(words, scan, s.at);
     if t.kind == kind::ELSIF_WORD {
-        return Read::Next(carrying(s, 1, 0));
+        return Read::Next(carrying_more(s, 1));
     }
     if t.kind == kind::ELSE_WORD {
-        let r = read_block(source, names, words, scan, moved(s), cell, loops, room);
+        let r = read_block(source, names, words, scan, moved(s), cell, loops, free);
         let Read::Next(a) = r else {
             return r;
         };
@@ -426,13 +428,13 @@ fn read_arm(
     s: Reading,
     cell: Cell,
     loops: u32,
-    room: u32,
+    free: u32,
 ) -> Read
-    requires { ⌜ Ready scan (length (now names)) (length (now words)) s × (s .at < scan .count) × (loops + room ≤ 16) ⌝ }
-    ensures { λ r. ⌜ Each whatever (arms-in scan) (arm-turn (read-expression (cell-as cell) room) (read-block (cell-as cell) room loops)) (now (source .entry)) scan 256 (s .at + 1) s (now (names .entry)) (now (words .entry)) r (now (names .exit)) (now (words .exit)) ⌝ }
+    requires { ⌜ Ready scan (length (now names)) (length (now words)) s × (s .at < scan .count) × (loops + free ≤ most-open) ⌝ }
+    ensures { λ r. ⌜ Each whatever (arms-in scan) (arm-turn (read-expression (cell-as cell) free) (read-block (cell-as cell) free loops)) (now (source .entry)) scan 256 (s .at + 1) s (now (names .entry)) (now (words .entry)) r (now (names .exit)) (now (words .exit)) ⌝ }
 {
     let i = s.at;
-    let r = read_expression(source, names, words, scan, moved(s), cell, 1, room);
+    let r = read_expression(source, names, words, scan, moved(s), cell, 1, free);
     let Read::Next(a) = r else {
         return r;
     };
@@ -440,12 +442,12 @@ fn read_arm(
     let Read::Next(b) = q else {
         return q;
     };
-    let p = read_block(source, names, words, scan, b, cell, loops, room);
+    let p = read_block(source, names, words, scan, b, cell, loops, free);
     let Read::Next(d) = p else {
         return p;
     };
     put_word(words, i, 2, d.at as u32);
-    arm_end(source, names, words, scan, d, cell, loops, room)
+    arm_end(source, names, words, scan, d, cell, loops, free)
 }
 
 // An `if`. The position past it is noted at its first token.
@@ -457,22 +459,22 @@ fn read_if(
     s: Reading,
     cell: Cell,
     loops: u32,
-    room: u32,
+    free: u32,
 ) -> Read
-    requires { ⌜ Ready scan (length (now names)) (length (now words)) s × (s .at < scan .count) × (loops + room ≤ 16) ⌝ }
-    ensures { λ r. ⌜ Reads anything (if-with (parts-of (cell-as cell) room) loops) (now (source .entry)) scan 256 s (now (names .entry)) (now (words .entry)) r (now (names .exit)) (now (words .exit)) ⌝ }
+    requires { ⌜ Ready scan (length (now names)) (length (now words)) s × (s .at < scan .count) × (loops + free ≤ most-open) ⌝ }
+    ensures { λ r. ⌜ Reads anything (if-with (parts-of (cell-as cell) free) loops) (now (source .entry)) scan 256 s (now (names .entry)) (now (words .entry)) r (now (names .exit)) (now (words .exit)) ⌝ }
 {
-    if room == 0 {
+    if free == 0 {
         return refuse(words, scan, s, s.at, 14);
     }
     let i = s.at;
     let mut here = s;
     loop {
-        let r = read_arm(source, names, words, scan, here, cell, loops, room - 1);
+        let r = read_arm(source, names, words, scan, here, cell, loops, free - 1);
         let Read::Next(a) = r else {
             return r;
         };
-        if a.word == 0 {
+        if a.more == 0 {
             put_word(words, i, 3, a.at as u32);
             return Read::Next(a);
         }
@@ -489,23 +491,23 @@ fn read_forall(
     s: Reading,
     cell: Cell,
     loops: u32,
-    room: u32,
+    free: u32,
 ) -> Read
-    requires { ⌜ Ready scan (length (now names)) (length (now words)) s × (s .at < scan .count) × (loops + room ≤ 16) ⌝ }
-    ensures { λ r. ⌜ Reads anything (forall-with (parts-of (cell-as cell) room) loops) (now (source .entry)) scan 256 s (now (names .entry)) (now (words .entry)) r (now (names .exit)) (now (words .exit)) ⌝ }
+    requires { ⌜ Ready scan (length (now names)) (length (now words)) s × (s .at < scan .count) × (loops + free ≤ most-open) ⌝ }
+    ensures { λ r. ⌜ Reads anything (forall-with (parts-of (cell-as cell) free) loops) (now (source .entry)) scan 256 s (now (names .entry)) (now (words .entry)) r (now (names .exit)) (now (words .exit)) ⌝ }
 {
-    if room == 0 {
+    if free == 0 {
         return refuse(words, scan, s, s.at, 14);
     }
     let r = loop_head(source, names, words, scan, moved(s), loops);
     let Read::Next(a) = r else {
         return r;
     };
-    let q = read_block(source, names, words, scan, a, cell, loops + 1, room - 1);
+    let q = read_block(source, names, words, scan, a, cell, loops + 1, free - 1);
     let Read::Next(b) = q else {
         return q;
     };
-    loop_end(names, words, scan, b, s.at, a.at as u32, a.word as usize)
+    loop_end(names, words, scan, b, s.at, a.at as u32, a.number as usize)
 }
 
 // One more statement, where so many loops are open and so many more may be; nothing is read where the list ends.
@@ -517,23 +519,23 @@ fn read_statement(
     s: Reading,
     cell: Cell,
     loops: u32,
-    room: u32,
+    free: u32,
 ) -> Read
-    requires { ⌜ Ready scan (length (now names)) (length (now words)) s × (loops + room ≤ 16) ⌝ }
-    ensures { λ r. ⌜ Each whatever (list-in s) (statement-turn (cell-as cell) (parts-of (cell-as cell) room) loops) (now (source .entry)) scan 256 (s .at) s (now (names .entry)) (now (words .entry)) r (now (names .exit)) (now (words .exit)) ⌝ }
+    requires { ⌜ Ready scan (length (now names)) (length (now words)) s × (loops + free ≤ most-open) ⌝ }
+    ensures { λ r. ⌜ Each whatever (list-in s) (statement-turn (cell-as cell) (parts-of (cell-as cell) free) loops) (now (source .entry)) scan 256 (s .at) s (now (names .entry)) (now (words .entry)) r (now (names .exit)) (now (words .exit)) ⌝ }
 {
     let t = token_at(words, scan, s.at);
     if is_name(t) {
-        return read_assignment(source, names, words, scan, s, cell, room);
+        return read_assignment(source, names, words, scan, s, cell, free);
     }
     if t.kind == kind::CONST_WORD {
-        return read_declaration(source, names, words, scan, s, 0 < room);
+        return read_declaration(source, names, words, scan, s, 0 < free);
     }
     if t.kind == kind::IF_WORD {
-        return read_if(source, names, words, scan, s, cell, loops, room);
+        return read_if(source, names, words, scan, s, cell, loops, free);
     }
     if t.kind == kind::FORALL_WORD {
-        return read_forall(source, names, words, scan, s, cell, loops, room);
+        return read_forall(source, names, words, scan, s, cell, loops, free);
     }
     if t.kind != kind::EXIT_WORD {
         return Read::Next(s);
@@ -553,14 +555,14 @@ pub fn read_block(
     s: Reading,
     cell: Cell,
     loops: u32,
-    room: u32,
+    free: u32,
 ) -> Read
-    requires { ⌜ Ready scan (length (now names)) (length (now words)) s × (loops + room ≤ 16) ⌝ }
-    ensures { λ r. ⌜ Stays anything (read-block (cell-as cell) room loops) (now (source .entry)) scan 256 s (now (names .entry)) (now (words .entry)) r (now (names .exit)) (now (words .exit)) ⌝ }
+    requires { ⌜ Ready scan (length (now names)) (length (now words)) s × (loops + free ≤ most-open) ⌝ }
+    ensures { λ r. ⌜ Stays anything (read-block (cell-as cell) free loops) (now (source .entry)) scan 256 s (now (names .entry)) (now (words .entry)) r (now (names .exit)) (now (words .exit)) ⌝ }
 {
     let mut here = s;
     loop {
-        let r = read_statement(source, names, words, scan, here, cell, loops, room);
+        let r = read_statement(source, names, words, scan, here, cell, loops, free);
         let Read::Next(a) = r else {
             return r;
         };

@@ -13,20 +13,23 @@ use mir.Syntax.{w64}
 use mir.Val.{SFits, toZ, ofZ}
 use mir.Facts.{toZ-ofZ}
 use borrow.Author.Tests.{eq-eqb, ne-eqb, ltb-false}
+use Rattle.value.specs.Limits.{most-cells}
 use Rattle.value.specs.Choice.{if_then_else_}
 use Rattle.automaton.specs.Contracts.ListedLaws.{getD-list-of}
 use Rattle.automaton.proofs.Theorems.Quiet.{or-false}
 use Rattle.automaton.specs.Shape.{Bound}
+use Rattle.automaton.specs.Contracts.ShapeLaws.{Shaped}
 use Rattle.program.specs.Syntax.{Range, Program}
-use Rattle.cell_meaning.specs.declared.Rule.{Rule}
 use Rattle.cell_meaning.specs.Contracts.Stands.{Holds}
 use Rattle.cell_meaning.specs.Written.{Relative, relatives-in, Written, written-of, written-in}
 use Rattle.cell_meaning.specs.Places.{own-place, add-relatives, places}
 use Rattle.run_meaning.specs.declared.Bounds.{Bounds}
 use Rattle.run_meaning.specs.Reach.{below, above, own-only, widen, widened, box}
 use Rattle.program.specs.Refusal.{Refusal, refusal}
+use Rattle.program.specs.declared.Rule.{Rule}
 use Rattle.run_meaning.specs.Admission.{Request, good-sizes, good-rooms, good-times, too-far, out-of-field, admission}
-use Rattle.run_meaning.specs.Contracts.Fitting.{Sized, held-fields, Shaped, bound-at, bounds-of, Near}
+use Rattle.program.specs.Contracts.Fitting.{Sized}
+use Rattle.run_meaning.specs.Contracts.Fitting.{held-fields, bound-at, bounds-of, Near}
 use Rattle.run_indices.specs.declared.Survey.{Survey}
 use Rattle.run_indices.specs.Contracts.Surveying.{Surveyed}
 use Rattle.run_admission.specs.declared.Refusal as declared
@@ -129,7 +132,7 @@ pub read-times : {rule : Rule} {sizes : List ℕ} {entries scratch marks : ℕ} 
 read-times {rule} {sizes} {entries} {scratch} {marks} {start} {steps} {n} h k = subst₂ (λ (a b : ℤ). AdmissionAsked rule sizes entries scratch marks a b n) (toZ-ofZ h) (toZ-ofZ k)
 
 -- an admitted grid has at most 8 entries for each of 1,048,576 cells
-pub few : {n : ℕ} {rule : Rule} {sizes : List ℕ} {entries : ℕ} → Sized n rule → Shaped rule sizes entries → entries ≤ 8388608
+pub few : {n : ℕ} {rule : Rule} {sizes : List ℕ} {entries : ℕ} → Sized n rule → Shaped (rule .dims) (rule .fields) most-cells sizes entries → entries ≤ 8388608
 few x s = omega (arith, s .entries, mul-le-mul (s .cells) (x .fields))
 
 module _ {words : List ℕ} {rule : Rule} {sizes : List ℕ} (grid : List ℤ) {scratch marks : ℕ} {start steps : ℤ} {n : ℕ} (asked : AdmissionAsked rule sizes (length grid) scratch marks start steps n) where

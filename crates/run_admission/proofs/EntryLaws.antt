@@ -17,8 +17,8 @@ use Rattle.program.specs.Syntax.{Range, no-range}
 use Rattle.cell_meaning.specs.Evaluation.{in-field}
 use Rattle.cell_meaning.specs.Contracts.Stands.{range-in, ranges-in, rule-table}
 use Rattle.cell_meaning.specs.Links.{Table}
-use Rattle.cell_meaning.specs.declared.Rule.{Rule}
 use Rattle.program.specs.Refusal.{refusal}
+use Rattle.program.specs.declared.Rule.{Rule}
 use Rattle.run_meaning.specs.Admission.{out-of-field}
 use Rattle.run_admission.specs.Contracts.Admitting.{InFields}
 

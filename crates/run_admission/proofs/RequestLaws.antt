@@ -13,18 +13,15 @@ use lib.Signed.{leZ, nonNeg}
 use mir.Syntax.{w32, w64}
 use mir.Val.{Fits, SFits}
 use borrow.Author.Tests.{leb-true, leb-false, le-leb, lt-leb, eq-eqb, ne-eqb, eqb-true}
+use Rattle.value.proofs.Theorems.Truth.{and-false}
 use Rattle.value.specs.Choice.{if_then_else_}
 use Rattle.value.proofs.Theorems.Laws.{never, and-both}
 use Rattle.automaton.specs.Shape.{product}
 use Rattle.automaton.specs.Contracts.ShapeLaws.{Positive}
 use Rattle.program.specs.Syntax.{Program}
-use Rattle.cell_meaning.specs.declared.Rule.{Rule}
+use Rattle.program.specs.declared.Rule.{Rule}
 use Rattle.run_meaning.specs.Admission.{Request, all-between, good-sizes, good-rooms, good-times}
 use Rattle.run_admission.specs.Contracts.Admitting.{times-of, cells-of, rooms-of, AdmissionAsked}
-
-and-none : (t : Bool) → (t && false) ≡ false
-and-none true = refl
-and-none false = refl
 
 all-three : (t u v : Bool) → (t && u && v) ≡ true → (t ≡ true) × (u ≡ true) × (v ≡ true)
 all-three t u v e = let both = and-both (t && u) v e in let front = and-both t u (both .0) in (front .0, front .1, both .1)
@@ -76,7 +73,7 @@ cells-out ns a = simp a
 
 cells-over : (ns : List ℕ) → 1048576 < product ns → cells-of ns ≡ 0
 unfolding cells-of
-cells-over ns l = simp (lt-leb (product ns) 1048576 l, and-none)
+cells-over ns l = simp (lt-leb (product ns) 1048576 l, and-false)
 
 cells-first : (n : ℕ) (ns : List ℕ) → n < 1 → cells-of (n ∷ ns) ≡ 0
 unfolding all-between
@@ -84,7 +81,7 @@ cells-first n ns h = cells-out (n ∷ ns) (simp (lt-leb 1 n h))
 
 between-rest : (n : ℕ) (ns : List ℕ) → all-between 1 4096 ns ≡ false → all-between 1 4096 (n ∷ ns) ≡ false
 unfolding all-between
-between-rest n ns e = simp (e, and-none)
+between-rest n ns e = simp (e, and-false)
 
 regroup : (t u v : Bool) (k : ℕ) → _≡_ {A = ℕ} (if t && u && v then k else 0) (if (t && u && true) && v then k else 0)
 regroup true true v k = refl

@@ -2,11 +2,11 @@
 ghost use mathlib.Core.Path.{_≡_};
 ghost use Prim.Native.Nat.{_<_};
 ghost use lib.ListN.{length};
-ghost use Rattle.run_meaning.specs.Contracts.Fitting.{Sized};
+ghost use Rattle.program.specs.Contracts.Fitting.{Sized};
 ghost use Rattle.run_admission.specs.Contracts.Admitting.{Admits};
 use crate::out_of_field;
 use crate::refused_request;
-use cell_meaning::Rule;
+use program::Rule;
 use run_indices::surveying::survey;
 use run_meaning::Reach;
 use run_meaning::own_only;

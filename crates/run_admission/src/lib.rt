@@ -3,21 +3,24 @@ ghost use mathlib.Core.Path.{_≡_};
 ghost use Prim.Native.Nat.{_+_, _*_, _%_, _<_, _≤_};
 ghost use lib.ListN.{length, getD};
 ghost use lib.IntN.{pos};
+ghost use Rattle.value.specs.Limits.{most-dims, most-cells, most-fields};
 ghost use Rattle.value.specs.Worked.{value};
 ghost use Rattle.program.specs.Syntax.{no-range};
 ghost use Rattle.cell_meaning.specs.Evaluation.{in-field};
 ghost use Rattle.cell_meaning.specs.Contracts.Stands.{rule-table, ranges-in};
 ghost use Rattle.run_meaning.specs.Admission.{good-times};
-ghost use Rattle.run_meaning.specs.Contracts.Fitting.{Sized};
+ghost use Rattle.program.specs.Contracts.Fitting.{Sized};
 ghost use Rattle.run_admission.specs.Contracts.Admitting.{times-of, cells-of, rooms-of, AdmissionAsked, InFields};
 
 mod admitting;
 
 pub use admitting::Admitted;
 pub use admitting::admit;
-use cell_meaning::Rule;
 use cell_operands::table::word_at;
+use program::Rule;
 use value::Value;
+use value::limits::MOST_ALONG;
+use value::limits::MOST_CELLS;
 
 // A refusal's number and place; number 0: admitted.
 pub struct Refusal {
@@ -27,17 +30,17 @@ pub struct Refusal {
 
 // The product with one size more before it; 0 where that size is not 1 to 4,096, or the product is over 1,048,576.
 fn times(n: u32, total: u64) -> u64
-    requires { ⌜ total ≤ 1048576 ⌝ }
+    requires { ⌜ total ≤ most-cells ⌝ }
     ensures { λ r. ⌜ r ≡ times-of n total ⌝ }
 {
     if n < 1 {
         return 0;
     }
-    if 4096 < n {
+    if MOST_ALONG < n {
         return 0;
     }
     let more = (n as u64) * total;
-    if 1048576 < more {
+    if MOST_CELLS < more {
         return 0;
     }
     more
@@ -45,7 +48,7 @@ fn times(n: u32, total: u64) -> u64
 
 // The number of cells of a grid with these sizes; 0 where a size is not 1 to 4,096, or there are more than 1,048,576 cells.
 pub fn cells(sizes: &[u32]) -> u64
-    requires { ⌜ length (now sizes) ≤ 3 ⌝ }
+    requires { ⌜ length (now sizes) ≤ most-dims ⌝ }
     ensures { λ r. ⌜ r ≡ cells-of (now (sizes .entry)) ⌝ }
 {
     let mut total: u64 = 1;
@@ -62,7 +65,7 @@ pub fn cells(sizes: &[u32]) -> u64
 
 // Whether grid and scratch have so many entries as there are fields in all cells, and marks one a cell.
 fn good_rooms(cells: u64, fields: u32, entries: usize, scratch: usize, marks: usize) -> bool
-    requires { ⌜ (cells ≤ 1048576) × (fields ≤ 8) ⌝ }
+    requires { ⌜ (cells ≤ most-cells) × (fields ≤ most-fields) ⌝ }
     ensures { λ r. ⌜ r ≡ rooms-of cells fields entries scratch marks ⌝ }
 {
     if entries as u64 == cells * (fields as u64) {
@@ -95,7 +98,7 @@ pub fn refused_request(
     start: i64,
     steps: i64,
 ) -> u32
-    requires { ⌜ (rule .dims ≤ 3) × (rule .fields ≤ 8) ⌝ }
+    requires { ⌜ (rule .dims ≤ most-dims) × (rule .fields ≤ most-fields) ⌝ }
     ensures { λ r. ⌜ AdmissionAsked rule (now (sizes .entry)) entries scratch marks start steps r ⌝ }
 {
     if sizes.len() != rule.dims as usize {

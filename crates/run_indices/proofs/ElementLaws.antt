@@ -16,7 +16,6 @@ use Rattle.automaton.specs.Listed.{list-of}
 use Rattle.automaton.specs.Contracts.ListedLaws.{length-list-of, getD-list-of, list-of-ext}
 use Rattle.program.specs.Syntax.{Range, range, no-range, Index, fixed, moving}
 use Rattle.cell_meaning.specs.Evaluation.{entry, offset}
-use Rattle.cell_meaning.specs.declared.Rule.{Rule}
 use Rattle.cell_meaning.specs.Written.{Relative, values-of, place-of, written-in-index, written-of}
 use Rattle.cell_meaning.specs.Contracts.Stands.{rule-table, index-in, next-index, indices-in}
 use Rattle.cell_meaning.specs.Links.{Table}
@@ -24,6 +23,7 @@ use Rattle.cell_meaning.specs.Places.{used-ranges, choice-count, vectors-of, ad
 use Rattle.run_meaning.specs.declared.Bounds.{Bounds}
 use Rattle.run_meaning.specs.declared.Reach.{Reach}
 use Rattle.program.specs.Refusal.{refusal}
+use Rattle.program.specs.declared.Rule.{Rule}
 use Rattle.run_meaning.specs.Contracts.Fitting.{bounds-of, places-of}
 use Rattle.run_places.specs.Contracts.Vectors.{vector-values, ends, loops-of, index-places, relative-at, IndexReach}
 use Rattle.run_places.specs.Contracts.Widening.{joined, Widens}

@@ -18,7 +18,6 @@ use Rattle.automaton.specs.Contracts.ListedLaws.{length-list-of}
 use Rattle.automaton.specs.Shape.{Bound}
 use Rattle.token.specs.Kind.{keyword}
 use Rattle.program.specs.Syntax.{Range}
-use Rattle.cell_meaning.specs.declared.Rule.{Rule}
 use Rattle.cell_meaning.specs.Written.{Relative, relative-of, Written, written-in-index, written-of}
 use Rattle.cell_meaning.specs.Places.{add-relative, add-relatives, own-place}
 use Rattle.cell_meaning.specs.Contracts.Stands.{rule-table, range-in, indices-in}
@@ -26,6 +25,7 @@ use Rattle.cell_meaning.specs.Links.{word-in, Table, table-of}
 use Rattle.cell_meaning.specs.Contracts.Listing.{is-index, behind, written-at, written-from, Writes}
 use Rattle.cell_operands.proofs.TableLaws.{link-bounds}
 use Rattle.program.specs.Refusal.{refusal}
+use Rattle.program.specs.declared.Rule.{Rule}
 use Rattle.run_meaning.specs.Admission.{too-far}
 use Rattle.run_meaning.specs.Reach.{own-only, widen, widened}
 use Rattle.run_meaning.specs.declared.Reach.{Reach}

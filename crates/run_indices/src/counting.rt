@@ -3,6 +3,7 @@ ghost use mathlib.Core.Path.{_≡_};
 ghost use Prim.Native.Nat.{max, _<_};
 ghost use lib.Dec.{ltb};
 ghost use lib.IntN.{natAbs};
+ghost use Rattle.value.specs.Limits.{most-dims};
 ghost use Rattle.value.specs.Worked.{decode-of};
 ghost use Rattle.run_meaning.specs.Reach.{below, above};
 ghost use Rattle.run_indices.specs.Contracts.Surveying.{goes-past, Wider, Counts};
@@ -59,7 +60,7 @@ fn goes_past(low: u32, high: u32, size: u32) -> bool
 
 // A box that has at least so much back and ahead in a dimension.
 fn widened(bounds: Bounds, dim: usize, back: u32, ahead: u32) -> Bounds
-    requires { ⌜ dim < 3 ⌝ }
+    requires { ⌜ dim < most-dims ⌝ }
     ensures { λ r. ⌜ Wider bounds dim back ahead r ⌝ }
 {
     let mut r = bounds;
@@ -80,7 +81,7 @@ fn widened(bounds: Bounds, dim: usize, back: u32, ahead: u32) -> Bounds
 
 // One written index: its place, its dimension, of a given size, and the words of its lowest and highest value.
 pub fn counted(s: Count, size: u32, place: u32, dim: usize, low: u32, high: u32) -> Count
-    requires { ⌜ dim < 3 ⌝ }
+    requires { ⌜ dim < most-dims ⌝ }
     ensures { λ r. ⌜ Counts s size place dim low high r ⌝ }
 {
     let old = s.bounds;

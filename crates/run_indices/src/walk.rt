@@ -5,6 +5,7 @@ ghost use mathlib.Core.List.{[], _∷_};
 ghost use Prim.Native.Nat.{_+_, _*_, _<_, _≤_};
 ghost use lib.Dec.{eqb, ltb};
 ghost use lib.ListN.{length};
+ghost use Rattle.value.specs.Limits.{most-tokens, most-open};
 ghost use Rattle.token.specs.Kind.{keyword};
 ghost use Rattle.cell_meaning.specs.Written.{written-in-index};
 ghost use Rattle.cell_meaning.specs.Contracts.Stands.{rule-table, indices-in};
@@ -15,28 +16,29 @@ ghost use Rattle.run_places.specs.Contracts.Vectors.{loops-of, relative-at};
 use crate::Count;
 use crate::Survey;
 use crate::counting::counted;
-use cell_meaning::Rule;
 use cell_operands::neighbour::element_after;
 use cell_operands::table::link_at;
 use cell_operands::table::place_at;
 use cell_operands::table::word_at;
+use program::Rule;
 use run_places::vectors::element_word;
 use run_places::vectors::index_reach;
 use run_places::widening::widened_in_place;
 use token::kind;
+use value::limits::MOST_OPEN;
 
 // The elements of a relative index, from a position on.
 fn elements(
     words: &[u32],
     rule: Rule,
     sizes: &[u32],
-    lows: &[u32; 16],
-    highs: &[u32; 16],
+    lows: &[u32; MOST_OPEN],
+    highs: &[u32; MOST_OPEN],
     depth: usize,
     at: usize,
     s: Count,
 ) -> Count
-    requires { ⌜ Walks (length (now words)) rule (length (now sizes)) depth × (at ≤ 4096) ⌝ }
+    requires { ⌜ Walks (length (now words)) rule (length (now sizes)) depth × (at ≤ most-tokens) ⌝ }
     ensures { λ r. ⌜ tally-of r (rule .dims) ≡ tally (now (sizes .entry)) (tally-of s (rule .dims)) (written-in-index (loops-of (now (lows .entry)) (now (highs .entry)) depth) 0 (indices-in (rule-table (now (words .entry)) rule) (rule .dims) at)) ⌝ }
 {
     let n = rule.tokens;
@@ -56,7 +58,7 @@ fn elements(
 
 // Whether a relative index begins at a position.
 fn is_index(words: &[u32], n: usize, dims: usize, at: usize) -> bool
-    requires { ⌜ (4 * n ≤ length (now words)) × (n ≤ 4096) ⌝ }
+    requires { ⌜ (4 * n ≤ length (now words)) × (n ≤ most-tokens) ⌝ }
     ensures { λ r. ⌜ r ≡ is-index (table-of (now (words .entry)) n dims) at ⌝ }
 {
     if word_at(words, n, 0, at) == kind::BRACKET {
@@ -67,7 +69,7 @@ fn is_index(words: &[u32], n: usize, dims: usize, at: usize) -> bool
 
 // The position after the construct at a position.
 fn behind(words: &[u32], n: usize, dims: usize, at: usize) -> usize
-    requires { ⌜ (4 * n ≤ length (now words)) × (n ≤ 4096) × (at < n) ⌝ }
+    requires { ⌜ (4 * n ≤ length (now words)) × (n ≤ most-tokens) × (at < n) ⌝ }
     ensures { λ r. ⌜ r ≡ behind (table-of (now (words .entry)) n dims) at ⌝ }
 {
     let kind = word_at(words, n, 0, at);
@@ -85,18 +87,18 @@ fn behind(words: &[u32], n: usize, dims: usize, at: usize) -> usize
 
 // Whether a loop begins at a position, and there is room for it.
 fn opens(words: &[u32], n: usize, depth: usize, at: usize) -> bool
-    requires { ⌜ (4 * n ≤ length (now words)) × (n ≤ 4096) ⌝ }
+    requires { ⌜ (4 * n ≤ length (now words)) × (n ≤ most-tokens) ⌝ }
     ensures { λ r. ⌜ r ≡ (eqb (word-in (now (words .entry)) n 0 at) (keyword .forall) && ltb depth 16) ⌝ }
 {
     if word_at(words, n, 0, at) == kind::FORALL_WORD {
-        return depth < 16;
+        return depth < MOST_OPEN;
     }
     false
 }
 
 // The words of the open loops' lowest or highest values, with one for one loop more.
-fn opened(words: [u32; 16], depth: usize, word: u32) -> [u32; 16]
-    requires { ⌜ depth < 16 ⌝ }
+fn opened(words: [u32; MOST_OPEN], depth: usize, word: u32) -> [u32; MOST_OPEN]
+    requires { ⌜ depth < most-open ⌝ }
     ensures { λ r. ⌜ Opened words depth word r ⌝ }
 {
     let mut more = words;
@@ -109,13 +111,13 @@ fn with_index(
     words: &[u32],
     rule: Rule,
     sizes: &[u32],
-    lows: &[u32; 16],
-    highs: &[u32; 16],
+    lows: &[u32; MOST_OPEN],
+    highs: &[u32; MOST_OPEN],
     depth: usize,
     at: usize,
     s: Survey,
 ) -> Survey
-    requires { ⌜ Walks (length (now words)) rule (length (now sizes)) depth × (at ≤ 4096) ⌝ }
+    requires { ⌜ Walks (length (now words)) rule (length (now sizes)) depth × (at ≤ most-tokens) ⌝ }
     ensures { λ r. ⌜ survey-of r (rule .dims) ≡ found (now (sizes .entry)) (rule .dims) (survey-of s (rule .dims)) (relative-at (now (words .entry)) rule (loops-of (now (lows .entry)) (now (highs .entry)) depth) at ∷ []) ⌝ }
 {
     let reach = s.reach;
@@ -141,8 +143,8 @@ fn index_at(
     words: &[u32],
     rule: Rule,
     sizes: &[u32],
-    lows: &[u32; 16],
-    highs: &[u32; 16],
+    lows: &[u32; MOST_OPEN],
+    highs: &[u32; MOST_OPEN],
     depth: usize,
     at: usize,
     s: Survey,
@@ -163,8 +165,8 @@ pub fn part(
     words: &[u32],
     rule: Rule,
     sizes: &[u32],
-    lows: &[u32; 16],
-    highs: &[u32; 16],
+    lows: &[u32; MOST_OPEN],
+    highs: &[u32; MOST_OPEN],
     depth: usize,
     from: usize,
     to: usize,

@@ -2,6 +2,6 @@
 mod ClearLaws
 pub mod RoomLaws
 pub mod ScanLaws
-mod PlaceLaws
+mod PointLaws
 pub mod PartLaws
 mod ExchangeLaws

@@ -28,7 +28,7 @@ is-marked : (marks : List ℕ) (c : ℕ) → (getD marks c 0 ≡ 0 → ⊥) → 
 unfolding marked
 is-marked marks c h = non-zero-true (getD marks c 0) h
 
-is-unmarked : (marks : List ℕ) (c : ℕ) → getD marks c 0 ≡ 0 → marked marks c ≡ false
+pub is-unmarked : (marks : List ℕ) (c : ℕ) → getD marks c 0 ≡ 0 → marked marks c ≡ false
 unfolding marked
 is-unmarked marks c e = ap non-zero e
 

@@ -5,24 +5,13 @@ ghost use lib.ListN.{length, replicate};
 ghost use lib.IntN.{pos};
 ghost use Rattle.automaton.specs.Step.{non-zero, marked, marks-of};
 
-// Marks every cell.
-pub fn mark_all(marks: &mut [u8])
-    ensures { λ r. ⌜ now (marks .exit) ≡ replicate (length (now (marks .entry))) 1 ⌝ }
+// Gives every mark one value.
+pub fn set_marks(marks: &mut [u8], value: u8)
+    ensures { λ r. ⌜ now (marks .exit) ≡ replicate (length (now (marks .entry))) value ⌝ }
 {
     let mut i: usize = 0;
     while i < marks.len() {
-        marks[i] = 1;
-        i += 1;
-    }
-}
-
-// Marks no cell.
-pub fn clear_marks(marks: &mut [u8])
-    ensures { λ r. ⌜ now (marks .exit) ≡ replicate (length (now (marks .entry))) 0 ⌝ }
-{
-    let mut i: usize = 0;
-    while i < marks.len() {
-        marks[i] = 0;
+        marks[i] = value;
         i += 1;
     }
 }

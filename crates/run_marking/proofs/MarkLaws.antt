@@ -8,26 +8,18 @@ use mathlib.Core.Bool.{Bool, true, false, not}
 use mathlib.Core.Logic.{_⊎_, inl, inr}
 use mathlib.Core.List.{List, [], _∷_}
 use lib.ListN.{length, getD, set}
-use lib.IntN.{ℤ, pos, negsuc}
-use borrow.Author.Tests.{eq-eqb, not-false}
+use lib.IntN.{ℤ, pos}
+use borrow.Author.Tests.{not-false}
 use Rattle.value.specs.Number.{eqZ}
-use Rattle.value.proofs.Theorems.Laws.{eqZ-true}
+use Rattle.value.proofs.Theorems.Laws.{eqZ-true, eqZ-refl}
 use Rattle.automaton.specs.Contracts.ListedLaws.{getD-list-of, list-of-ext, last-or-below}
 use Rattle.automaton.specs.Grid.{cell-of, differ}
-use Rattle.automaton.proofs.Theorems.GridLaws.{differ-false}
+use Rattle.automaton.proofs.Theorems.GridLaws.{differ-false, differ-self}
 use Rattle.run_marked_cells.specs.Contracts.Clear.{Clear}
 use Rattle.run_marked_cells.proofs.RoomLaws.{Changing, changing-start, changing-more}
 use Rattle.run_marking.specs.Contracts.Noting.{NextOdd, Halved}
 
 -- ---- cells that changed
-
-eqZ-refl : (z : ℤ) → eqZ z z ≡ true
-eqZ-refl (pos a) = eq-eqb a a refl
-eqZ-refl (negsuc a) = eq-eqb a a refl
-
-pub differ-self : (a : List ℤ) → differ a a ≡ false
-differ-self [] = refl
-differ-self (x ∷ xs) = rw (eqZ-refl x) (differ-self xs)
 
 -- the first k entries from a place on are the same in two grids
 pub record Same (old grid : List ℤ) (from k : ℕ) : Type 0 where

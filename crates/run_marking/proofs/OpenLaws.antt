@@ -16,7 +16,7 @@ use Rattle.automaton.proofs.Theorems.Quiet.{any-of-false, any-of-true}
 use Rattle.automaton.specs.Shape.{product, cell-number, neighbour, reach-of}
 use Rattle.automaton.specs.Contracts.ShapeLaws.{Positive, coordinates-inside, inside-at, neighbour-lt}
 use Rattle.automaton.specs.Grid.{cell-of, differ}
-use Rattle.automaton.proofs.Theorems.GridLaws.{cell-room}
+use Rattle.automaton.proofs.Theorems.GridLaws.{cell-room, differ-self}
 use Rattle.run_meaning.specs.Contracts.Fitting.{bound-at}
 use Rattle.run_meaning.proofs.Theorems.Digits.{size-positive}
 use Rattle.run_meaning.specs.declared.Bounds.{Bounds}
@@ -24,10 +24,9 @@ use Rattle.run_place_marks.specs.Contracts.Placing.{cell-from, StepPlaced, note
 use Rattle.run_place_marks.proofs.BackLaws.{placed}
 use Rattle.run_marked_cells.proofs.ScanLaws.{non-zero-true}
 use Rattle.run_marking.specs.Contracts.Opened.{opened, Markable, MarksReady, Ways, Marks, MarksChanged}
-use Rattle.run_marking.specs.Contracts.Noting.{note-cell, note-all, noted-rows, box-cells, opened-from, cells-opened, cells-back, cells-by, opened-by, Boxed, NotesShaped, Led, NotedBelow, Firsts, NotedCounts, NextOdd, Halved}
+use Rattle.run_marking.specs.Contracts.Noting.{note-cell, note-all, noted-rows, box-cells, opened-from, cells-opened, cells-back, cells-by, opened-by, Boxed, Prepared, Led, NotedBelow, Firsts, NotedCounts, NextOdd, Halved}
 use Rattle.run_marking.proofs.NotingLaws.{length-note-all, note-all-append, note-out, note-in, note-parity, mem-rows, rows-skip}
 use Rattle.run_marking.proofs.BoxLaws.{entry, box-same}
-use Rattle.run_marking.proofs.MarkLaws.{differ-self}
 
 -- ---- one cell, by the box
 
@@ -35,7 +34,7 @@ pub below-of : (ns : List ℕ) (x : ℕ) {at : List ℕ} → Positive ns → x <
 below-of ns x positive l c =
     record { each = λ k h. subst (λ (i : ℕ). i < getD ns k 0) (sym (c .each k h)) (inside-at ns _ (coordinates-inside ns x positive l) k h) }
 
-module _ (ns : List ℕ) (bounds : Bounds) (s : NotesShaped ns bounds) (x : ℕ) {at firsts counts : List ℕ} (h : StepCoordinates ns x at) (f : Firsts ns bounds at firsts) (c : NotedCounts ns bounds counts) where
+module _ (ns : List ℕ) (bounds : Bounds) (s : Prepared ns bounds) (x : ℕ) {at firsts counts : List ℕ} (h : StepCoordinates ns x at) (f : Firsts ns bounds at firsts) (c : NotedCounts ns bounds counts) where
   pub boxed-whole : (cells : ℕ) → cells ≡ product ns → Boxed ns firsts counts 0 cells
   boxed-whole cells e = record {
     some-dims = s .some-dims;
@@ -57,7 +56,7 @@ module _ (ns : List ℕ) (bounds : Bounds) (s : NotesShaped ns bounds) (x : ℕ)
 
 -- ---- one cell, by the steps back
 
-pub led-placed : (ns : List ℕ) (bounds : Bounds) (x : ℕ) {at steps : List ℕ} {listed : ℕ} → NotesShaped ns bounds → x < product ns → StepCoordinates ns x at → Led ns steps listed → listed < 257
+pub led-placed : (ns : List ℕ) (bounds : Bounds) (x : ℕ) {at steps : List ℕ} {listed : ℕ} → Prepared ns bounds → x < product ns → StepCoordinates ns x at → Led ns steps listed → listed < 257
     → (k : ℕ) → k < listed → StepPlaced ns at steps (3 * k)
 led-placed ns bounds x {at} {steps} s l c led few k lk = placed ns (s .dims) (s .positive) (s .cells) x l at steps k (omega arith) (led .size) (c .each) (led .inside few k lk)
 
@@ -119,8 +118,8 @@ module _ (ns : List ℕ) (bounds : Bounds) (steps : List ℕ) (listed fields : �
   abbrev Moved : ℕ → Bool
   Moved x = differ (cell-of fields old x) (cell-of fields grid x)
 
-  pub shaped : NotesShaped ns bounds
-  shaped = let p = s .prepared in record { some-dims = p .some-dims; dims = p .dims; positive = p .positive; cells = p .cells; near = p .near }
+  pub shaped : Prepared ns bounds
+  shaped = s .prepared
 
   pub opening-start : Opening Cells fields old grid marks₀ marks₀ 0
   unfolding noted-rows note-all

@@ -11,7 +11,7 @@ use Rattle.automaton.specs.Contracts.ListedLaws.{last-or-below}
 use Rattle.run_meaning.specs.Contracts.Fitting.{bound-at}
 use Rattle.run_meaning.specs.declared.Bounds.{Bounds}
 use Rattle.run_meaning.proofs.Theorems.Digits.{size-positive, size-small}
-use Rattle.run_marking.specs.Contracts.Noting.{opened-from, opened-count, NotesShaped, Firsts, NotedCounts}
+use Rattle.run_marking.specs.Contracts.Noting.{opened-from, opened-count, Prepared, Firsts, NotedCounts}
 
 -- ---- one coordinate
 
@@ -50,7 +50,7 @@ last-back r (suc (suc k)) p q = refl
 
 -- ---- sizes
 
-module _ (ns : List ℕ) (bounds : Bounds) (s : NotesShaped ns bounds) (k : ℕ) (l : k < length ns) {n : ℕ} (en : n ≡ getD ns k 0) where
+module _ (ns : List ℕ) (bounds : Bounds) (s : Prepared ns bounds) (k : ℕ) (l : k < length ns) {n : ℕ} (en : n ≡ getD ns k 0) where
   pub size-some : 0 < n
   size-some = rw en (size-positive ns (s .positive) k l)
 

@@ -19,8 +19,8 @@ use Rattle.run_meaning.specs.declared.Bounds.{Bounds}
 use Rattle.run_meaning.specs.declared.Reach.{Reach}
 use Rattle.run_place_marks.specs.Contracts.Placing.{Backs}
 use Rattle.run_place_marks.proofs.BackLaws.{step-inside, steps-open}
-use Rattle.run_marking.specs.Contracts.Opened.{indices-of, Prepared, Ways, WayOf}
-use Rattle.run_marking.specs.Contracts.Noting.{cells-back, Led}
+use Rattle.run_marking.specs.Contracts.Opened.{indices-of, Ways, WayOf}
+use Rattle.run_marking.specs.Contracts.Noting.{Prepared, cells-back, Led}
 use Rattle.run_marking.proofs.BoxLaws.{opens-reach}
 use Rattle.run_marking.proofs.OpenLaws.{by-list, by-box}
 

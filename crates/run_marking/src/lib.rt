@@ -2,9 +2,10 @@
 ghost use mathlib.Core.Path.{_≡_};
 ghost use Prim.Native.Nat.{_*_, _<_, _≤_};
 ghost use lib.ListN.{length};
+ghost use Rattle.value.specs.Limits.{most-fields};
 ghost use Rattle.automaton.specs.Shape.{product};
 ghost use Rattle.run_marking.specs.Contracts.Opened.{Markable, MarksReady, Marks, MarksChanged};
-ghost use Rattle.run_marking.specs.Contracts.Noting.{note-all, cells-by, opened-by, NotesShaped, Led, NotedCounts};
+ghost use Rattle.run_marking.specs.Contracts.Noting.{note-all, cells-by, opened-by, Prepared, Led, NotedCounts};
 use crate::marks::differs;
 use crate::marks::halve;
 use crate::marks::next_odd;
@@ -12,6 +13,7 @@ use crate::opening::counts_of;
 use crate::opening::open_from;
 use run_marked_cells::rooms::flag_marks;
 use run_meaning::Bounds;
+use value::limits::MOST_DIMS;
 
 pub mod marks;
 mod opening;
@@ -21,7 +23,7 @@ pub mod ways;
 fn open_changed(
     sizes: &[u32],
     bounds: Bounds,
-    counts: &[usize; 3],
+    counts: &[usize; MOST_DIMS],
     steps: &[u32],
     listed: usize,
     fields: usize,
@@ -30,7 +32,7 @@ fn open_changed(
     c: usize,
     marks: &mut [u8],
 )
-    requires { ⌜ NotesShaped (now sizes) bounds × NotedCounts (now sizes) bounds (now counts) × Led (now sizes) (now steps) listed × (fields ≤ 8) × (length (now old) ≡ product (now sizes) * fields) × (length (now grid) ≡ product (now sizes) * fields) × (length (now marks) ≡ product (now sizes)) × (c < product (now sizes)) ⌝ }
+    requires { ⌜ Prepared (now sizes) bounds × NotedCounts (now sizes) bounds (now counts) × Led (now sizes) (now steps) listed × (fields ≤ most-fields) × (length (now old) ≡ product (now sizes) * fields) × (length (now grid) ≡ product (now sizes) * fields) × (length (now marks) ≡ product (now sizes)) × (c < product (now sizes)) ⌝ }
     ensures { λ _. ⌜ now (marks .exit) ≡ note-all (opened-by (cells-by (now (sizes .entry)) bounds (now (steps .entry)) listed) fields (now (old .entry)) (now (grid .entry)) c) (now (marks .entry)) ⌝ }
 {
     if differs(old, grid, fields, c) {

@@ -2,13 +2,15 @@
 ghost use mathlib.Core.Path.{_≡_};
 ghost use Prim.Native.Nat.{suc, _+_, _-_, _*_, _%_, _<_, _≤_, min};
 ghost use lib.ListN.{length, getD};
+ghost use Rattle.value.specs.Limits.{most-dims, most-cells};
 ghost use Rattle.automaton.specs.Shape.{product};
 ghost use Rattle.run_meaning.specs.Contracts.Fitting.{bound-at};
-ghost use Rattle.run_marking.specs.Contracts.Noting.{note-all, noted-rows, noted-line, noted-lines, box-cells, cells-opened, cells-back, cells-by, Boxed, NotesShaped, Led, NotedBelow, Firsts, NotedCounts};
+ghost use Rattle.run_marking.specs.Contracts.Noting.{note-all, noted-rows, noted-line, noted-lines, box-cells, cells-opened, cells-back, cells-by, Boxed, Prepared, Led, NotedBelow, Firsts, NotedCounts};
 use run_meaning::Bounds;
 use run_place_marks::note_steps;
 use run_place_marks::set_coordinates;
 use run_place_marks::wide;
+use value::limits::MOST_DIMS;
 
 // How far the highest index of a dimension lies above 0.
 pub fn ahead_at(bounds: Bounds, k: usize) -> usize
@@ -38,7 +40,7 @@ pub fn back_at(bounds: Bounds, k: usize) -> usize
 
 // i - ahead, wrapped in a dimension of n coordinates.
 fn first_coordinate(i: usize, ahead: usize, n: usize) -> usize
-    requires { ⌜ (i < n) × (ahead ≤ n) × (n ≤ 1048576) ⌝ }
+    requires { ⌜ (i < n) × (ahead ≤ n) × (n ≤ most-cells) ⌝ }
     ensures { λ r. ⌜ r ≡ (i + (n - ahead)) % n ⌝ }
 {
     if ahead <= i {
@@ -49,7 +51,7 @@ fn first_coordinate(i: usize, ahead: usize, n: usize) -> usize
 
 // j + 1, wrapped in a dimension of n coordinates.
 fn next_coordinate(j: usize, n: usize) -> usize
-    requires { ⌜ (j < n) × (n ≤ 1048576) ⌝ }
+    requires { ⌜ (j < n) × (n ≤ most-cells) ⌝ }
     ensures { λ r. ⌜ r ≡ (j + 1) % n ⌝ }
 {
     if j + 1 == n {
@@ -60,7 +62,7 @@ fn next_coordinate(j: usize, n: usize) -> usize
 
 // The number of coordinates that a change opens in a dimension of n coordinates: no more than these.
 fn clipped(n: usize, back: usize, ahead: usize) -> usize
-    requires { ⌜ (back ≤ n) × (ahead ≤ n) × (n ≤ 1048576) ⌝ }
+    requires { ⌜ (back ≤ n) × (ahead ≤ n) × (n ≤ most-cells) ⌝ }
     ensures { λ r. ⌜ r ≡ min n (suc (back + ahead)) ⌝ }
 {
     let all = back + ahead + 1;
@@ -71,12 +73,12 @@ fn clipped(n: usize, back: usize, ahead: usize) -> usize
 }
 
 // For each dimension, the number of coordinates that a change opens.
-pub fn counts_of(sizes: &[u32], bounds: Bounds) -> [usize; 3]
-    requires { ⌜ NotesShaped (now sizes) bounds ⌝ }
+pub fn counts_of(sizes: &[u32], bounds: Bounds) -> [usize; MOST_DIMS]
+    requires { ⌜ Prepared (now sizes) bounds ⌝ }
     ensures { λ r. ⌜ NotedCounts (now (sizes .entry)) bounds r ⌝ }
 {
     let dims = sizes.len();
-    let mut counts = [0; 3];
+    let mut counts = [0; MOST_DIMS];
     let mut k = 0;
     while k < dims {
         counts[k] = clipped(wide(sizes[k]), back_at(bounds, k), ahead_at(bounds, k));
@@ -86,8 +88,8 @@ pub fn counts_of(sizes: &[u32], bounds: Bounds) -> [usize; 3]
 }
 
 // Sets, for each dimension, the first coordinate that a change at given coordinates opens.
-fn set_firsts(sizes: &[u32], bounds: Bounds, at: &[usize; 3], firsts: &mut [usize])
-    requires { ⌜ NotesShaped (now sizes) bounds × NotedBelow (now sizes) (now at) × (length (now firsts) ≡ 3) ⌝ }
+fn set_firsts(sizes: &[u32], bounds: Bounds, at: &[usize; MOST_DIMS], firsts: &mut [usize])
+    requires { ⌜ Prepared (now sizes) bounds × NotedBelow (now sizes) (now at) × (length (now firsts) ≡ most-dims) ⌝ }
     ensures { λ _. ⌜ Firsts (now (sizes .entry)) bounds (now (at .entry)) (now (firsts .exit)) ⌝ }
 {
     let dims = sizes.len();
@@ -100,7 +102,7 @@ fn set_firsts(sizes: &[u32], bounds: Bounds, at: &[usize; 3], firsts: &mut [usiz
 
 // Notes the cells base + j for the coordinates j from a first one on, as many as `count`, wrapped in a dimension of n coordinates.
 fn note_line(base: usize, n: usize, first: usize, count: usize, marks: &mut [u8])
-    requires { ⌜ (first < n) × (base + n ≤ length (now marks)) × (length (now marks) ≤ 1048576) ⌝ }
+    requires { ⌜ (first < n) × (base + n ≤ length (now marks)) × (length (now marks) ≤ most-cells) ⌝ }
     ensures { λ _. ⌜ now (marks .exit) ≡ note-all (noted-rows (noted-line base n first) count) (now (marks .entry)) ⌝ }
 {
     let mut j = first;
@@ -125,7 +127,7 @@ fn note_lines(
     width: usize,
     marks: &mut [u8],
 )
-    requires { ⌜ (first < n) × (start < m) × ((base + 1) * (n * m) ≤ length (now marks)) × (length (now marks) ≤ 1048576) ⌝ }
+    requires { ⌜ (first < n) × (start < m) × ((base + 1) * (n * m) ≤ length (now marks)) × (length (now marks) ≤ most-cells) ⌝ }
     ensures { λ _. ⌜ now (marks .exit) ≡ note-all (noted-rows (noted-lines base n first m start width) count) (now (marks .entry)) ⌝ }
 {
     let mut j = first;
@@ -172,13 +174,13 @@ fn note_box(sizes: &[u32], firsts: &[usize], counts: &[usize], base: usize, mark
 }
 
 // Notes the cells that a change of the cell x opens, by the box.
-fn open_box(sizes: &[u32], bounds: Bounds, counts: &[usize; 3], x: usize, marks: &mut [u8])
-    requires { ⌜ NotesShaped (now sizes) bounds × NotedCounts (now sizes) bounds (now counts) × (length (now marks) ≡ product (now sizes)) × (x < product (now sizes)) ⌝ }
+fn open_box(sizes: &[u32], bounds: Bounds, counts: &[usize; MOST_DIMS], x: usize, marks: &mut [u8])
+    requires { ⌜ Prepared (now sizes) bounds × NotedCounts (now sizes) bounds (now counts) × (length (now marks) ≡ product (now sizes)) × (x < product (now sizes)) ⌝ }
     ensures { λ _. ⌜ now (marks .exit) ≡ note-all (cells-opened (now (sizes .entry)) (bound-at bounds) x) (now (marks .entry)) ⌝ }
 {
-    let mut at = [0; 3];
+    let mut at = [0; MOST_DIMS];
     set_coordinates(sizes, x as u32, &mut at);
-    let mut firsts = [0; 3];
+    let mut firsts = [0; MOST_DIMS];
     set_firsts(sizes, bounds, &at, &mut firsts);
     note_box(sizes, &firsts, counts, 0, marks);
 }
@@ -192,10 +194,10 @@ fn open_list(
     x: usize,
     marks: &mut [u8],
 )
-    requires { ⌜ NotesShaped (now sizes) bounds × Led (now sizes) (now steps) listed × (listed < 257) × (length (now marks) ≡ product (now sizes)) × (x < product (now sizes)) ⌝ }
+    requires { ⌜ Prepared (now sizes) bounds × Led (now sizes) (now steps) listed × (listed < 257) × (length (now marks) ≡ product (now sizes)) × (x < product (now sizes)) ⌝ }
     ensures { λ _. ⌜ now (marks .exit) ≡ note-all (cells-back (now (sizes .entry)) (now (steps .entry)) listed x) (now (marks .entry)) ⌝ }
 {
-    let mut at = [0; 3];
+    let mut at = [0; MOST_DIMS];
     set_coordinates(sizes, x as u32, &mut at);
     note_steps(sizes, &at, steps, listed, marks);
 }
@@ -204,13 +206,13 @@ fn open_list(
 pub fn open_from(
     sizes: &[u32],
     bounds: Bounds,
-    counts: &[usize; 3],
+    counts: &[usize; MOST_DIMS],
     steps: &[u32],
     listed: usize,
     x: usize,
     marks: &mut [u8],
 )
-    requires { ⌜ NotesShaped (now sizes) bounds × NotedCounts (now sizes) bounds (now counts) × Led (now sizes) (now steps) listed × (length (now marks) ≡ product (now sizes)) × (x < product (now sizes)) ⌝ }
+    requires { ⌜ Prepared (now sizes) bounds × NotedCounts (now sizes) bounds (now counts) × Led (now sizes) (now steps) listed × (length (now marks) ≡ product (now sizes)) × (x < product (now sizes)) ⌝ }
     ensures { λ _. ⌜ now (marks .exit) ≡ note-all (cells-by (now (sizes .entry)) bounds (now (steps .entry)) listed x) (now (marks .entry)) ⌝ }
 {
     if listed < 257 {

@@ -2,6 +2,8 @@
 ghost use mathlib.Core.Path.{_≡_};
 ghost use Prim.Native.Nat.{_*_, _≤_, min};
 ghost use Rattle.run_meaning.specs.Contracts.Fitting.{OwnOnly};
+use value::limits::MOST_PLACES;
+use value::limits::PLACE_WORDS;
 
 // A box, for each of up to three dimensions: how far the lowest index that is written lies below 0, and the highest above it.
 pub struct Bounds {
@@ -18,7 +20,7 @@ pub struct Bounds {
 pub struct Reach {
     pub bounds: Bounds,
     pub count: u32,
-    pub places: [u32; 768],
+    pub places: [u32; PLACE_WORDS],
 }
 
 // The reach that has the own cell alone.
@@ -35,7 +37,7 @@ pub fn own_only() -> Reach
             ahead2: 0,
         },
         count: 1,
-        places: [0; 768],
+        places: [0; PLACE_WORDS],
     }
 }
 
@@ -45,7 +47,7 @@ pub fn times(a: usize, b: usize) -> usize
     ensures { λ r. ⌜ r ≡ min 257 (a * b) ⌝ }
 {
     let n = a * b;
-    if 256 < n {
+    if MOST_PLACES < n {
         return 257;
     }
     n

@@ -2,12 +2,15 @@
 ghost use mathlib.Core.Path.{_≡_};
 ghost use Prim.Native.Nat.{ℕ, _+_, _*_, _%_, _<_, _≤_};
 ghost use lib.ListN.{length};
+ghost use Rattle.value.specs.Limits.{most-dims, most-cells, most-places};
+ghost use Rattle.value.specs.Contracts.Buffers.{place-words};
 ghost use Rattle.automaton.specs.Shape.{product};
 ghost use Rattle.automaton.specs.Contracts.ShapeLaws.{Positive};
 ghost use Rattle.value.specs.Number.{modZ};
 ghost use Rattle.value.specs.Worked.{decode-of};
 ghost use lib.IntN.{negℤ};
 ghost use Rattle.run_place_marks.specs.Contracts.Placing.{StepPlaced, cell-from, note-places, StepCoordinates, Backs};
+use value::limits::MOST_DIMS;
 
 pub fn wide(x: u32) -> usize
     ensures { λ r. ⌜ r ≡ x ⌝ }
@@ -17,7 +20,7 @@ pub fn wide(x: u32) -> usize
 
 // j + step, wrapped in a dimension of n coordinates.
 fn stepped(j: usize, step: usize, n: usize) -> usize
-    requires { ⌜ (j < n) × (step < n) × (n ≤ 1048576) ⌝ }
+    requires { ⌜ (j < n) × (step < n) × (n ≤ most-cells) ⌝ }
     ensures { λ r. ⌜ r ≡ (j + step) % n ⌝ }
 {
     if j + step < n {
@@ -27,7 +30,7 @@ fn stepped(j: usize, step: usize, n: usize) -> usize
 }
 
 // The number of the cell a step from given coordinates on; the step begins at an entry.
-fn cell_at(sizes: &[u32], at: &[usize; 3], steps: &[u32], from: usize) -> usize
+fn cell_at(sizes: &[u32], at: &[usize; MOST_DIMS], steps: &[u32], from: usize) -> usize
     requires { ⌜ StepPlaced (now sizes) (now at) (now steps) from ⌝ }
     ensures { λ r. ⌜ r ≡ cell-from (now (sizes .entry)) (now (at .entry)) (now (steps .entry)) from ⌝ }
 {
@@ -44,8 +47,14 @@ fn cell_at(sizes: &[u32], at: &[usize; 3], steps: &[u32], from: usize) -> usize
 }
 
 // Notes the cells at so many steps from given coordinates on.
-pub fn note_steps(sizes: &[u32], at: &[usize; 3], steps: &[u32], count: usize, marks: &mut [u8])
-    requires { ⌜ ((k : ℕ) → k < count → StepPlaced (now sizes) (now at) (now steps) (3 * k)) × (count ≤ 256) × (length (now marks) ≡ product (now sizes)) × (length (now marks) ≤ 1048576) ⌝ }
+pub fn note_steps(
+    sizes: &[u32],
+    at: &[usize; MOST_DIMS],
+    steps: &[u32],
+    count: usize,
+    marks: &mut [u8],
+)
+    requires { ⌜ ((k : ℕ) → k < count → StepPlaced (now sizes) (now at) (now steps) (3 * k)) × (count ≤ most-places) × (length (now marks) ≡ product (now sizes)) × (length (now marks) ≤ most-cells) ⌝ }
     ensures { λ _. ⌜ now (marks .exit) ≡ note-places (now (sizes .entry)) (now (at .entry)) (now (steps .entry)) count (now (marks .entry)) ⌝ }
 {
     let mut k = 0;
@@ -58,7 +67,7 @@ pub fn note_steps(sizes: &[u32], at: &[usize; 3], steps: &[u32], count: usize, m
 
 // Sets the coordinates of the cell x.
 pub fn set_coordinates(sizes: &[u32], x: u32, at: &mut [usize])
-    requires { ⌜ (length (now sizes) ≤ 3) × Positive (now sizes) × (x < product (now sizes)) × (length (now at) ≡ 3) ⌝ }
+    requires { ⌜ (length (now sizes) ≤ most-dims) × Positive (now sizes) × (x < product (now sizes)) × (length (now at) ≡ most-dims) ⌝ }
     ensures { λ _. ⌜ StepCoordinates (now (sizes .entry)) x (now (at .exit)) ⌝ }
 {
     let mut rest = x;
@@ -87,7 +96,7 @@ fn back(word: u32, n: u32) -> u32
 
 // Sets the step back by place k of a list.
 fn set_step(sizes: &[u32], places: &[u32], k: usize, steps: &mut [u32])
-    requires { ⌜ (length (now sizes) ≤ 3) × Positive (now sizes) × (length (now places) ≡ 768) × (k < 256) × (length (now steps) ≡ 768) ⌝ }
+    requires { ⌜ (length (now sizes) ≤ most-dims) × Positive (now sizes) × (length (now places) ≡ place-words) × (k < most-places) × (length (now steps) ≡ place-words) ⌝ }
     ensures { λ _. ⌜ Backs (now (sizes .entry)) (now (places .entry)) k (k + 1) (now (steps .entry)) (now (steps .exit)) ⌝ }
 {
     let dims = sizes.len();
@@ -100,7 +109,7 @@ fn set_step(sizes: &[u32], places: &[u32], k: usize, steps: &mut [u32])
 
 // Sets the steps back by the first places of a list.
 pub fn set_steps(sizes: &[u32], places: &[u32], count: usize, steps: &mut [u32])
-    requires { ⌜ (length (now sizes) ≤ 3) × Positive (now sizes) × (length (now places) ≡ 768) × (count ≤ 256) × (length (now steps) ≡ 768) ⌝ }
+    requires { ⌜ (length (now sizes) ≤ most-dims) × Positive (now sizes) × (length (now places) ≡ place-words) × (count ≤ most-places) × (length (now steps) ≡ place-words) ⌝ }
     ensures { λ _. ⌜ Backs (now (sizes .entry)) (now (places .entry)) 0 count (now (steps .entry)) (now (steps .exit)) ⌝ }
 {
     let mut k = 0;

@@ -7,12 +7,13 @@ use mathlib.Core.Logic.{_⊎_, inl, inr}
 use mathlib.Core.Bool.{Bool, true, false, not, _||_}
 use mathlib.Core.List.{List, [], _∷_, _++_}
 use mathlib.Core.Option.{Option, none, some}
-use lib.IntN.{ℤ, pos, negsuc}
+use lib.IntN.{ℤ, pos}
 use lib.ListN.{length, getD}
-use borrow.Author.Tests.{lt-ltb, le-ltb, le-leb, lt-leb, eq-eqb, not-false}
+use borrow.Author.Tests.{lt-ltb, le-ltb, le-leb, lt-leb, not-false}
+use Rattle.value.proofs.Theorems.Truth.{or-true}
 use Rattle.value.specs.Worked.{encode-of, decode-of}
 use Rattle.value.specs.Number.{eqZ}
-use Rattle.value.proofs.Theorems.Laws.{encode-decode, eqZ-true}
+use Rattle.value.proofs.Theorems.Laws.{encode-decode, eqZ-true, eqZ-refl}
 use Rattle.automaton.specs.Listed.{list-of}
 use Rattle.automaton.specs.Contracts.ListedLaws.{length-list-of, getD-list-of, list-of-ext, last-or-below}
 use Rattle.automaton.specs.Grid.{differ}
@@ -25,10 +26,6 @@ use Rattle.run_places.specs.Contracts.Widening.{joined, Widens}
 use Rattle.run_places.proofs.VectorLaws.{place-same}
 
 -- ---- two words
-
-eqZ-refl : (z : ℤ) → eqZ z z ≡ true
-eqZ-refl (pos a) = eq-eqb a a refl
-eqZ-refl (negsuc a) = eq-eqb a a refl
 
 pub word-same : (x y : ℕ) → x ≡ y → false ≡ not (eqZ (decode-of x) (decode-of y))
 word-same x y e = sym (ap (λ (w : ℕ). not (eqZ (decode-of w) (decode-of y))) e ∙ ap not (eqZ-refl (decode-of y)))
@@ -78,10 +75,6 @@ module _ (a : List ℕ) (i : ℕ) (b : List ℕ) (j dims : ℕ) where
       sym (ap not (ap (λ (p : List ℤ). differ p (place-at b dims j)) e ∙ differ-self (place-at b dims j)))
 
 -- ---- a place among others
-
-or-true : (a : Bool) → (a || true) ≡ true
-or-true true = refl
-or-true false = refl
 
 has-append : (ps : List (List ℤ)) (p ds : List ℤ) → has-place (ps ++ (p ∷ [])) ds ≡ (has-place ps ds || not (differ p ds))
 unfolding has-place

@@ -17,7 +17,7 @@ use Rattle.value.specs.Worked.{decode-of}
 use Rattle.automaton.specs.Listed.{list-of}
 use Rattle.automaton.specs.Contracts.ListedLaws.{length-list-of, getD-list-of, list-of-ext, last-or-below}
 use Rattle.program.specs.Syntax.{Range, no-range, Index}
-use Rattle.cell_meaning.specs.declared.Rule.{Rule}
+use Rattle.program.specs.declared.Rule.{Rule}
 use Rattle.cell_meaning.specs.Evaluation.{offset, offsets}
 use Rattle.cell_meaning.specs.Contracts.Stands.{rule-table, index-in, next-index, indices-in}
 use Rattle.cell_meaning.specs.Links.{Table}

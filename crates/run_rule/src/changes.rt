@@ -12,6 +12,7 @@ use tool_console::texts::close_output;
 use tool_console::texts::complain;
 use tool_console::texts::complain_number;
 use tool_console::texts::open_output;
+use value::limits::NAME_WORDS;
 
 // Whether the list of changes is requested, by a ninth argument.
 fn is_asked() -> bool {
@@ -96,7 +97,7 @@ fn write_text(text: &[u8]) {
 fn write_between(source: &[u8], sizes: &[u32], earlier: &[i32], later: &[i32], time: i64) {
     let list = spelling::BUILT_IN;
     let mut words = rooms::table_room();
-    let mut names = [0u32; 1024];
+    let mut names = [0u32; NAME_WORDS];
     let mut room = rooms::text_room();
     let written = write_list(
         source,

@@ -7,9 +7,12 @@ use run_steps::Report;
 use token::kind;
 use tool_console::places::remainder;
 use tool_console::rooms;
+use value::limits::MOST_FIELDS;
+use value::limits::MOST_TOKENS;
+use value::limits::TABLE_WORDS;
 
 // More than any field's number.
-const NONE: u32 = 8;
+const NONE: u32 = MOST_FIELDS;
 
 // The records of the names of a source: those of a run that is refused for its one size, 0, once the source is accepted.
 pub fn records_of(source: &[u8]) -> Ran {
@@ -48,7 +51,7 @@ pub fn record_of(source: &[u8], field: u32) -> Name {
 }
 
 // The `:=` at a place, with the token i more.
-fn assignment(words: &[u32; 16384], i: usize, place: u32, found: usize) -> usize {
+fn assignment(words: &[u32; TABLE_WORDS], i: usize, place: u32, found: usize) -> usize {
     if word_at(words, i, 0) != kind::ASSIGN {
         return found;
     }
@@ -59,10 +62,10 @@ fn assignment(words: &[u32; 16384], i: usize, place: u32, found: usize) -> usize
 }
 
 // The token at a place, if it is a `:=`; else the number of all tokens.
-fn assignment_at(words: &[u32; 16384], place: u32) -> usize {
-    let mut found = 4096;
+fn assignment_at(words: &[u32; TABLE_WORDS], place: u32) -> usize {
+    let mut found = MOST_TOKENS;
     let mut i = 0;
-    while i < 4096 {
+    while i < MOST_TOKENS {
         found = assignment(words, i, place, found);
         i += 1;
     }
@@ -70,7 +73,7 @@ fn assignment_at(words: &[u32; 16384], place: u32) -> usize {
 }
 
 // The field that the assignment around a token sets, with the token i more: its first token is a `cell` that says where it ends.
-fn target(words: &[u32; 16384], i: usize, at: usize, field: u32) -> u32 {
+fn target(words: &[u32; TABLE_WORDS], i: usize, at: usize, field: u32) -> u32 {
     if word_at(words, i, 0) != kind::CELL {
         return field;
     }
@@ -81,7 +84,7 @@ fn target(words: &[u32; 16384], i: usize, at: usize, field: u32) -> u32 {
 }
 
 // The field that the assignment around a token sets.
-fn target_of(words: &[u32; 16384], at: usize) -> u32 {
+fn target_of(words: &[u32; TABLE_WORDS], at: usize) -> u32 {
     let mut field = NONE;
     let mut i = 0;
     while i < at {
@@ -100,7 +103,7 @@ fn field_of(entry: u32, fields: usize) -> u32 {
 }
 
 // The number of the field that a report speaks of, where a cell has so many: at 24 that of the entry, at 33 the one that is assigned to.
-pub fn field_told(report: Report, words: &[u32; 16384], fields: usize) -> u32 {
+pub fn field_told(report: Report, words: &[u32; TABLE_WORDS], fields: usize) -> u32 {
     if report.number == 24 {
         return field_of(report.place, fields);
     }

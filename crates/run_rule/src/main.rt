@@ -31,6 +31,7 @@ use tool_console::shapes;
 use tool_console::shapes::fields_of;
 use tool_console::texts;
 use tool_console::texts::Text;
+use value::limits::MOST_DIMS;
 
 // What became of a run: it returned a report, or it could not be begun, and the program said so.
 enum Outcome {
@@ -265,7 +266,7 @@ fn main() {
     if !arguments::all_there() {
         return;
     }
-    let mut sizes = [0u32; 3];
+    let mut sizes = [0u32; MOST_DIMS];
     let dims = shapes::shape_argument(2, b"run_rule: SHAPE", &mut sizes);
     if dims > 0 {
         run_in_shape(&sizes[..dims]);

@@ -15,6 +15,7 @@ use tool_console::texts::argument;
 use tool_console::texts::complain;
 use tool_console::texts::say;
 use tool_console::texts::say_number;
+use value::limits::MOST_NAMES;
 
 // More than any field's number: no field has the name; or it is `cell`, the name of the field of a rule that names none; or the rule is refused.
 const NONE: u32 = 4294967295;
@@ -76,7 +77,7 @@ fn field_without(name: &[u8]) -> u32 {
 }
 
 // The field that has a name, by the records of a source.
-fn find_field(source: &[u8], rows: [Name; 256], name: &[u8]) -> u32 {
+fn find_field(source: &[u8], rows: [Name; MOST_NAMES], name: &[u8]) -> u32 {
     let mut field = field_without(name);
     let mut k = 0;
     while k < 64 {

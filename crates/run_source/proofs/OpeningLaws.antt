@@ -7,7 +7,7 @@ use mathlib.Core.List.{List}
 use mathlib.Core.Option.{Option}
 use lib.ListN.{length, getD}
 use lib.Dec.{T, eqb, ltb}
-use lib.IntN.{ℤ, pos, natAbs}
+use lib.IntN.{ℤ, natAbs}
 use lib.Signed.{nonNeg}
 use mir.Syntax.{w32, w64}
 use mir.Val.{Fits, SFits, toZ, ofZ}
@@ -17,26 +17,25 @@ use Rattle.value.specs.Limits.{name-words}
 use Rattle.value.proofs.Theorems.Laws.{never}
 use Rattle.program.specs.Syntax.{Program}
 use Rattle.program.specs.Refusal.{Refusal, refusal}
+use Rattle.program.specs.declared.Rule.{Rule}
 use Rattle.grammar.specs.Checking as checking
 use Rattle.grammar.specs.Checking.{SourceRead, turned-away, accepted, rooms-fit, read-source, check}
-use Rattle.cell_meaning.specs.declared.Rule.{Rule}
 use Rattle.cell_meaning.specs.Written.{relatives-in}
 use Rattle.run_meaning.specs.Admission.{Request, admission}
 use Rattle.run_meaning.specs.Report.{Manner, refused}
-use Rattle.run_meaning.specs.Contracts.Fitting.{Sized, Shaped, held-fields}
+use Rattle.program.specs.Contracts.Fitting.{Sized}
+use Rattle.run_meaning.specs.Contracts.Fitting.{held-fields}
 use Rattle.move_meaning.specs.Profile.{profile-flag}
 use Rattle.list_meaning.specs.ListChecking.{Turned, Verdict, verdict, limits-of, check-list}
 use Rattle.list_reader.specs.declared.checking.Verdict as judged
-use Rattle.list_reader.specs.Contracts.Places.{Dimensions}
+use Rattle.list_reader.specs.Contracts.Points.{Dimensions}
 use Rattle.list_reader.specs.Contracts.Values.{fields-in}
 use Rattle.list_reader.specs.Contracts.Checks.{limits, ChecksLines as ChecksList}
 use Rattle.list_reader.proofs.CursorLaws.{verdict-is, dimensions-are}
 use Rattle.run_calls.specs.Running.{CountsAsked, counts-of, Asked, ask, good-counts, admitted}
 use Rattle.run_calls.proofs.Theorems.RunningLaws.{turned, list-decides, counts-refused, refused-first, list-passes, run-refused}
 use Rattle.run_calls.specs.Services.{run-begins, run-read, run-source}
-use Rattle.read_source.specs.declared.checking.Outline.{Outline}
 use Rattle.read_source.specs.Contracts.Promises.{Loads, Checks, is-accepted}
-use Rattle.move_profile.specs.Contracts.Standing.{rule-in}
 use Rattle.move_profile.specs.Contracts.Flags.{FlagOf}
 use Rattle.move_profile.proofs.StandingLaws.{sized}
 use Rattle.run_loading.specs.Contracts.Loaded.{Accepts}
@@ -49,10 +48,10 @@ use Rattle.run_source.specs.Contracts.Sourcewise.{counts-right, RunOpens
 
 -- ---- an accepted source
 
-module _ {source ws ns : List ℕ} {known : Bool} {o : Outline} {n place : ℕ} {ws′ ns′ : List ℕ}
-    (checked : Checks (rooms-fit (length ws) (length ns)) source ws ns n place ws′ ns′) (loaded : Loads source ws ns known o) (sure : known ≡ true) where
+module _ {source ws ns : List ℕ} {known : Bool} {rule : Rule} {n place : ℕ} {ws′ ns′ : List ℕ}
+    (checked : Checks (rooms-fit (length ws) (length ns)) source ws ns n place ws′ ns′) (loaded : Loads source ws ns known rule) (sure : known ≡ true) where
   -- the flag can be found
-  pub flag-ready : length ns′ ≡ length ns → (Sized (length ws′) (rule-in o)) × (length ns′ ≡ name-words)
+  pub flag-ready : length ns′ ≡ length ns → (Sized (length ws′) rule) × (length ns′ ≡ name-words)
   flag-ready e = (sized checked loaded sure, e ∙ loaded .list sure)
 
 -- ---- a source that is not accepted
@@ -97,8 +96,8 @@ module _ (counted : Bool) (field rows fields : ℕ) (sizes : List ℕ) where
 abbrev Closed : Opening → ℕ → ℕ → ℕ → Type 0
 Closed r number place line = (r .begun ≡ false) × (r .number ≡ number) × (r .place ≡ place) × (r .line ≡ line)
 
-module _ {source ws ns sizes : List ℕ} {grid : List ℤ} {scratch marks : ℕ} {start steps : ℤ} {known : Bool} {o : Outline} {n place : ℕ} {ws′ ns′ : List ℕ}
-    (checked : Checks (rooms-fit (length ws) (length ns)) source ws ns n place ws′ ns′) (loaded : Loads source ws ns known o) where
+module _ {source ws ns sizes : List ℕ} {grid : List ℤ} {scratch marks : ℕ} {start steps : ℤ} {known : Bool} {rule : Rule} {n place : ℕ} {ws′ ns′ : List ℕ}
+    (checked : Checks (rooms-fit (length ws) (length ns)) source ws ns n place ws′ ns′) (loaded : Loads source ws ns known rule) where
   pub unread : not known ≡ true → {values : List ℕ} {counts : Option CountsAsked} {r : Opening} → Closed r n place 0
       → RunOpens (rooms-fit (length ws) (length ns)) source ws ns (ask (request-of sizes grid scratch marks start steps) values counts) r ws′ ns′
   unread unknown {values} {counts} {r} e =
@@ -111,8 +110,8 @@ module _ {source ws ns sizes : List ℕ} {grid : List ℤ} {scratch marks : ℕ}
         opened = λ y. never (sym (e .0) ∙ y);
       }
 
-  module _ (sure : not known ≡ false) {a : Admitted} (admits : Admits ws′ (rule-in o) sizes grid scratch marks start steps a) where
-    is : Accepts (rooms-fit (length ws) (length ns)) source ws′ ns′ o
+  module _ (sure : not known ≡ false) {a : Admitted} (admits : Admits ws′ rule sizes grid scratch marks start steps a) where
+    is : Accepts (rooms-fit (length ws) (length ns)) source ws′ ns′ rule
     is = accepts checked loaded (not-false known sure)
 
     -- the field of its flag, if it is in the profile
@@ -156,35 +155,35 @@ module _ {source ws ns sizes : List ℕ} {grid : List ℤ} {scratch marks : ℕ}
       pub some-sizes : 0 < length sizes
       some-sizes = subst (λ (d : ℕ). 0 < d) (sym (admits .shaped z .dims)) (is .some-dims)
 
-      pub list-ready : (Sized (length ws′) (rule-in o)) × Dimensions sizes
+      pub list-ready : (Sized (length ws′) rule) × Dimensions sizes
       list-ready = (is .sized, dimensions-of)
 
       -- they are told by the numbers of the rule
-      fits-are : (counted : Bool) (field rows : ℕ) → good-counts (is .read .program) sizes (counts-of counted field rows) ≡ counts-right counted field rows (o .fields) sizes
+      fits-are : (counted : Bool) (field rows : ℕ) → good-counts (is .read .program) sizes (counts-of counted field rows) ≡ counts-right counted field rows (rule .fields) sizes
       fits-are true field rows = ap (λ (n : ℕ). ltb field n && eqb rows (getD sizes 0 0)) (held-fields (is .read .program) (is .stood .holds))
       fits-are false field rows = refl
 
       -- the counts are not right
-      pub not-counted : (counted : Bool) (field rows : ℕ) → counts-right counted field rows (o .fields) sizes ≡ false → {values : List ℕ} {r : Opening} → Closed r 61 0 0
+      pub not-counted : (counted : Bool) (field rows : ℕ) → counts-right counted field rows (rule .fields) sizes ≡ false → {values : List ℕ} {r : Opening} → Closed r 61 0 0
           → RunOpens (rooms-fit (length ws) (length ns)) source ws ns (ask (request-of sizes grid scratch marks start steps) values (counts-of counted field rows)) r ws′ ns′
       not-counted counted field rows c {values} e =
           turned-down (counts-refused (is .read .program) flag (ask (request-of sizes grid scratch marks start steps) values (counts-of counted field rows)) admission-is (fits-are counted field rows ∙ c)) (λ k. omega (arith, k)) e
 
-      module _ (counted : Bool) (field rows : ℕ) (right : counts-right counted field rows (o .fields) sizes ≡ true) {values : List ℕ} {v : judged.Verdict} {told first last : ℕ} (found : FlagOf source ws′ ns′ (rule-in o) told) (first-is : natAbs start ≡ first)
-          (last-is : natAbs start + natAbs steps ≡ last) (judges : ChecksList (limits sizes (fields-in ws′ (rule-in o)) told first last) values v) where
+      module _ (counted : Bool) (field rows : ℕ) (right : counts-right counted field rows (rule .fields) sizes ≡ true) {values : List ℕ} {v : judged.Verdict} {told first last : ℕ} (found : FlagOf source ws′ ns′ rule told) (first-is : natAbs start ≡ first)
+          (last-is : natAbs start + natAbs steps ≡ last) (judges : ChecksList (limits sizes (fields-in ws′ rule) told first last) values v) where
         list-says : admitted (is .read .program) flag (ask (request-of sizes grid scratch marks start steps) values (counts-of counted field rows)) ≡ turned (v .number) 0 (v .line)
         list-says =
             list-decides (is .read .program) flag (ask (request-of sizes grid scratch marks start steps) values (counts-of counted field rows)) admission-is (fits-are counted field rows ∙ right)
             ∙ ap (λ (x : Verdict). turned (x .number) 0 (x .line))
-            (sym (verdict-is ws′ (rule-in o) (is .read .program) flag (request-of sizes grid scratch marks start steps) values (is .stood .holds) (found .is (is .read) (is .stood)) first-is last-is)
+            (sym (verdict-is ws′ rule (is .read .program) flag (request-of sizes grid scratch marks start steps) values (is .stood .holds) (found .is (is .read) (is .stood)) first-is last-is)
             ∙ sym (judges .is))
 
         pub not-listed : (v .number ≡ 0 → ⊥) → {r : Opening} → Closed r (v .number) 0 (v .line) → RunOpens (rooms-fit (length ws) (length ns)) source ws ns (ask (request-of sizes grid scratch marks start steps) values (counts-of counted field rows)) r ws′ ns′
         not-listed d e = turned-down list-says d e
 
-        pub begun : v .number ≡ 0 → {t : Bool} → t ≡ o .timed
-            → RunOpens (rooms-fit (length ws) (length ns)) source ws ns (ask (request-of sizes grid scratch marks start steps) values (counts-of counted field rows)) (record { begun = true; number = 0; place = 0; line = 0; rule = rule-in o; reach = a .reach; timed = t }) ws′ ns′
-        begun l {t} e =
+        pub begun : v .number ≡ 0
+            → RunOpens (rooms-fit (length ws) (length ns)) source ws ns (ask (request-of sizes grid scratch marks start steps) values (counts-of counted field rows)) (record { begun = true; number = 0; place = 0; line = 0; rule = rule; reach = a .reach }) ws′ ns′
+        begun l =
             let passed : admitted (is .read .program) flag (ask (request-of sizes grid scratch marks start steps) values (counts-of counted field rows)) .number ≡ 0 = ap (λ (x : Turned). x .number) list-says ∙ l in
             record {
               words = checked .words;
@@ -196,7 +195,7 @@ module _ {source ws ns sizes : List ℕ} {grid : List ℤ} {scratch marks : ℕ}
                     read = is .read;
                     is = is .is;
                     admits = passed;
-                    runs = record { holds = is .stood .holds; reaches = admits .reaches z (is .read .program) (is .stood .holds) (is .lists); lists = admits .lists z (is .read .program) (is .stood .holds) (is .lists); timed = is .timed ∙ sym e; flagged = is .flagged };
+                    runs = record { holds = is .stood .holds; reaches = admits .reaches z (is .read .program) (is .stood .holds) (is .lists); lists = admits .lists z (is .read .program) (is .stood .holds) (is .lists); timed = is .timed; flagged = is .flagged };
                     rule-fits = is .sized;
                     some-dims = is .some-dims;
                     shaped = admits .shaped z;

@@ -21,12 +21,12 @@ use Rattle.automaton.proofs.Theorems.Quiet.{Lawful, quiet-agrees}
 use Rattle.automaton.specs.Grid.{automaton}
 use Rattle.automaton.proofs.Theorems.Going.{always-open, full-run}
 use Rattle.program.specs.Syntax.{Program}
+use Rattle.program.specs.declared.Rule.{Rule}
 use Rattle.token.specs.Bytes.{same as same-bytes}
 use Rattle.token.specs.Lexeme.{built-in-names, is-built-in}
 use Rattle.grammar.specs.Checking as checking
 use Rattle.grammar.specs.Checking.{SourceRead, turned-away, accepted, rooms-fit, read-source, words-after}
 use Rattle.grammar.specs.Contracts.Flat.{names-after}
-use Rattle.cell_meaning.specs.declared.Rule.{Rule}
 use Rattle.cell_meaning.specs.Evaluation.{evaluate}
 use Rattle.cell_meaning.specs.Written.{relatives-in, written-in}
 use Rattle.cell_meaning.specs.Places.{places}
@@ -96,7 +96,7 @@ module _ (p : Program) (sizes : List ℕ) (block : Blocks (List ℤ)) (n t : ℕ
 
 -- ---- the report
 
-module _ {fit : Bool} {source : List ℕ} {q : Asked} {words : List ℕ} {rule : Rule} {r : Reach} {timed : Bool} (b : RunBegun fit source q words rule r timed) where
+module _ {fit : Bool} {source : List ℕ} {q : Asked} {words : List ℕ} {rule : Rule} {r : Reach} (b : RunBegun fit source q words rule r) where
   pub begins-run : {room : List ℤ} {marked : List ℕ} → q .request .scratch ≡ length room → q .request .marks ≡ length marked
       → Begins words rule (q .request .sizes) r (q .request .grid) room marked (q .values) (natAbs (q .request .start)) (natAbs (q .request .steps))
   begins-run e f =
@@ -128,7 +128,7 @@ module _ {fit : Bool} {source : List ℕ} {q : Asked} {words : List ℕ} {rule :
   RanBy all o said grid′ marks′ = Ran words rule (q .request .sizes) r all (q .values) (natAbs (q .request .start)) (natAbs (q .request .steps)) o (q .request .grid) said grid′ marks′
 
   module _ {o : ℕ → Bool} {said : Report} {grid′ : List ℤ} {marks′ : List ℕ} where
-    ran-open : RanBy timed o said grid′ marks′ → (told said grid′ ≡ report-in (given (b .read .program) o (blocks (b .read .program) q))) × (marks′ ≡ given (b .read .program) o (blocks (b .read .program) q) .marks)
+    ran-open : RanBy (rule .timed) o said grid′ marks′ → (told said grid′ ≡ report-in (given (b .read .program) o (blocks (b .read .program) q))) × (marks′ ≡ given (b .read .program) o (blocks (b .read .program) q) .marks)
     unfolding given
     ran-open ran = (
       ran .says (b .read .program) (b .runs) ∙ ap (λ (block : Blocks (List ℤ)). report-in (given (b .read .program) o block)) blocks-are,
@@ -136,13 +136,13 @@ module _ {fit : Bool} {source : List ℕ} {q : Asked} {words : List ℕ} {rule :
     )
 
   module _ (marks : List ℕ) {said : Report} {grid′ : List ℤ} {marks′ : List ℕ} where
-    open-is : RanBy timed every-cell said grid′ marks′ → told said grid′ ≡ report-of quiet (b .read .program) q
+    open-is : RanBy (rule .timed) every-cell said grid′ marks′ → told said grid′ ≡ report-of quiet (b .read .program) q
     unfolding report-of given
     open-is ran =
         ran-open ran .0
         ∙ steps-quiet (b .read .program) (q .request .sizes) (blocks (b .read .program) q) (natAbs (q .request .steps)) (natAbs (q .request .start)) (q .request .grid) laws
 
-    report-is : (way : Way) → RanBy (every-step way timed) (pending-in (is-resumed way) marks) said grid′ marks′ → told said grid′ ≡ report-of (manner-of way marks) (b .read .program) q
+    report-is : (way : Way) → RanBy (every-step way (rule .timed)) (pending-in (is-resumed way) marks) said grid′ marks′ → told said grid′ ≡ report-of (manner-of way marks) (b .read .program) q
     unfolding report-of given
     report-is Full ran =
         ran .says (always (b .read .program)) (runs-always (b .runs)) ∙ ap (λ (block : Blocks (List ℤ)). report-in (given (always (b .read .program)) every-cell block)) blocks-are
@@ -152,7 +152,7 @@ module _ {fit : Bool} {source : List ℕ} {q : Asked} {words : List ℕ} {rule :
     report-is Resuming ran = ran-open ran .0
 
     -- the marks that are left
-    marks-are : (way : Way) → RanBy (every-step way timed) (pending-in (is-resumed way) marks) said grid′ marks′ → length marks′ ≡ length marks
+    marks-are : (way : Way) → RanBy (every-step way (rule .timed)) (pending-in (is-resumed way) marks) said grid′ marks′ → length marks′ ≡ length marks
         → marks-left way marks′ ≡ marks-admitted (manner-of way marks) (b .read .program) q marks
     unfolding standing given
     marks-are Full ran l = ap (λ (k : ℕ). replicate k 0) l
@@ -160,7 +160,7 @@ module _ {fit : Bool} {source : List ℕ} {q : Asked} {words : List ℕ} {rule :
     marks-are Pausing ran l = ran-open ran .1
     marks-are Resuming ran l = ran-open ran .1
 
-    source-report : (way : Way) → RanBy (every-step way timed) (pending-in (is-resumed way) marks) said grid′ marks′ → told said grid′ ≡ run-source (manner-of way marks) fit source q
+    source-report : (way : Way) → RanBy (every-step way (rule .timed)) (pending-in (is-resumed way) marks) said grid′ marks′ → told said grid′ ≡ run-source (manner-of way marks) fit source q
     unfolding run-source
     source-report way ran = report-is way ran ∙ sym (run-admitted (b .read .program) (profile-flag source (b .read)) q (manner-of way marks) (b .admits)) ∙ ap (run-read (manner-of way marks) source q) (sym (b .is))
 
@@ -178,14 +178,14 @@ module _ {fit : Bool} {source : List ℕ} {q : Asked} {words : List ℕ} {rule :
           ∙ counts-admits (b .read .program) (profile-flag source (b .read)) q (b .admits))
 
   module _ {grid′ : List ℤ} {counts counts′ : List ℕ} {counted : Bool} {field : ℕ} where
-    filled-by : (way : Way) → Tallied words rule (q .request .sizes) r (every-step way timed) counted field grid′ counts counts′ → CountsFilled counted (q .request .sizes) (rule .fields) field grid′ counts counts′
+    filled-by : (way : Way) → Tallied words rule (q .request .sizes) r (every-step way (rule .timed)) counted field grid′ counts counts′ → CountsFilled counted (q .request .sizes) (rule .fields) field grid′ counts counts′
     filled-by Full tally = tally .tells (always (b .read .program)) (runs-always (b .runs))
     filled-by Quiet tally = tally .tells (b .read .program) (b .runs)
     filled-by Pausing tally = tally .tells (b .read .program) (b .runs)
     filled-by Resuming tally = tally .tells (b .read .program) (b .runs)
 
   module _ (marks : List ℕ) {said : Report} {grid′ : List ℤ} {marks′ counts counts′ : List ℕ} (counted : Bool) (field rows : ℕ) (asked-is : q .counts ≡ counts-of counted field rows) where
-    counts-are : (way : Way) → RanBy (every-step way timed) (pending-in (is-resumed way) marks) said grid′ marks′ → Tallied words rule (q .request .sizes) r (every-step way timed) counted field grid′ counts counts′
+    counts-are : (way : Way) → RanBy (every-step way (rule .timed)) (pending-in (is-resumed way) marks) said grid′ marks′ → Tallied words rule (q .request .sizes) r (every-step way (rule .timed)) counted field grid′ counts counts′
         → counts′ ≡ counts-admitted (manner-of way marks) (b .read .program) q counts (q .counts)
     counts-are way ran tally = by counted refl ∙ ap (counts-admitted (manner-of way marks) (b .read .program) q counts) (sym asked-is)
       where
@@ -300,14 +300,14 @@ module _ (l : Lent ℕ) (list : is-built-in (l .list) ≡ true) {r : Opening} {w
       (counts-kept (manner-of way (l .memory .marks)) _ (l .source) _ (l .memory .counts) (opens .closed shut))
 
   module _ (e : not (r .begun) ≡ false) where
-    is : RunBegun (fits flat-names l) (l .source) (asked l) ws′ (r .rule) (r .reach) (r .timed)
+    is : RunBegun (fits flat-names l) (l .source) (asked l) ws′ (r .rule) (r .reach)
     is = opens .opened (not-false (r .begun) e)
 
     pub run-ready : Begins ws′ (r .rule) (l .sizes) (r .reach) (l .memory .grid) (l .memory .scratch) (l .memory .marks) (l .values) (natAbs (l .start)) (natAbs (l .steps))
         × CountsFit (l .counted) (r .rule .fields) (l .sizes) (l .field) (length (l .memory .counts))
     run-ready = (begins-run is refl refl, counts-fit is (l .counted) (l .field) (length (l .memory .counts)) refl)
 
-    pub run-done : {all re : Bool} {said : Report} {grid′ scratch′ : List ℤ} {marks′ marks″ counts′ : List ℕ} (n : ℕ) → all ≡ every-step way (r .timed) → re ≡ is-resumed way
+    pub run-done : {all re : Bool} {said : Report} {grid′ scratch′ : List ℤ} {marks′ marks″ counts′ : List ℕ} (n : ℕ) → all ≡ every-step way (r .rule .timed) → re ≡ is-resumed way
         → Ran ws′ (r .rule) (l .sizes) (r .reach) all (l .values) (natAbs (l .start)) (natAbs (l .steps)) (pending-in re (l .memory .marks)) (l .memory .grid) said grid′ marks′
         → scratch′ ≡ replicate n (pos 0) → length scratch′ ≡ length (l .memory .scratch) → length marks′ ≡ length (l .memory .marks) → marks″ ≡ marks-left way marks′
         → Tallied ws′ (r .rule) (l .sizes) (r .reach) all (l .counted) (l .field) grid′ (l .memory .counts) counts′
@@ -320,7 +320,7 @@ module _ (l : Lent ℕ) (list : is-built-in (l .list) ≡ true) {r : Opening} {w
         (counts-are is (l .memory .marks) (l .counted) (l .field) (length (l .memory .counts)) refl way ran-is (subst (λ (x : Bool). Tallied ws′ (r .rule) (l .sizes) (r .reach) x (l .counted) (l .field) grid′ (l .memory .counts) counts′) a o)
         ∙ counts-began is (manner-of way (l .memory .marks)) (l .memory .counts))
       where
-        ran-is : RanBy is (every-step way (r .timed)) (pending-in (is-resumed way) (l .memory .marks)) said grid′ marks′
+        ran-is : RanBy is (every-step way (r .rule .timed)) (pending-in (is-resumed way) (l .memory .marks)) said grid′ marks′
         ran-is = subst₂ (λ (x y : Bool). Ran ws′ (r .rule) (l .sizes) (r .reach) x (l .values) (natAbs (l .start)) (natAbs (l .steps)) (pending-in y (l .memory .marks)) (l .memory .grid) said grid′ marks′) a e ran
 
     pub cast-start : T (nonNeg (l .start)) × Fits w32 (natAbs (l .start))

@@ -7,16 +7,15 @@ ghost use Prim.Native.Nat.{_<_};
 ghost use Rattle.run_calls.specs.Running.{counts-of, ask};
 ghost use Rattle.run_admission.specs.Contracts.Admitting.{request-of};
 ghost use Rattle.run_source.specs.Contracts.Sourcewise.{counts-right, RunOpens};
-use cell_meaning::Rule;
 use list_reader::checking::check_list;
 use move_profile::flag_of;
+use program::Rule;
 use read_source::load;
 use run_admission::admit;
 use run_meaning::Reach;
 use run_meaning::own_only;
 
-// Whether a run begins: then the rule, its reach and whether `time` occurs in the source; else the refusal's number, its place, and its line in the
-// value list.
+// Whether a run begins: then the rule and its reach; else the refusal's number, its place, and its line in the value list.
 pub struct Opening {
     pub begun: bool,
     pub number: u32,
@@ -24,7 +23,6 @@ pub struct Opening {
     pub line: u64,
     pub rule: Rule,
     pub reach: Reach,
-    pub timed: bool,
 }
 
 // A run that does not begin.
@@ -43,9 +41,9 @@ fn closed(number: u32, place: u32, line: u64) -> Opening
             dims: 0,
             fields: 0,
             slots: 0,
+            timed: false,
         },
         reach: own_only(),
-        timed: false,
     }
 }
 
@@ -85,15 +83,7 @@ pub fn open_run(
     if !loaded.accepted {
         return closed(loaded.number, loaded.place, 0);
     }
-    let outline = loaded.outline;
-    let rule = Rule {
-        tokens: outline.tokens,
-        base: outline.base,
-        body: outline.body,
-        dims: outline.dims,
-        fields: outline.fields,
-        slots: outline.slots,
-    };
+    let rule = loaded.rule;
     let admitted = admit(words, rule, sizes, grid, scratch, marks, start, steps);
     if admitted.number != 0 {
         return closed(admitted.number, admitted.place, 0);
@@ -116,6 +106,5 @@ pub fn open_run(
         line: 0,
         rule: rule,
         reach: reach,
-        timed: outline.timed,
     }
 }

@@ -10,8 +10,8 @@ ghost use Rattle.run_source.specs.Contracts.Sourcewise.{every-step, mark
 ghost use Rattle.run_source.specs.Contracts.Public.{manner-of, is-resumed, RunLeaves};
 ghost use Rattle.run_source.specs.Contracts.Agreement.{AgreesFresh};
 use crate::opening::open_run;
-use run_marked_cells::rooms::clear_marks;
 use run_marked_cells::rooms::clear_numbers;
+use run_marked_cells::rooms::set_marks;
 use run_steps::Manner;
 use run_steps::Report;
 use run_steps::run_steps;
@@ -47,10 +47,10 @@ fn leave_marks(manner: Manner, marks: &mut [u8])
 {
     match manner {
         Manner::Full => {
-            clear_marks(marks);
+            set_marks(marks, 0);
         }
         Manner::Quiet => {
-            clear_marks(marks);
+            set_marks(marks, 0);
         }
         Manner::Pausing => {}
         Manner::Resuming => {}
@@ -103,7 +103,7 @@ fn run_listed(
     }
     let rule = opening.rule;
     let reach = opening.reach;
-    let all = all_open(manner, opening.timed);
+    let all = all_open(manner, rule.timed);
     let report = run_steps(
         words,
         rule,

@@ -9,13 +9,13 @@ use mathlib.Core.List.{List}
 use lib.ListN.{length}
 use lib.IntN.{ℤ}
 use Rattle.automaton.specs.Contracts.ListedLaws.{last-or-below}
-use Rattle.automaton.specs.Step.{Outcome, state, fault, Fault, no-fault, fault-at, fault-of, or-else, first-fault, how-many, marked, up-to, quiet-outcome, quiet-step}
+use Rattle.automaton.specs.Step.{Outcome, result, fault, Fault, no-fault, fault-at, fault-of, or-else, first-fault, how-many, marked, up-to, quiet-outcome, quiet-step}
 use Rattle.automaton.proofs.Theorems.Quiet.{first-fault-here, how-many-le}
 use Rattle.automaton.specs.Shape.{product}
 use Rattle.automaton.specs.Grid.{cell-of, automaton}
 use Rattle.automaton.proofs.Theorems.GridLaws.{cell-room}
 use Rattle.program.specs.Syntax.{Program}
-use Rattle.cell_meaning.specs.declared.Rule.{Rule}
+use Rattle.program.specs.declared.Rule.{Rule}
 use Rattle.cell_meaning.specs.Contracts.Stands.{Holds}
 use Rattle.run_meaning.specs.Reach.{running}
 use Rattle.run_meaning.specs.Contracts.Fitting.{held-fields}
@@ -23,7 +23,7 @@ use Rattle.run_step.specs.declared.Evaluation.the-variants as Gave
 use Rattle.run_step.specs.declared.Step.the-variants as Gives
 use Rattle.run_step.specs.declared.Evaluation.{Evaluation}
 use Rattle.run_step.specs.Contracts.Stepping.{StepReady}
-use Rattle.run_marked_cells.specs.Contracts.Marked.{NextMarked, MarkPlaced}
+use Rattle.run_marked_cells.specs.Contracts.Marked.{NextMarked, PointSet}
 use Rattle.run_step.specs.Contracts.Turns.{given, outcome-in, count-after, Turning, CellTurned, FilledFor}
 use Rattle.run_marked_cells.proofs.ScanLaws.{below-or}
 use Rattle.run_step.proofs.TurnLaws.{roomed}
@@ -65,7 +65,7 @@ module _ (sizes : List ℕ) (grid : List ℤ) (marks : List ℕ) (time : ℕ) wh
   pub record Filling (Held : Program → Type 0) (rule : Rule) (old : List ℤ) (count : ℕ) (i total : ℕ) (scratch : List ℤ) : Type 0 where
     pub clear : (p : Program) → Held p → first-fault (outcome p) i ≡ no-fault
     pub counted : total ≡ count + how-many (marked marks) i
-    pub next : (p : Program) → Held p → (c : ℕ) → c < i → marked marks c ≡ true → given p (rule .fields) sizes grid time c ≡ state (cell-of (rule .fields) scratch c)
+    pub next : (p : Program) → Held p → (c : ℕ) → c < i → marked marks c ≡ true → given p (rule .fields) sizes grid time c ≡ result (cell-of (rule .fields) scratch c)
     pub kept : (c : ℕ) → marked marks c ≡ false → cell-of (rule .fields) scratch c ≡ cell-of (rule .fields) old c
 
   pub fill-start : (Held : Program → Type 0) (rule : Rule) (old : List ℤ) (count : ℕ) → Filling Held rule old count 0 count old
@@ -73,8 +73,8 @@ module _ (sizes : List ℕ) (grid : List ℤ) (marks : List ℕ) (time : ℕ) wh
   fill-start Held rule old count = record { clear = λ p h. refl; counted = omega arith; next = λ p h c l. absurd (omega arith); kept = λ c m. refl }
 
   -- what the next cell's turn asks
-  pub turning : {leaves words place : List ℕ} {rule : Rule} {Held : Program → Type 0} {old : List ℤ} {count lent : ℕ} (i total : ℕ) (scratch : List ℤ) → StepReady leaves words rule sizes grid old marks time count
-      → MarkPlaced sizes i place → lent ≡ length old → Filling Held rule old count i total scratch → i < length marks → Turning leaves words rule sizes place i i grid lent time total
+  pub turning : {leaves words point : List ℕ} {rule : Rule} {Held : Program → Type 0} {old : List ℤ} {count lent : ℕ} (i total : ℕ) (scratch : List ℤ) → StepReady leaves words rule sizes grid old marks time count
+      → PointSet sizes i point → lent ≡ length old → Filling Held rule old count i total scratch → i < length marks → Turning leaves words rule sizes point i i grid lent time total
   turning {rule} i total scratch ready own size f l =
       let m = ready .marks-fit in
       let r = ready .room in
@@ -98,9 +98,9 @@ module _ (sizes : List ℕ) (grid : List ℤ) (marks : List ℕ) (time : ℕ) wh
     unfolding quiet-outcome running automaton
     of-marked p h c m = rw m (ap (λ (n : ℕ). given p n sizes grid time c) (held-fields p (holds p h)))
 
-    pub of-unmarked : (p : Program) → Held p → (c : ℕ) → marked marks c ≡ false → outcome p c ≡ state (cell-of (rule .fields) grid c)
+    pub of-unmarked : (p : Program) → Held p → (c : ℕ) → marked marks c ≡ false → outcome p c ≡ result (cell-of (rule .fields) grid c)
     unfolding quiet-outcome running automaton
-    of-unmarked p h c m = rw m (ap (λ (n : ℕ). state (cell-of n grid c)) (held-fields p (holds p h)))
+    of-unmarked p h c m = rw m (ap (λ (n : ℕ). result (cell-of n grid c)) (held-fields p (holds p h)))
 
     module _ {old : List ℤ} {count : ℕ} where
       pub fill-skip : (i r total : ℕ) (scratch : List ℤ) → Filling Held rule old count i total scratch → NextMarked marks i r → Filling Held rule old count r total scratch
@@ -112,7 +112,7 @@ module _ (sizes : List ℕ) (grid : List ℤ) (marks : List ℕ) (time : ℕ) wh
       }
         where
           by : (p : Program) → Held p → (c : ℕ) → c < r → marked marks c ≡ true → (c < i) ⊎ (i ≤ c)
-              → given p (rule .fields) sizes grid time c ≡ state (cell-of (rule .fields) scratch c)
+              → given p (rule .fields) sizes grid time c ≡ result (cell-of (rule .fields) scratch c)
           by p h c l m (inl q) = f .next p h c q m
           by p h c l m (inr q) = absurd (let e : true ≡ false = sym m ∙ n .skipped c q l in let z : _≡_ {A = ℕ} 0 1 = cc in omega arith)
 
@@ -138,13 +138,13 @@ module _ (sizes : List ℕ) (grid : List ℤ) (marks : List ℕ) (time : ℕ) wh
           kept = still;
         })
           where
-            here : (p : Program) → Held p → state (cell-of (rule .fields) scratch′ i) ≡ given p (rule .fields) sizes grid time i
+            here : (p : Program) → Held p → result (cell-of (rule .fields) scratch′ i) ≡ given p (rule .fields) sizes grid time i
             here p h = ap (λ (x : Evaluation). outcome-in x (cell-of (rule .fields) scratch′ i)) (sym e) ∙ w .says p (holds p h)
 
             by : (p : Program) → Held p → (c : ℕ) → (c ≡ i) ⊎ (c < i) → marked marks c ≡ true
-                → given p (rule .fields) sizes grid time c ≡ state (cell-of (rule .fields) scratch′ c)
-            by p h c (inl q) m = subst (λ (x : ℕ). given p (rule .fields) sizes grid time x ≡ state (cell-of (rule .fields) scratch′ x)) (sym q) (sym (here p h))
-            by p h c (inr q) m = f .next p h c q m ∙ ap (λ (a : List ℤ). state a) (sym (w .kept c (λ k. absurd (let u = k in omega arith))))
+                → given p (rule .fields) sizes grid time c ≡ result (cell-of (rule .fields) scratch′ c)
+            by p h c (inl q) m = subst (λ (x : ℕ). given p (rule .fields) sizes grid time x ≡ result (cell-of (rule .fields) scratch′ x)) (sym q) (sym (here p h))
+            by p h c (inr q) m = f .next p h c q m ∙ ap (λ (a : List ℤ). result a) (sym (w .kept c (λ k. absurd (let u = k in omega arith))))
 
         pub fill-stop : {k q n : ℕ} → r ≡ Gave.Fault k q n → i < product sizes → FilledFor Held rule sizes grid old marks time count (Gives.Fault i k q n) scratch′
         unfolding quiet-step

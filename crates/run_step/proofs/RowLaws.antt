@@ -10,16 +10,16 @@ use lib.ListN.{length, getD, drop, take}
 use lib.Seq.{length-take-le}
 use lib.IntN.{ℤ}
 use Rattle.automaton.specs.Contracts.ListedLaws.{last-or-below}
-use Rattle.automaton.specs.Step.{Outcome, state, fault, Fault, no-fault, fault-at, state-or, first-fault}
+use Rattle.automaton.specs.Step.{Outcome, result, fault, Fault, no-fault, fault-at, state-or, first-fault}
 use Rattle.automaton.proofs.Theorems.Quiet.{first-fault-here}
 use Rattle.automaton.specs.Shape.{product}
 use Rattle.automaton.specs.Grid.{cell-of}
 use Rattle.automaton.proofs.Theorems.GridLaws.{cell-room}
 use Rattle.automaton.specs.Bands.{reached, next-rows, part-step, band-outcome, band-step}
 use Rattle.program.specs.Syntax.{Program}
-use Rattle.cell_meaning.specs.declared.Rule.{Rule}
+use Rattle.program.specs.declared.Rule.{Rule}
 use Rattle.cell_meaning.specs.Contracts.Stands.{Holds}
-use Rattle.run_marked_cells.specs.Contracts.Marked.{MarkPlaced, Moving}
+use Rattle.run_marked_cells.specs.Contracts.Marked.{PointSet, Moving}
 use Rattle.run_marked_cells.proofs.PartLaws.{flat-ext}
 use Rattle.run_step.specs.declared.Evaluation.the-variants as Gave
 use Rattle.run_step.specs.declared.Evaluation.{Evaluation}
@@ -31,8 +31,8 @@ use Rattle.run_step.specs.Contracts.Rows.{CellsReady, CellsStepped, Rows
 
 -- ---- cells in rising order
 
-pub placed-at : (sizes : List ℕ) (a b : ℕ) (place : List ℕ) → MarkPlaced sizes a place → a ≡ b → MarkPlaced sizes b place
-placed-at sizes a b place h e = subst (λ (c : ℕ). MarkPlaced sizes c place) e h
+pub placed-at : (sizes : List ℕ) (a b : ℕ) (point : List ℕ) → PointSet sizes a point → a ≡ b → PointSet sizes b point
+placed-at sizes a b point h e = subst (λ (c : ℕ). PointSet sizes c point) e h
 
 module _ (words : List ℕ) (rule : Rule) (sizes : List ℕ) (from : ℕ) (grid : List ℤ) (time count : ℕ) where
   -- what the cell i gives, counted from the first
@@ -43,7 +43,7 @@ module _ (words : List ℕ) (rule : Rule) (sizes : List ℕ) (from : ℕ) (grid 
   pub record Rowing (i total : ℕ) (next : List ℤ) : Type 0 where
     pub clear : (p : Program) → Holds words rule p → first-fault (gives p) i ≡ no-fault
     pub counted : total ≡ count + i
-    pub done : (p : Program) → Holds words rule p → (c : ℕ) → c < i → gives p c ≡ state (cell-of (rule .fields) next c)
+    pub done : (p : Program) → Holds words rule p → (c : ℕ) → c < i → gives p c ≡ result (cell-of (rule .fields) next c)
 
   pub rowing-start : (next : List ℤ) → Rowing 0 count next
   unfolding first-fault
@@ -51,9 +51,9 @@ module _ (words : List ℕ) (rule : Rule) (sizes : List ℕ) (from : ℕ) (grid 
 
   module _ {leaves : List ℕ} {cells lent : ℕ} (ready : CellsReady leaves words rule sizes from cells grid lent time count) where
     -- what the next cell's turn asks
-    pub rowing-asks : {place : List ℕ} {lent′ : ℕ} (i total : ℕ) (next : List ℤ) → MarkPlaced sizes (from + i) place → lent′ ≡ lent → Rowing i total next → i < cells
-        → Turning leaves words rule sizes place (from + i) i grid lent′ time total
-    rowing-asks {place} {lent′} i total next own same w l =
+    pub rowing-asks : {point : List ℕ} {lent′ : ℕ} (i total : ℕ) (next : List ℤ) → PointSet sizes (from + i) point → lent′ ≡ lent → Rowing i total next → i < cells
+        → Turning leaves words rule sizes point (from + i) i grid lent′ time total
+    rowing-asks {point} {lent′} i total next own same w l =
         let a = ready .inside in
         let b = ready .countable in
         let c = w .counted in
@@ -71,7 +71,7 @@ module _ (words : List ℕ) (rule : Rule) (sizes : List ℕ) (from : ℕ) (grid 
         }
 
     -- what going on to the next cell's coordinates asks
-    pub rowing-moves : {place′ : List ℕ} (i : ℕ) → length place′ ≡ length sizes → MarkPlaced sizes (from + i) place′ → i < cells → Moving sizes (from + i) (from + i + 1) place′
+    pub rowing-moves : {point′ : List ℕ} (i : ℕ) → length point′ ≡ length sizes → PointSet sizes (from + i) point′ → i < cells → Moving sizes (from + i) (from + i + 1) point′
     rowing-moves i dims own l =
         let a = ready .inside in
         let b = ready .roomed .cells in
@@ -93,12 +93,12 @@ module _ (words : List ℕ) (rule : Rule) (sizes : List ℕ) (from : ℕ) (grid 
       done = λ p h c l. by p h c (last-or-below l);
     })
       where
-        here : (p : Program) → Holds words rule p → state (cell-of (rule .fields) next′ i) ≡ gives p i
+        here : (p : Program) → Holds words rule p → result (cell-of (rule .fields) next′ i) ≡ gives p i
         here p h = ap (λ (x : Evaluation). outcome-in x (cell-of (rule .fields) next′ i)) (sym e) ∙ t .says p h
 
-        by : (p : Program) → Holds words rule p → (c : ℕ) → (c ≡ i) ⊎ (c < i) → gives p c ≡ state (cell-of (rule .fields) next′ c)
-        by p h c (inl q) = subst (λ (x : ℕ). gives p x ≡ state (cell-of (rule .fields) next′ x)) (sym q) (sym (here p h))
-        by p h c (inr q) = w .done p h c q ∙ ap (λ (a : List ℤ). state a) (sym (t .kept c (λ k. absurd (let u = k in omega arith))))
+        by : (p : Program) → Holds words rule p → (c : ℕ) → (c ≡ i) ⊎ (c < i) → gives p c ≡ result (cell-of (rule .fields) next′ c)
+        by p h c (inl q) = subst (λ (x : ℕ). gives p x ≡ result (cell-of (rule .fields) next′ x)) (sym q) (sym (here p h))
+        by p h c (inr q) = w .done p h c q ∙ ap (λ (a : List ℤ). result a) (sym (t .kept c (λ k. absurd (let u = k in omega arith))))
 
     pub rowing-stop : {cells k q n : ℕ} → r ≡ Gave.Fault k q n → i < cells → CellsStepped words rule sizes from cells grid time count (Gives.Fault i k q n) next′
     rowing-stop {cells} {k} {q} {n} e l = record {
@@ -148,8 +148,8 @@ module _ {leaves words : List ℕ} {rule : Rule} {sizes : List ℕ} {row before 
   }
 
   -- room for coordinates
-  pub rows-place : (zs : List ℕ) → length zs ≡ 3 → length (take (length sizes) zs) ≡ length sizes
-  rows-place zs e = length-take-le (length sizes) zs (let d = ready .roomed .dims in let f = ready .rule-fits .dims in omega arith)
+  pub rows-point : (zs : List ℕ) → length zs ≡ 3 → length (take (length sizes) zs) ≡ length sizes
+  rows-point zs e = length-take-le (length sizes) zs (let d = ready .roomed .dims in let f = ready .rule-fits .dims in omega arith)
 
 rows-stepped-at : (words : List ℕ) (rule : Rule) (n : ℕ) (ns : List ℕ) (before own : ℕ) (room : List ℤ) (time count : ℕ) (r : Step) (next′ : List ℤ) → length next′ ≡ own * product ns * rule .fields
     → CellsStepped words rule (n ∷ ns) (before * product ns) (own * product ns) room time count r next′ → RowsStepped words rule (n ∷ ns) before own room time count r next′

@@ -7,36 +7,39 @@ use mathlib.Core.List.{List}
 use lib.ListN.{length, take}
 use lib.Seq.{length-take-le}
 use lib.IntN.{ℤ}
+use Rattle.value.specs.Limits.{most-cells}
 use Rattle.automaton.specs.Step.{Fault, no-fault, fault-at, state-or, marked, grid-after, quiet-step}
 use Rattle.automaton.specs.Shape.{product}
 use Rattle.automaton.specs.Grid.{cell-of, grid-of, automaton}
+use Rattle.automaton.specs.Contracts.ShapeLaws.{Shaped}
 use Rattle.program.specs.Syntax.{Program}
-use Rattle.cell_meaning.specs.declared.Rule.{Rule}
+use Rattle.program.specs.declared.Rule.{Rule}
 use Rattle.cell_meaning.specs.Contracts.Stands.{Holds}
 use Rattle.run_meaning.specs.Reach.{running}
-use Rattle.run_meaning.specs.Contracts.Fitting.{Sized, Shaped, held-fields}
+use Rattle.program.specs.Contracts.Fitting.{Sized}
+use Rattle.run_meaning.specs.Contracts.Fitting.{held-fields}
 use Rattle.run_step.specs.declared.Step.{Step}
 use Rattle.run_step.specs.declared.Step.the-variants as Gives
 use Rattle.run_step.specs.Contracts.Stepping.{fault-in, count-in, StepReady, SteppedFor}
-use Rattle.run_marked_cells.specs.Contracts.Marked.{NextMarked, MarkPlaced, Moving, Exchanging, Exchanged}
+use Rattle.run_marked_cells.specs.Contracts.Marked.{NextMarked, PointSet, Moving, Exchanging, Exchanged}
 use Rattle.run_step.specs.Contracts.Turns.{FilledFor}
 use Rattle.run_marked_cells.proofs.PartLaws.{flat-ext}
 use Rattle.run_step.proofs.FillLaws.{outcome, of-marked, of-unmarked}
 
 module _ {leaves words : List ℕ} {rule : Rule} {sizes : List ℕ} {grid scratch : List ℤ} {marks : List ℕ} {time count : ℕ} (ready : StepReady leaves words rule sizes grid scratch marks time count) where
   -- room for coordinates
-  pub place-fits : (zs : List ℕ) → length zs ≡ 3 → length sizes ≤ length zs
-  place-fits zs e = let d = ready .shaped .dims in let f = ready .rule-fits .dims in omega arith
+  pub point-fits : (zs : List ℕ) → length zs ≡ 3 → length sizes ≤ length zs
+  point-fits zs e = let d = ready .shaped .dims in let f = ready .rule-fits .dims in omega arith
 
-  pub place-room : (zs : List ℕ) → length zs ≡ 3 → length (take (length sizes) zs) ≡ length sizes
-  place-room zs e = length-take-le (length sizes) zs (place-fits zs e)
+  pub point-room : (zs : List ℕ) → length zs ≡ 3 → length (take (length sizes) zs) ≡ length sizes
+  point-room zs e = length-take-le (length sizes) zs (point-fits zs e)
 
   -- the number of a cell, or of all cells, is small
   pub cell-small : {i : ℕ} → i ≤ length marks → i < 4294967296
   cell-small l = let m = ready .marks-fit in let n = ready .shaped .cells in omega arith
 
   -- what going on to the next marked cell's coordinates asks
-  pub moving : {i r : ℕ} {place : List ℕ} → length place ≡ length sizes → MarkPlaced sizes i place → i < length marks → NextMarked marks (i + 1) r → Moving sizes i r place
+  pub moving : {i r : ℕ} {point : List ℕ} → length point ≡ length sizes → PointSet sizes i point → i < length marks → NextMarked marks (i + 1) r → Moving sizes i r point
   moving {i} dims own l n =
       let inside : i < product sizes = let m = ready .marks-fit in omega arith in
       record {
@@ -48,7 +51,7 @@ module _ {leaves words : List ℕ} {rule : Rule} {sizes : List ℕ} {grid scratc
       }
 
 -- what the exchange asks
-pub exchanging : {words : ℕ} {rule : Rule} {sizes : List ℕ} {grid scratch lent marks : ℕ} → Sized words rule → Shaped rule sizes grid → scratch ≡ grid → marks ≡ product sizes → lent ≡ scratch
+pub exchanging : {words : ℕ} {rule : Rule} {sizes : List ℕ} {grid scratch lent marks : ℕ} → Sized words rule → Shaped (rule .dims) (rule .fields) most-cells sizes grid → scratch ≡ grid → marks ≡ product sizes → lent ≡ scratch
     → Exchanging grid lent marks (rule .fields)
 exchanging {words} {rule} sized shaped alike all e = record {
   alike = e ∙ alike;
@@ -57,7 +60,7 @@ exchanging {words} {rule} sized shaped alike all e = record {
   most = sized .fields;
 }
 
-module _ {words : List ℕ} {rule : Rule} {sizes : List ℕ} {grid scratch : List ℤ} {marks : List ℕ} {time count : ℕ} (shaped : Shaped rule sizes (length grid)) (marks-fit : length marks ≡ product sizes)
+module _ {words : List ℕ} {rule : Rule} {sizes : List ℕ} {grid scratch : List ℤ} {marks : List ℕ} {time count : ℕ} (shaped : Shaped (rule .dims) (rule .fields) most-cells sizes (length grid)) (marks-fit : length marks ≡ product sizes)
     {Held : Program → Type 0} (holds : (p : Program) → Held p → Holds words rule p) {r : Step} {filled : List ℤ} (f : FilledFor Held rule sizes grid scratch marks time count r filled) where
   -- the grid after a step without a fault, by its cells
   after-none : (p : Program) → Held p → fault-in r ≡ no-fault

@@ -6,14 +6,16 @@ use mathlib.Core.List.{List, _++_}
 use lib.ListN.{length, take, drop, length-drop}
 use lib.Seq.{length-take-le}
 use lib.IntN.{ℤ}
-use Rattle.cell_meaning.specs.declared.Rule.{Rule}
+use Rattle.value.specs.Limits.{most-cells}
+use Rattle.value.specs.Contracts.Buffers.{most-room}
+use Rattle.automaton.specs.Contracts.ShapeLaws.{Shaped}
+use Rattle.program.specs.declared.Rule.{Rule}
 use Rattle.cell_statements.specs.declared.Outcome.{Outcome}
 use Rattle.cell_statements.specs.declared.Outcome.the-variants.{Done, Fault}
 use Rattle.cell_statements.specs.Contracts.Running.{Fit, outcome-is, Evaluates}
 use Rattle.run_step.specs.declared.Evaluation.{Evaluation}
 use Rattle.run_step.specs.declared.Evaluation.the-variants as Gave
-use Rattle.run_meaning.specs.Contracts.Fitting.{Shaped}
-use Rattle.run_step.specs.Contracts.Turns.{CellsCounted, outcome-in, Roomed, Turning, CellTurned}
+use Rattle.run_step.specs.Contracts.Turns.{CellsCounted, outcome-in, Turning, CellTurned}
 use Rattle.run_marked_cells.proofs.PartLaws.{part-own, part-kept}
 
 -- an evaluated cell, counted
@@ -25,7 +27,7 @@ module _ {words : List ℕ} {rule : Rule} {sizes : List ℕ} {cell : ℕ} {grid 
   counted-fault q = record { says = λ p h. ap (λ (o : Outcome). outcome-is o next) (sym q) ∙ e .says p h; count-is = refl }
 
 -- a grid is small enough
-pub roomed : {rule : Rule} {sizes : List ℕ} {lent : ℕ} → Shaped rule sizes lent → Roomed rule sizes lent
+pub roomed : {n fields : ℕ} {sizes : List ℕ} {lent : ℕ} → Shaped n fields most-cells sizes lent → Shaped n fields most-room sizes lent
 roomed s = record { dims = s .dims; positive = s .positive; cells = omega (arith, s .cells); entries = s .entries }
 
 -- a part of a list
@@ -35,26 +37,9 @@ part-whole from n = omega arith
 pub part-length : (from n : ℕ) (xs : List ℤ) → from + n ≤ length xs → length (take (from + n - from) (drop from xs)) ≡ n
 part-length from n xs l = length-take-le (from + n - from) (drop from xs) (let e = length-drop from xs in omega arith) ∙ part-whole from n
 
-module _ {leaves words : List ℕ} {rule : Rule} {sizes place : List ℕ} {cell to : ℕ} {grid : List ℤ} {lent time count : ℕ} (t : Turning leaves words rule sizes place cell to grid lent time count) where
-  pub turn-fit : {n : ℕ} → n ≡ rule .fields → Fit leaves words rule sizes place cell grid n time
-  turn-fit e = record {
-    table = t .rule-fits .table;
-    tokens = t .rule-fits .tokens;
-    base = t .rule-fits .base;
-    body = t .rule-fits .body;
-    slots = t .rule-fits .slots;
-    most = t .rule-fits .fields;
-    lent = sym e;
-    small = t .small;
-    dims = t .roomed .dims;
-    few = t .rule-fits .dims;
-    positive = t .roomed .positive;
-    cells = t .roomed .cells;
-    inside = t .inside;
-    own = t .own;
-    entries = t .roomed .entries;
-    noted = t .noted;
-  }
+module _ {leaves words : List ℕ} {rule : Rule} {sizes point : List ℕ} {cell to : ℕ} {grid : List ℤ} {lent time count : ℕ} (t : Turning leaves words rule sizes point cell to grid lent time count) where
+  pub turn-fit : {n : ℕ} → n ≡ rule .fields → Fit leaves words rule sizes point cell grid n time
+  turn-fit e = record { rule-fits = t .rule-fits; shaped = t .roomed; lent = sym e; small = t .small; inside = t .inside; own = t .own; noted = t .noted }
 
   -- the cell's next fields, put in their place
   pub turned : {next scratch : List ℤ} {k : ℕ} {r : Evaluation} → CellsCounted words rule sizes cell grid next time count r → length scratch ≡ lent → length next ≡ rule .fields → k ≡ rule .fields

@@ -12,7 +12,7 @@ use Rattle.automaton.specs.Shape.{product}
 use Rattle.automaton.specs.Grid.{cell-of}
 use Rattle.automaton.specs.Rows.{row-counts}
 use Rattle.program.specs.Syntax.{Program}
-use Rattle.cell_meaning.specs.declared.Rule.{Rule}
+use Rattle.program.specs.declared.Rule.{Rule}
 use Rattle.run_meaning.specs.declared.Bounds.{Bounds}
 use Rattle.run_meaning.specs.declared.Reach.{Reach}
 use Rattle.run_meaning.specs.Reach.{running}

@@ -11,18 +11,22 @@ use lib.ListN.{length, getD, replicate, length-replicate}
 use lib.Seq.{ext-getD}
 use lib.IntN.{ℤ}
 use borrow.Author.Tests.{not-true, not-false}
+use Rattle.run_marked_cells.proofs.ScanLaws.{is-unmarked}
+use Rattle.automaton.proofs.Theorems.Pause.{marks-ext}
+use Rattle.value.proofs.Theorems.Truth.{or-true, or-no}
+use Rattle.value.specs.Limits.{most-cells}
 use Rattle.value.proofs.Theorems.Laws.{never}
 use Rattle.automaton.specs.Listed.{list-of}
-use Rattle.automaton.specs.Contracts.ListedLaws.{length-list-of, getD-list-of, list-of-ext}
+use Rattle.automaton.specs.Contracts.ListedLaws.{length-list-of, getD-list-of}
 use Rattle.automaton.specs.Step.{no-fault, fault-at, any-of, marks-of, non-zero, marked, Quiet, every-cell, no-cell, changed, touched, open-in, quiet-step}
-use Rattle.automaton.proofs.Theorems.Quiet.{marked-marks-of, any-of-false, any-none}
+use Rattle.automaton.proofs.Theorems.Quiet.{marked-marks-of, any-of-false, any-none, bit-le}
 use Rattle.automaton.specs.Shape.{product, Bound, width, neighbour, reach-of, box-indices}
-use Rattle.automaton.specs.Contracts.ShapeLaws.{Positive, Alike, neighbour-lt, neighbour-zeros}
+use Rattle.automaton.specs.Contracts.ShapeLaws.{Positive, Alike, neighbour-lt, neighbour-zeros, Shaped}
 use Rattle.automaton.specs.Grid.{cell-of, differ, automaton}
 use Rattle.automaton.proofs.Theorems.GridLaws.{differ-false, differ-self}
 use Rattle.automaton.proofs.Theorems.Going.{Going, going-start, going-on, going-stop, going-done}
 use Rattle.program.specs.Syntax.{Program}
-use Rattle.cell_meaning.specs.declared.Rule.{Rule}
+use Rattle.program.specs.declared.Rule.{Rule}
 use Rattle.cell_meaning.specs.Contracts.Leaves.{Leaves}
 use Rattle.cell_meaning.specs.Places.{own-place}
 use Rattle.run_meaning.specs.declared.Bounds.{Bounds}
@@ -31,14 +35,15 @@ use Rattle.run_meaning.specs.Reach.{reach-from, reach, running}
 use Rattle.run_meaning.proofs.Theorems.Locality.{own-zeros}
 use Rattle.run_meaning.proofs.Theorems.Covering.{reach-covers}
 use Rattle.run_meaning.proofs.Theorems.PlacesLaws.{places-box}
-use Rattle.run_meaning.specs.Contracts.Fitting.{held-fields, Shaped}
+use Rattle.run_meaning.specs.Contracts.Fitting.{held-fields}
 use Rattle.run_step.specs.declared.Step.{Step}
 use Rattle.run_step.specs.declared.Step.the-variants as Gives
 use Rattle.run_step.specs.Contracts.Stepping as stepping
 use Rattle.run_step.specs.Contracts.Stepping.{SteppedFor}
 use Rattle.run_step.proofs.StepLaws.{stepped-of}
 use Rattle.run_marking.specs.Contracts.Opened as marking
-use Rattle.run_marking.specs.Contracts.Opened.{opened, pending-is, indices-of, Prepared, Ways, Marks, Sound, WayOf}
+use Rattle.run_marking.specs.Contracts.Opened.{opened, pending-is, indices-of, Ways, Marks, Sound, WayOf}
+use Rattle.run_marking.specs.Contracts.Noting.{Prepared}
 use Rattle.token.specs.Contracts.Promises.{Sorts}
 use Rattle.list_meaning.specs.Setting.{set-block}
 use Rattle.run_steps.specs.declared.Report.{Report}
@@ -68,29 +73,16 @@ all-alike b n =
 all-ones : (n : ℕ) → replicate n 1 ≡ marks-of every-cell n
 all-ones n = all-alike true n
 
-bit : (b : Bool) → cond b 1 0 ≤ 1
-bit true = omega arith
-bit false = omega arith
-
 marks-plain : (o : ℕ → Bool) (n : ℕ) (marks : List ℕ) → marks ≡ marks-of o n → (c : ℕ) → c < n → getD marks c 0 ≤ 1
 unfolding marks-of
-marks-plain o n marks e c l = rw (ap (λ (ms : List ℕ). getD ms c 0) e ∙ getD-list-of (λ (x : ℕ). cond (o x) 1 0) n c 0 l) (bit (o c))
+marks-plain o n marks e c l = rw (ap (λ (ms : List ℕ). getD ms c 0) e ∙ getD-list-of (λ (x : ℕ). cond (o x) 1 0) n c 0 l) (bit-le (o c))
 
 marks-length : (o : ℕ → Bool) (n : ℕ) → length (marks-of o n) ≡ n
 unfolding marks-of
 marks-length o n = length-list-of _ n
 
-marks-same : (o o′ : ℕ → Bool) (n : ℕ) → ((c : ℕ) → c < n → o c ≡ o′ c) → marks-of o n ≡ marks-of o′ n
-unfolding marks-of
-marks-same o o′ n h = list-of-ext _ _ n (λ c l. ap (λ (b : Bool). cond b 1 0) (h c l))
-
--- a cell with mark 0 is not marked, and among the marks of the open cells not open
-unmarked : (marks : List ℕ) (c : ℕ) → getD marks c 0 ≡ 0 → marked marks c ≡ false
-unfolding marked
-unmarked marks c e = ap non-zero e
-
 shut : (o : ℕ → Bool) (n : ℕ) (marks : List ℕ) → marks ≡ marks-of o n → (c : ℕ) → c < n → getD marks c 0 ≡ 0 → o c ≡ false
-shut o n marks e c l z = sym (marked-marks-of o n c l) ∙ ap (λ (ms : List ℕ). marked ms c) (sym e) ∙ unmarked marks c z
+shut o n marks e c l z = sym (marked-marks-of o n c l) ∙ ap (λ (ms : List ℕ). marked ms c) (sym e) ∙ is-unmarked marks c z
 
 marked-is : (b : Bool) (marks : List ℕ) (c : ℕ) → marked marks c ≡ b → b ≡ false → getD marks c 0 ≡ 0
 unfolding marked
@@ -145,10 +137,6 @@ touched-self : (p : Program) (sizes : List ℕ) (grid : List ℤ) (c : ℕ) → 
 unfolding running automaton touched changed
 touched-self p sizes grid c = any-none (λ x. differ (cell-of (length (p .fields)) grid x) (cell-of (length (p .fields)) grid x)) (reach-of sizes (reach p) c) (λ x. differ-self (cell-of (length (p .fields)) grid x))
 
-or-no : (b : Bool) → (b || false) ≡ b
-or-no true = refl
-or-no false = refl
-
 open-pending : (p : Program) (sizes : List ℕ) (o : ℕ → Bool) (grid : List ℤ) (c : ℕ) → p .timed ≡ false → open-in (running p sizes) o grid grid c ≡ o c
 unfolding running automaton open-in
 open-pending p sizes o grid c e = ap₂ (λ (a b : Bool). a || (o c || b)) e (touched-self p sizes grid c) ∙ or-no (o c)
@@ -158,10 +146,6 @@ unfolding running automaton
 timed-is p sizes = refl
 
 -- ---- the marks at the beginning
-
-or-yes : (b : Bool) → (b || true) ≡ true
-or-yes true = refl
-or-yes false = refl
 
 module _ {lent : Bool} {grid : List ℤ} {marks : List ℕ} {t : Bool} (is : t ≡ lent) where
   pub started-lent : t ≡ true → {scratch′ : List ℤ} {marks′ : List ℕ} → scratch′ ≡ grid → marks′ ≡ marks-of (marked marks) (length marks) → Started lent grid marks scratch′ marks′
@@ -204,12 +188,12 @@ module _ {words : List ℕ} {rule : Rule} {sizes : List ℕ} {r : Reach} {grid s
   started-begun = by resumed all-open refl refl
     where
       same : {o : ℕ → Bool} → marks′ ≡ marks-of o (product sizes) → ((c : ℕ) → o c ≡ (all-open || pending-in resumed marks c)) → Begun sizes all-open marks′ (pending-in resumed marks)
-      same m h = m ∙ marks-same _ _ (product sizes) (λ c l. h c)
+      same m h = m ∙ marks-ext _ _ (product sizes) (λ c l. h c)
 
       by : (a b : Bool) → resumed ≡ a → all-open ≡ b → Begun sizes all-open marks′ (pending-in resumed marks)
       by true false e f = same (some-marked (rw (e, f))) (λ c. rw (e, f))
       by true true e f = same (all-marked (rw (e, f))) (λ c. rw f)
-      by false b e f = same (all-marked (rw e)) (λ c. sym (or-yes all-open) ∙ ap (λ (x : Bool). all-open || pending-in x marks c) (sym e))
+      by false b e f = same (all-marked (rw e)) (λ c. sym (or-true all-open) ∙ ap (λ (x : Bool). all-open || pending-in x marks c) (sym e))
 
   -- the run can begin with them
   pub started-begins : length scratch′ ≡ length scratch → length marks′ ≡ length marks → Begins words rule sizes r grid scratch′ marks′ text start steps
@@ -300,7 +284,7 @@ module _ {words : List ℕ} {rule : Rule} {sizes : List ℕ} {r : Reach} {all-op
         goes = record {
           is = λ p runs o e. (
             o,
-            e ∙ marks-same _ _ (product sizes) (λ c l. ap₂ (λ (a b : Bool). a || b) (sym (runs .timed) ∙ sym (timed-is p sizes)) (sym (or-no (o c)) ∙ ap (λ (b : Bool). o c || b) (sym (touched-self p sizes grid₀ c)))),
+            e ∙ marks-ext _ _ (product sizes) (λ c l. ap₂ (λ (a b : Bool). a || b) (sym (runs .timed) ∙ sym (timed-is p sizes)) (sym (or-no (o c)) ∙ ap (λ (b : Bool). o c || b) (sym (touched-self p sizes grid₀ c)))),
             going-start (running p sizes) (blocks-in sizes rule text) o steps start grid₀,
           );
         };
@@ -420,7 +404,7 @@ module _ {words : List ℕ} {rule : Rule} {sizes : List ℕ} {r : Reach} {all-op
 
             same-marks : (p : Program) → Runs words rule r all-open p → (o : ℕ → Bool) → marks ≡ marks-of (open-in (running p sizes) o grid grid) (product sizes)
                 → marks-of (λ c. marked marks c || opened sizes (indices-of r (length sizes)) (rule .fields) grid grid′ c) (product sizes) ≡ marks-of (open-in (running p sizes) o grid grid′) (product sizes)
-            same-marks p runs o m = marks-same _ _ (product sizes)
+            same-marks p runs o m = marks-ext _ _ (product sizes)
                 (λ c l. ap₂ (λ (x y : Bool). x || y)
                 (ap (λ (ms : List ℕ). marked ms c) m ∙ marked-marks-of (open-in (running p sizes) o grid grid) (product sizes) c l ∙ open-pending p sizes o grid c (runs .timed ∙ a))
                 (opened-is begins way p runs grid grid′ c)
@@ -447,7 +431,7 @@ module _ {words : List ℕ} {rule : Rule} {sizes : List ℕ} {r : Reach} {all-op
     step-ready noted more =
         record {
           rule-fits = begins .rule-fits;
-          shaped = subst (Shaped rule sizes) (sym (so .grid-size)) (begins .shaped);
+          shaped = subst (Shaped (rule .dims) (rule .fields) most-cells sizes) (sym (so .grid-size)) (begins .shaped);
           scratch-fits = so .scratch-size ∙ sym (so .grid-size);
           marks-fit = so .marks-size;
           small = omega (arith, begins .times);
@@ -465,7 +449,7 @@ module _ {words : List ℕ} {rule : Rule} {sizes : List ℕ} {r : Reach} {all-op
               let b = by .by-bands e in (
                 record {
                   rule-fits = begins .rule-fits;
-                  shaped = subst (Shaped rule sizes) (sym (so .grid-size)) (begins .shaped);
+                  shaped = subst (Shaped (rule .dims) (rule .fields) most-cells sizes) (sym (so .grid-size)) (begins .shaped);
                   some-dims = omega (arith, begins .shaped .dims, begins .some-dims);
                   row-is = b .row-is;
                   near = b .near;
@@ -552,7 +536,7 @@ module _ {words : List ℕ} {rule : Rule} {sizes : List ℕ} {r : Reach} {all-op
                 marks-fit = so .marks-size;
               };
               plain = so .standing .plain;
-              still = λ c l z. old-cell c l ∙ sym (s .kept c l (unmarked marks c z));
+              still = λ c l z. old-cell c l ∙ sym (s .kept c l (is-unmarked marks c z));
             }
 
         module _ {backs : List ℕ} {listed : ℕ} (way : WayOf sizes r backs listed) {marks′ : List ℕ} (renewed : Renewed sizes (r .bounds) backs listed all-open (rule .fields) scratch′ grid′ marks marks′) where
@@ -587,7 +571,7 @@ module _ {words : List ℕ} {rule : Rule} {sizes : List ℕ} {r : Reach} {all-op
                   }
                 where
                   same-marks : (p : Program) → Runs words rule r all-open p → marks-of (opened sizes (indices-of r (length sizes)) (rule .fields) scratch′ grid′) (product sizes) ≡ marks-of (open-in (running p sizes) (touched (running p sizes) grid grid′) grid′ grid′) (product sizes)
-                  same-marks p runs = marks-same _ _ (product sizes)
+                  same-marks p runs = marks-ext _ _ (product sizes)
                       (λ c l. opened-same sizes (indices-of r (length sizes)) (ways begins way .alike) (begins .shaped .positive) (rule .fields) scratch′ grid grid′ old-cell c l
                       ∙ opened-is begins way p runs grid grid′ c
                       ∙ sym (open-pending p sizes (touched (running p sizes) grid grid′) grid′ c (runs .timed ∙ e)))

@@ -4,13 +4,14 @@ ghost use Rattle.run_step.specs.Contracts.Stepping.{SteppedFor};
 ghost use Rattle.run_steps.specs.Contracts.OneStep.{border-in, ToldBy, Steppable};
 use crate::Bands;
 use band_step::steps::step_under;
-use cell_meaning::Rule;
+use program::Rule;
 use run_step::Step;
 use run_step::steps::step;
+use value::limits::LEAF_WORDS;
 
 // One step at a time, of the whole grid or by bands: then under the plan, with `shape` as the sizes of the room.
 pub fn one_step(
-    leaves: &[u32; 32776],
+    leaves: &[u32; LEAF_WORDS],
     words: &[u32],
     rule: Rule,
     sizes: &[u32],

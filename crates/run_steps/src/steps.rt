@@ -16,17 +16,18 @@ use crate::counting::move_asked;
 use crate::counting::recounts;
 use crate::single::one_step;
 use cell_leaves::fill_leaves;
-use cell_meaning::Rule;
-use run_marked_cells::rooms::clear_marks;
+use program::Rule;
 use run_marked_cells::rooms::copy_numbers;
 use run_marked_cells::rooms::flag_marks;
-use run_marked_cells::rooms::mark_all;
+use run_marked_cells::rooms::set_marks;
 use run_marking::mark_open;
 use run_marking::ways::set_ways;
 use run_meaning::Bounds;
 use run_meaning::Reach;
 use run_step::Step;
 use token::bytes::kind_table;
+use value::limits::LEAF_WORDS;
+use value::limits::PLACE_WORDS;
 
 // The report of a run without a fault.
 fn ended(steps: u32, count: u64) -> Report
@@ -63,7 +64,7 @@ fn begin_marks(resumed: bool, all_open: bool, grid: &[i32], scratch: &mut [i32],
         flag_marks(marks);
         return;
     }
-    mark_all(marks);
+    set_marks(marks, 1);
 }
 
 // The marks for the next step: all cells stay open, or those are marked that the last step opened. `old` holds the fields before it.
@@ -91,7 +92,7 @@ fn renew_marks(
 // opened. Each step evaluates the open cells alone, of the whole grid or by bands: then under the plan, with a room of the sizes `shape`. After the last
 // step the cells are marked that one more would open, at a fault none.
 fn run_marked(
-    leaves: &[u32; 32776],
+    leaves: &[u32; LEAF_WORDS],
     words: &[u32],
     rule: Rule,
     sizes: &[u32],
@@ -162,7 +163,7 @@ fn run_marked(
                 count = counted;
             }
             Step::Fault(cell, number, place, counted) => {
-                clear_marks(marks);
+                set_marks(marks, 0);
                 return Report {
                     number,
                     place,
@@ -228,7 +229,7 @@ pub fn run_by(
     ensures { λ r. ⌜ Ran (now (words .entry)) rule (now (sizes .entry)) reach all_open (now (values .entry)) start steps (pending-in resumed (now (marks .entry))) (now (grid .entry)) r (now (grid .exit)) (now (marks .exit)) ⌝ }
     ensures counts { λ _. ⌜ Tallied (now (words .entry)) rule (now (sizes .entry)) reach all_open counted field (now (grid .exit)) (now (counts .entry)) (now (counts .exit)) ⌝ }
 {
-    let mut leaves = [0u32; 32776];
+    let mut leaves = [0u32; LEAF_WORDS];
     fill_leaves(
         words,
         shape,
@@ -237,7 +238,7 @@ pub fn run_by(
         rule.slots as usize,
         &mut leaves,
     );
-    let mut backs = [0u32; 768];
+    let mut backs = [0u32; PLACE_WORDS];
     let listed = set_ways(sizes, reach, &mut backs);
     begin_marks(resumed, all_open, grid, scratch, marks);
     fill_asked(counted, sizes, rule.fields, field, grid, counts);

@@ -9,6 +9,7 @@ use lib.Dec.{eqb, leb, ltb}
 use lib.ListN.{length, take, drop, getD, drop-of-length-le}
 use lib.Seq.{drop-cons}
 use borrow.Author.Tests.{eq-eqb, ne-eqb, eqb-true, le-leb, lt-leb, lt-ltb, le-ltb}
+use Rattle.token.proofs.Words.{unlike}
 use Rattle.value.specs.Choice.{if_then_else_}
 use Rattle.token.specs.Bytes.{same}
 use Rattle.token.specs.Lexeme.{built-in-names, read-token}
@@ -133,17 +134,6 @@ pub record Comparing (list : List ℕ) (i : ℕ) : Type 0 where
 
 pub begin : (list : List ℕ) → Comparing list 0
 begin list = record { left = refl }
-
-unlike : (a b : List ℕ) → (length a ≡ length b → ⊥) → same a b ≡ false
-unfolding same
-unlike [] [] h = absurd (h refl)
-unlike [] (y ∷ b) h = refl
-unlike (x ∷ a) [] h = refl
-unlike (x ∷ a) (y ∷ b) h = go (eqb x y) (unlike a b (λ e. h (ap suc e)))
-  where
-    go : (t : Bool) {u : Bool} → u ≡ false → (t && u) ≡ false
-    go true e = e
-    go false e = refl
 
 pub another-length : (list : List ℕ) → (length list ≡ 16 → ⊥) → false ≡ same list built-in-names
 another-length list h = sym (unlike list built-in-names h)

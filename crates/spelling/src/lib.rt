@@ -6,6 +6,7 @@ ghost use Rattle.token.specs.Lexeme.{is-built-in};
 ghost use Rattle.spelling.specs.Spelling.{names-token, token-part, part-at, part-entries};
 ghost use Rattle.spelling.specs.Contracts.Parts.{told-entries, spelling-of, IsPart};
 use token::kind;
+use value::limits::MOST_BYTES;
 
 // Where a spelling is: in the built-in list or in the source.
 pub struct Part {
@@ -82,7 +83,7 @@ fn part_at(source: &[u8], number: u32, place: u32) -> Part
             len: 0,
         };
     }
-    if 65535 < source.len() {
+    if MOST_BYTES < source.len() {
         return Part {
             listed: false,
             start: 0,

@@ -45,7 +45,7 @@ unfolding token-words
 words-more [] t = refl
 words-more (u ∷ ts) t = ap (λ (l : List ℕ). u .kind ∷ (u .start + 65536 * u .len) ∷ u .value ∷ 0 ∷ l) (words-more ts t)
 
-words-long : (ts : List Token) → length (token-words ts) ≡ 4 * length ts
+pub words-long : (ts : List Token) → length (token-words ts) ≡ 4 * length ts
 unfolding token-words
 words-long [] = refl
 words-long (t ∷ ts) = omega (arith, words-long ts)

@@ -55,7 +55,7 @@ alike (x ∷ a) (y ∷ b) t =
     let u : T (eqb x y) × T (same a b) = both (eqb x y) (same a b) t in
     ap (λ (n : ℕ). n ∷ a) (eqb→eq x y (u .0)) ∙ ap (λ (l : List ℕ). y ∷ l) (alike a b (u .1))
 
-unlike : (a b : List ℕ) → (length a ≡ length b → ⊥) → same a b ≡ false
+pub unlike : (a b : List ℕ) → (length a ≡ length b → ⊥) → same a b ≡ false
 unfolding same
 unlike [] [] h = absurd (h refl)
 unlike [] (y ∷ b) h = refl

@@ -2,6 +2,7 @@
 ghost use mathlib.Core.Path.{_≡_};
 ghost use Prim.Native.Nat.{_≤_, _<_};
 ghost use lib.ListN.{length, take, drop};
+ghost use Rattle.value.specs.Limits.{most-bytes};
 ghost use Rattle.token.specs.Lexeme.{find-kind, two-byte-tokens, lexeme-of, punctuation};
 ghost use Rattle.token.specs.Contracts.Promises.{Sorts, all-rows, lexed-of, word-here, digits-here};
 use crate::Cursor;
@@ -13,7 +14,7 @@ use crate::spelling;
 
 // A token of a kind, a length and a value at a place, and the cursor after it.
 pub fn token_of(kind: u32, at: usize, len: usize, value: u32) -> Lexed
-    requires { ⌜ (at ≤ 65535) × (len ≤ 65535) ⌝ }
+    requires { ⌜ (at ≤ most-bytes) × (len ≤ most-bytes) ⌝ }
     ensures { λ r. ⌜ r ≡ lexed-of (lexeme-of kind len value) at ⌝ }
 {
     let token = Token {
@@ -28,7 +29,7 @@ pub fn token_of(kind: u32, at: usize, len: usize, value: u32) -> Lexed
 
 // A keyword, a predefined name or an identifier.
 pub fn read_word(source: &[u8], kinds: &[u8; 256], rows: &[u8; 300], at: usize) -> Lexed
-    requires { ⌜ Sorts (now kinds) × (now rows ≡ all-rows) × (at < length (now source)) × (length (now source) ≤ 65535) ⌝ }
+    requires { ⌜ Sorts (now kinds) × (now rows ≡ all-rows) × (at < length (now source)) × (length (now source) ≤ most-bytes) ⌝ }
     ensures { λ r. ⌜ r ≡ lexed-of (word-here (drop at (now (source .entry)))) at ⌝ }
 {
     let len = runs::run_end(source, kinds, at, true) - at;
@@ -47,7 +48,7 @@ pub fn read_word(source: &[u8], kinds: &[u8; 256], rows: &[u8; 300], at: usize) 
 
 // A literal. A letter or an underscore right after it is refused 3, a value over 2147483647 is refused 4.
 pub fn read_digits(source: &[u8], kinds: &[u8; 256], at: usize) -> Lexed
-    requires { ⌜ Sorts (now kinds) × (at < length (now source)) × (length (now source) ≤ 65535) ⌝ }
+    requires { ⌜ Sorts (now kinds) × (at < length (now source)) × (length (now source) ≤ most-bytes) ⌝ }
     ensures { λ r. ⌜ r ≡ lexed-of (digits-here (drop at (now (source .entry)))) at ⌝ }
 {
     let end = runs::run_end(source, kinds, at, false);
@@ -86,7 +87,7 @@ fn pair_kind(source: &[u8], rows: &[u8; 300], at: usize) -> u32
 
 // A token of signs: the longest wins.
 pub fn read_sign(source: &[u8], rows: &[u8; 300], at: usize) -> Lexed
-    requires { ⌜ (now rows ≡ all-rows) × (at < length (now source)) × (length (now source) ≤ 65535) ⌝ }
+    requires { ⌜ (now rows ≡ all-rows) × (at < length (now source)) × (length (now source) ≤ most-bytes) ⌝ }
     ensures { λ r. ⌜ r ≡ lexed-of (punctuation (drop at (now (source .entry)))) at ⌝ }
 {
     let two = pair_kind(source, rows, at);

@@ -3,6 +3,7 @@ ghost use mathlib.Core.Path.{_≡_};
 ghost use Prim.Native.Nat.{_≤_, _<_};
 ghost use lib.ListN.{length, drop};
 ghost use mathlib.Core.Bool.{false};
+ghost use Rattle.value.specs.Limits.{most-bytes, table-words};
 ghost use Rattle.token.specs.Scanning.{blanks};
 ghost use Rattle.token.specs.Contracts.Promises.{Sorts, all-rows, WalksTokens, ReadsToken, Scans};
 
@@ -12,9 +13,6 @@ mod lexing;
 pub mod runs;
 pub mod scanning;
 mod spelling;
-
-// At most so many tokens.
-pub const MOST_TOKENS: usize = 4096;
 
 // A token: its kind, the place of its first byte, its length in bytes, and a literal's value (else 0).
 pub struct Token {
@@ -62,7 +60,7 @@ impl Cursor {
 
     // The token here, where there is neither a separator nor a comment; where no token can be read, a stop with its number.
     pub fn next(self, source: &[u8], kinds: &[u8; 256], rows: &[u8; 300]) -> Lexed
-        requires { ⌜ Sorts (now kinds) × (now rows ≡ all-rows) × (self .at < length (now source)) × (length (now source) ≤ 65535) ⌝ }
+        requires { ⌜ Sorts (now kinds) × (now rows ≡ all-rows) × (self .at < length (now source)) × (length (now source) ≤ most-bytes) ⌝ }
         ensures { λ r. ⌜ ReadsToken (now (source .entry)) (self .at) r ⌝ }
     {
         let at = self.at;
@@ -82,7 +80,7 @@ impl Cursor {
 
 // The token at a place of a source.
 pub fn read_at(source: &[u8], at: usize) -> Lexed
-    requires { ⌜ (at < length (now source)) × (length (now source) ≤ 65535) ⌝ }
+    requires { ⌜ (at < length (now source)) × (length (now source) ≤ most-bytes) ⌝ }
     ensures { λ r. ⌜ ReadsToken (now (source .entry)) at r ⌝ }
 {
     let kinds = bytes::kind_table();
@@ -93,7 +91,7 @@ pub fn read_at(source: &[u8], at: usize) -> Lexed
 
 // Scans a source: its tokens are written to the word table, four words a token, with zeros after them, whatever the table held before.
 pub fn scan_source(source: &[u8], words: &mut [u32]) -> Scan
-    requires { ⌜ (length (now source) ≤ 65535) × (length (now words) ≡ 16384) ⌝ }
+    requires { ⌜ (length (now source) ≤ most-bytes) × (length (now words) ≡ table-words) ⌝ }
     ensures { λ r. ⌜ Scans (now (source .entry)) r (now (words .exit)) ⌝ }
 {
     let kinds = bytes::kind_table();

@@ -3,11 +3,14 @@ ghost use mathlib.Core.Path.{_≡_};
 ghost use mathlib.Core.List.{[], _∷_, _++_};
 ghost use Prim.Native.Nat.{_+_, _*_, _≤_, _<_};
 ghost use lib.ListN.{length, take, drop, replicate};
+ghost use Rattle.value.specs.Limits.{most-bytes, most-tokens, table-words};
 ghost use Rattle.token.specs.Scanning.{token-words};
 ghost use Rattle.token.specs.Contracts.Promises.{Sorts, all-rows, Stops, Fills};
 use crate::Cursor;
 use crate::Scan;
 use crate::Token;
+use value::limits::MOST_TOKENS;
+use value::tables::put_four;
 
 // The number at which the sequence stops at a token read after `count` tokens, and 0 if it goes on.
 fn stop_number(count: usize, t: Token) -> u32
@@ -17,7 +20,7 @@ fn stop_number(count: usize, t: Token) -> u32
     if t.kind == crate::kind::STOP {
         return t.value;
     }
-    if crate::MOST_TOKENS <= count {
+    if MOST_TOKENS <= count {
         return 5;
     }
     if t.kind == crate::kind::REFUSED {
@@ -28,18 +31,15 @@ fn stop_number(count: usize, t: Token) -> u32
 
 // Writes token number i: its kind, its place and its length, its value, and 0.
 fn write_token(words: &mut [u32], i: usize, t: Token)
-    requires { ⌜ (i < 4096) × (length (now words) ≡ 16384) × (t .start ≤ 65535) × (t .len ≤ 65535) ⌝ }
+    requires { ⌜ (i < most-tokens) × (length (now words) ≡ table-words) × (t .start ≤ most-bytes) × (t .len ≤ most-bytes) ⌝ }
     ensures { λ _. ⌜ now (words .exit) ≡ take (4 * i) (now (words .entry)) ++ token-words (t ∷ []) ++ drop (4 * i + 4) (now (words .entry)) ⌝ }
 {
-    words[4 * i] = t.kind;
-    words[4 * i + 1] = t.start + 65536 * t.len;
-    words[4 * i + 2] = t.value;
-    words[4 * i + 3] = 0;
+    put_four(words, 4 * i, t.kind, t.start + 65536 * t.len, t.value, 0);
 }
 
 // Reads the tokens of a source and writes them from the table's beginning on, up to the stop.
 pub fn read_tokens(source: &[u8], kinds: &[u8; 256], rows: &[u8; 300], words: &mut [u32]) -> Scan
-    requires { ⌜ Sorts (now kinds) × (now rows ≡ all-rows) × (length (now source) ≤ 65535) × (length (now words) ≡ 16384) ⌝ }
+    requires { ⌜ Sorts (now kinds) × (now rows ≡ all-rows) × (length (now source) ≤ most-bytes) × (length (now words) ≡ table-words) ⌝ }
     ensures { λ r. ⌜ Fills (now (source .entry)) r (now (words .exit)) ⌝ }
 {
     let mut cursor = Cursor::start();

@@ -53,7 +53,7 @@ pub fn position_of(source: &[u8], place: usize) -> Position {
 }
 
 // The quotient, 0 where the divisor is.
-pub fn quotient(a: u32, b: u32) -> u32 {
+fn quotient(a: u32, b: u32) -> u32 {
     if b == 0 {
         return 0;
     }

@@ -2,6 +2,7 @@
 ghost use mathlib.Core.Path.{_≡_};
 ghost use lib.ListN.{length};
 ghost use Rattle.tool_console.specs.Contracts.Rooms.{Kept};
+use value::limits::TABLE_WORDS;
 
 // How many entries, and how many cells, a grid may have here: as many entries as 512 x 512 cells with three fields have.
 pub const ROOM: usize = 786432;
@@ -57,10 +58,10 @@ pub fn plan_room() -> [u32; 8192]
 }
 
 // A word table of the right length.
-pub fn table_room() -> [u32; 16384]
+pub fn table_room() -> [u32; TABLE_WORDS]
     ensures { λ r. ⌜ 16384 ≡ length r ⌝ }
 {
-    [0; 16384]
+    [0; TABLE_WORDS]
 }
 
 // Counts of the elements at the start of a slice: n of them, or as many as there are.

@@ -7,6 +7,7 @@ use run_steps::Report;
 use tool_console::rooms;
 use tool_console::shapes::entries_of_rows;
 use tool_console::shapes::rows_of;
+use value::limits::NAME_WORDS;
 
 // A report; of how many bands the plan is made; and where there is no plan, how many rows are needed for one.
 pub struct Banded {
@@ -23,7 +24,7 @@ pub fn can_be_held(sizes: &[u32], entries: usize, held: u32) -> bool {
 // How many rows a band of one row needs with its border rows, for a source on a grid.
 fn rows_needed(source: &[u8], words: &mut [u32], sizes: &[u32]) -> u64 {
     let list = spelling::BUILT_IN;
-    let mut names = [0u32; 1024];
+    let mut names = [0u32; NAME_WORDS];
     let borders = band_planner::borders_of(source, &list, words, &mut names, sizes);
     borders.before as u64 + 1 + borders.behind as u64
 }
@@ -163,7 +164,7 @@ pub fn plan_and_run(
     field: u32,
     held: u32,
 ) -> Banded {
-    let mut names = [0u32; 1024];
+    let mut names = [0u32; NAME_WORDS];
     let mut bands = rooms::plan_room();
     let planned = plan(source, words, &mut names, sizes, held, &mut bands);
     if planned.number == 59 {

@@ -1,2 +1,3 @@
 -- Theorems, and worked examples.
 pub mod Laws
+pub mod Truth

@@ -1,9 +1,12 @@
 // Reading the source of a check, and writing its lines.
 ghost use Prim.Native.Nat.{_<_, _≤_};
 ghost use lib.ListN.{length};
+ghost use Rattle.value.specs.Limits.{table-words};
 ghost use Rattle.io.specs.Counts.{Counts};
 use crate::line::write_front;
 use libc::STDIN_FILENO;
+use value::limits::NAME_WORDS;
+use value::limits::TABLE_WORDS;
 
 // Reads so many bytes, or as many as there are and as there is room for; how many.
 fn read_some(room: &mut [u8], length: u32) -> usize
@@ -28,7 +31,7 @@ fn wide_word(w: u32) -> u64
 
 // A word times its number in a row of at most 16,384, counted from 1.
 fn weighed(word: u32, i: usize) -> u64
-    requires { ⌜ i < 16384 ⌝ }
+    requires { ⌜ i < table-words ⌝ }
     ensures { λ r. ⌜ r ≤ 70368744177664 ⌝ }
 {
     wide_word(word) * ((i + 1) as u64)
@@ -36,7 +39,7 @@ fn weighed(word: u32, i: usize) -> u64
 
 // The sum of n words, each times its number in the row.
 fn sum(words: &[u32], n: usize) -> u64
-    requires { ⌜ (n ≤ length (now words)) × (n ≤ 16384) ⌝ }
+    requires { ⌜ (n ≤ length (now words)) × (n ≤ table-words) ⌝ }
 {
     let mut sum: u64 = 0;
     let mut i: usize = 0;
@@ -50,7 +53,7 @@ fn sum(words: &[u32], n: usize) -> u64
 // How many words are in use in a row of records of four words: those before the first record whose word at `mark` is 0, where a token or a name has
 // its kind.
 fn used(words: &[u32], mark: usize) -> usize
-    requires { ⌜ (length (now words) ≤ 16384) × (mark < 4) ⌝ }
+    requires { ⌜ (length (now words) ≤ table-words) × (mark < 4) ⌝ }
     ensures { λ r. ⌜ r ≤ length (now (words .entry)) ⌝ }
 {
     let mut i: usize = 0;
@@ -65,7 +68,7 @@ fn used(words: &[u32], mark: usize) -> usize
 
 // The sum of the words in use.
 fn total(words: &[u32], mark: usize) -> u64
-    requires { ⌜ (length (now words) ≤ 16384) × (mark < 4) ⌝ }
+    requires { ⌜ (length (now words) ≤ table-words) × (mark < 4) ⌝ }
 {
     sum(words, used(words, mark))
 }
@@ -84,8 +87,8 @@ pub fn answer_check(length: u32) -> bool {
     if 65536 < length {
         skip(length - 65536);
     }
-    let mut words = [0u32; 16384];
-    let mut names = [0u32; 1024];
+    let mut words = [0u32; TABLE_WORDS];
+    let mut names = [0u32; NAME_WORDS];
     let list = spelling::BUILT_IN;
     let reply = read_source::check(&source[..n], &list, &mut words, &mut names);
     let part = spelling::told_part(&source[..n], reply.number, reply.place);

@@ -14,13 +14,13 @@ use Rattle.value.specs.Number.{modZ}
 use Rattle.value.specs.Worked.{wrap-of}
 use Rattle.value.proofs.Theorems.Laws.{and-both, wrap-below}
 use Rattle.automaton.specs.Listed.{list-of}
-use Rattle.automaton.specs.Contracts.ListedLaws.{list-of-ext, length-list-of}
-use Rattle.automaton.specs.Step.{Outcome, state, fault, Fault, no-fault, fault-at, fault-of, state-or, or-else, first-fault, Step, grid-after, up-to, step-of}
+use Rattle.automaton.specs.Contracts.ListedLaws.{list-of-ext}
+use Rattle.automaton.specs.Step.{Outcome, result, fault, Fault, no-fault, fault-at, fault-of, state-or, or-else, first-fault, Step, grid-after, up-to, step-of}
 use Rattle.automaton.specs.Shape.{product, cell-number, coordinates, shift, neighbour, Bound}
 use Rattle.automaton.specs.Contracts.ShapeLaws.{Inside, Positive, Alike, product-pos, coordinates-inside, number-lt, shift-inside, Within}
 use Rattle.automaton.proofs.Theorems.Quiet.{first-fault-ext, first-fault-none}
-use Rattle.automaton.specs.Grid.{cell-of, grid-of, Rule, automaton}
-use Rattle.automaton.proofs.Theorems.GridLaws.{Bounded, cell-of-grid-of, some-field}
+use Rattle.automaton.specs.Grid.{cell-of, grid-of, CellRule, automaton}
+use Rattle.automaton.proofs.Theorems.GridLaws.{Bounded, cell-of-grid-of, some-field, cell-length}
 use Rattle.automaton.specs.Bands.{Band, rows-in, rows-with, runs-on, accepts, plannable, longest, plan-of, reached, next-rows, part-step, band-outcome, band-step}
 use Rattle.automaton.specs.Contracts.BandSteps.{rows-lent, combined, combine, band-of, bands-of, kept-at, step-under}
 
@@ -87,12 +87,8 @@ module _ (ns : List ℕ) (positive : Positive ns) where
   unfolding neighbour
   in-row j ds l a = number-lt ns _ (shift-inside ns _ ds (coordinates-inside ns j positive l) a)
 
-  cell-length : (fields : ℕ) (g : List ℤ) (c : ℕ) → length (cell-of fields g c) ≡ fields
-  unfolding cell-of
-  cell-length fields g c = length-list-of _ fields
-
   -- Only the rows that are lent are read: what a longer room holds behind them plays no part.
-  module _ (fields : ℕ) (edge : Bound) (timed : Bool) (dss : List (List ℤ)) (rule : Rule) (bounded : Bounded fields timed dss rule) (edged : (ds : List ℤ) → List·Memᴰ ds dss → Edged edge ns ds)
+  module _ (fields : ℕ) (edge : Bound) (timed : Bool) (dss : List (List ℤ)) (rule : CellRule) (bounded : Bounded fields timed dss rule) (edged : (ds : List ℤ) → List·Memᴰ ds dss → Edged edge ns ds)
       (rows count count′ : ℕ) (enough : edge .back + rows + edge .ahead ≤ count) (enough′ : edge .back + rows + edge .ahead ≤ count′) (room room′ : List ℤ)
       (same : (c : ℕ) → c < (edge .back + rows + edge .ahead) * product ns → cell-of fields room c ≡ cell-of fields room′ c) where
     room-look : (i j : ℕ) (ds : List ℤ) → i < rows → j < product ns → Edged edge ns ds
@@ -147,7 +143,7 @@ module _ (ns : List ℕ) (positive : Positive ns) where
         ∙ ap (cell-of fields g) (sym (neighbour-row n (first + i) j d ds lj))
 
     -- So it gives what it gives in the grid.
-    module _ (timed : Bool) (dss : List (List ℤ)) (rule : Rule) (bounded : Bounded fields timed dss rule) (edged : (ds : List ℤ) → List·Memᴰ ds dss → Edged edge ns ds) where
+    module _ (timed : Bool) (dss : List (List ℤ)) (rule : CellRule) (bounded : Bounded fields timed dss rule) (edged : (ds : List ℤ) → List·Memᴰ ds dss → Edged edge ns ds) where
       pub band-outcome-is : (first rows t e : ℕ) → e < rows * product ns
           → band-outcome ns fields rule (edge .back + rows + edge .ahead) (edge .back) (rows-lent ns fields n (edge .back + rows + edge .ahead) (edge .back) first g) t e
           ≡ rule (λ ds. cell-of fields g (neighbour (n ∷ ns) (first * product ns + e) ds)) t
@@ -181,7 +177,7 @@ moved-or m no-fault b = refl
 moved-or m (fault-at x y z) b = refl
 
 moved-of : {State : Type 0} (m c : ℕ) (o : Outcome State) → moved m (fault-of c o) ≡ fault-of (m + c) o
-moved-of m c (state a) = refl
+moved-of m c (result a) = refl
 moved-of m c (fault k p) = refl
 
 or-none : (a : Fault) → or-else a no-fault ≡ a
@@ -243,10 +239,10 @@ runs-to n edge held from (b ∷ bs) e =
 
 -- with no fault a cell's old state plays no part
 state-same : (c : ℕ) (o : Outcome (List ℤ)) (x y : List ℤ) → fault-of c o ≡ no-fault → state-or x o ≡ state-or y o
-state-same c (state a) x y e = refl
+state-same c (result a) x y e = refl
 state-same c (fault k p) x y e = absurd (let z : _≡_ {A = ℕ} 0 1 = cc in omega arith)
 
-module _ (n : ℕ) (ns : List ℕ) (positive : Positive ns) (fields : ℕ) (timed : Bool) (dss : List (List ℤ)) (rule : Rule) (bounded : Bounded fields timed dss rule) (edge : Bound)
+module _ (n : ℕ) (ns : List ℕ) (positive : Positive ns) (fields : ℕ) (timed : Bool) (dss : List (List ℤ)) (rule : CellRule) (bounded : Bounded fields timed dss rule) (edge : Bound)
     (edged : (ds : List ℤ) → List·Memᴰ ds dss → Edged edge ns ds) where
   -- what the cells from a row on give in the grid
   abbrev grid-cell : List ℤ → ℕ → ℕ → Outcome (List ℤ)

@@ -7,16 +7,16 @@ use mathlib.Core.Bool.{Bool, true, false, not}
 use mathlib.Core.List.{List, [], _∷_, List·Memᴰ, Memᴰ·map, Memᴰ·cast}
 use lib.ListN.{getD, length}
 use lib.Seq.{ext-getD}
-use lib.IntN.{ℤ, pos, negsuc}
-use borrow.Author.Tests.{not-false, eq-eqb}
+use lib.IntN.{ℤ, pos}
+use borrow.Author.Tests.{not-false}
 use Rattle.value.specs.Number.{eqZ}
-use Rattle.value.proofs.Theorems.Laws.{eqZ-true}
+use Rattle.value.proofs.Theorems.Laws.{eqZ-true, eqZ-refl}
 use Rattle.automaton.specs.Contracts.ListedLaws.{length-list-of, getD-list-of, list-of-ext}
-use Rattle.automaton.specs.Step.{state}
+use Rattle.automaton.specs.Step.{result}
 use Rattle.automaton.specs.Shape.{product, neighbour, reach-of}
 use Rattle.automaton.specs.Contracts.ShapeLaws.{Positive, zeros, neighbour-zeros}
 use Rattle.automaton.proofs.Theorems.Quiet.{Lawful, or-false}
-use Rattle.automaton.specs.Grid.{cell-of, grid-of, differ, Rule, automaton}
+use Rattle.automaton.specs.Grid.{cell-of, grid-of, differ, CellRule, automaton}
 
 pub differ-false : (a b : List ℤ) → differ a b ≡ false → a ≡ b
 differ-false [] [] e = refl
@@ -26,13 +26,9 @@ differ-false (x ∷ xs) (y ∷ ys) e =
     let both = or-false (not (eqZ x y)) (differ xs ys) e in
     ap₂ (λ (a : ℤ) (l : List ℤ). a ∷ l) (eqZ-true x y (not-false (eqZ x y) (both .0))) (differ-false xs ys (both .1))
 
-eqZ-self : (z : ℤ) → eqZ z z ≡ true
-eqZ-self (pos a) = eq-eqb a a refl
-eqZ-self (negsuc a) = eq-eqb a a refl
-
 pub differ-self : (a : List ℤ) → differ a a ≡ false
 differ-self [] = refl
-differ-self (x ∷ xs) = rw (eqZ-self x) (differ-self xs)
+differ-self (x ∷ xs) = rw (eqZ-refl x) (differ-self xs)
 
 -- where there is a cell, no size is 0
 pub positive-of : (ns : List ℕ) → 0 < product ns → Positive ns
@@ -62,17 +58,17 @@ cell-of-grid-of fields cells s c e l = ext-getD (pos 0) _ (s c) (length-list-of 
         (mul-add-mod-self-right c fields k ∙ mod-eq-of-lt lk)
 
 -- What is asked of a rule: it reads nothing beyond the relative indices listed, and the time only where the source has it.
-pub record Bounded (fields : ℕ) (timed : Bool) (dss : List (List ℤ)) (rule : Rule) : Type 0 where
+pub record Bounded (fields : ℕ) (timed : Bool) (dss : List (List ℤ)) (rule : CellRule) : Type 0 where
   pub local : (look look′ : List ℤ → List ℤ) (t t′ : ℕ) → (timed ≡ true → t ≡ t′) → ((ds : List ℤ) → List·Memᴰ ds dss → look ds ≡ look′ ds)
       → rule look t ≡ rule look′ t′
-  pub sized : (look : List ℤ → List ℤ) (t : ℕ) (a : List ℤ) → ((ds : List ℤ) → length (look ds) ≡ fields) → rule look t ≡ state a → length a ≡ fields
+  pub sized : (look : List ℤ → List ℤ) (t : ℕ) (a : List ℤ) → ((ds : List ℤ) → length (look ds) ≡ fields) → rule look t ≡ result a → length a ≡ fields
 
 pub some-field : (n f e : ℕ) → e < n * f → 0 < f
 some-field n zero e l = omega arith
 some-field n (suc f) e l = omega arith
 
 -- The reach has the own cell, and every cell that the rule reads.
-pub lawful : (ns : List ℕ) (fields : ℕ) (timed : Bool) (dss : List (List ℤ)) (rule : Rule) → List·Memᴰ (zeros ns) dss → Bounded fields timed dss rule
+pub lawful : (ns : List ℕ) (fields : ℕ) (timed : Bool) (dss : List (List ℤ)) (rule : CellRule) → List·Memᴰ (zeros ns) dss → Bounded fields timed dss rule
     → Lawful (automaton ns fields timed dss rule)
 unfolding automaton
 lawful ns fields timed dss rule own b = record {
@@ -88,3 +84,8 @@ lawful ns fields timed dss rule own b = record {
       b .local (λ ds. cell-of fields g (neighbour ns c ds)) (λ ds. cell-of fields g′ (neighbour ns c ds)) t t′ same
       (λ ds m. agree (neighbour ns c ds) (unfold reach-of in Memᴰ·map (neighbour ns c) m));
 }
+
+-- a cell has so many fields
+pub cell-length : (fields : ℕ) (g : List ℤ) (c : ℕ) → length (cell-of fields g c) ≡ fields
+unfolding cell-of
+cell-length fields g c = length-list-of _ fields

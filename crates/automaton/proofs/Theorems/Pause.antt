@@ -19,7 +19,7 @@ joined a b = record {
   marks = b .marks;
 }
 
-marks-ext : (o o′ : ℕ → Bool) (n : ℕ) → ((c : ℕ) → c < n → o c ≡ o′ c) → marks-of o n ≡ marks-of o′ n
+pub marks-ext : (o o′ : ℕ → Bool) (n : ℕ) → ((c : ℕ) → c < n → o c ≡ o′ c) → marks-of o n ≡ marks-of o′ n
 unfolding marks-of
 marks-ext o o′ n h = list-of-ext _ _ n (λ c l. ap (λ (b : Bool). cond b 1 0) (h c l))
 

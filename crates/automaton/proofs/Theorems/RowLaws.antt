@@ -11,6 +11,7 @@ use lib.ListN.{length, getD, set, length-set}
 use lib.Dec.{eqb}
 use borrow.Author.Tests.{eqb-true, eqb-false}
 use lib.Seq.{getD-set-same, getD-set-other, ext-getD}
+use Rattle.value.proofs.Theorems.Truth.{or-true, or-no}
 use Rattle.automaton.specs.Listed.{list-of}
 use Rattle.automaton.specs.Contracts.ListedLaws.{length-list-of, getD-list-of, last-or-below}
 use Rattle.automaton.specs.Step.{how-many, non-zero}
@@ -26,14 +27,6 @@ count-split p m zero = ap (how-many p) (add-zero m) ∙ sym (add-zero (how-many 
 count-split p m (suc k) =
     ap (how-many p) (add-suc m k) ∙ ap (λ (x : ℕ). x + cond (p (m + k)) 1 0) (count-split p m k) ∙ add-assoc (how-many p m) (how-many (λ i. p (m + i)) k) (cond (p (m + k)) 1 0)
 
-or-yes : (b : Bool) → (b || true) ≡ true
-or-yes true = refl
-or-yes false = refl
-
-or-no : (b : Bool) → (b || false) ≡ b
-or-no true = refl
-or-no false = refl
-
 -- some pass it exactly if their number is not 0
 count-some : (p : ℕ → Bool) (n : ℕ) → non-zero (how-many p n) ≡ some-below p n
 unfolding how-many some-below
@@ -41,7 +34,7 @@ count-some p zero = refl
 count-some p (suc n) = by (p n) (how-many p n) (count-some p n)
   where
     by : (b : Bool) (x : ℕ) → non-zero x ≡ some-below p n → non-zero (x + cond b 1 0) ≡ (some-below p n || b)
-    by true x h = ap non-zero (let e : x + 1 ≡ suc x = omega arith in e) ∙ sym (or-yes (some-below p n))
+    by true x h = ap non-zero (let e : x + 1 ≡ suc x = omega arith in e) ∙ sym (or-true (some-below p n))
     by false x h = ap non-zero (add-zero x) ∙ h ∙ sym (or-no (some-below p n))
 
 lowest-ext : (p q : ℕ → Bool) (n : ℕ) → ((c : ℕ) → c < n → p c ≡ q c) → lowest p n ≡ lowest q n

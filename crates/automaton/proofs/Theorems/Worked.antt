@@ -7,18 +7,18 @@ use mathlib.Core.Option.{some, none}
 use lib.IntN.{ℤ, pos, negsuc}
 use lib.ListN.{set}
 use Rattle.automaton.specs.Listed.{list-of}
-use Rattle.automaton.specs.Step.{state, fault, no-fault, fault-at, Automaton, first-fault, how-many, any-of, marks-of, marked, Quiet, every-cell, Blocks, step-of, quiet-outcome, quiet-step, changed, touched, open-in, run-of, open-count, full-count, quiet-run}
+use Rattle.automaton.specs.Step.{result, fault, no-fault, fault-at, Automaton, first-fault, how-many, any-of, marks-of, marked, Quiet, every-cell, Blocks, step-of, quiet-outcome, quiet-step, changed, touched, open-in, run-of, open-count, full-count, quiet-run}
 use Rattle.automaton.proofs.Theorems.Blocks.{no-blocks}
 use Rattle.automaton.specs.Shape.{neighbour, box-indices, reach-of, Bound}
-use Rattle.automaton.specs.Grid.{cell-of, grid-of, Rule, automaton}
+use Rattle.automaton.specs.Grid.{cell-of, grid-of, CellRule, automaton}
 use Rattle.automaton.proofs.Theorems.Blocks.{Block, blocks-of}
 use Rattle.automaton.specs.Bands.{Band, runs-on, accepts, plannable, longest, plan-of, part-step, band-outcome, band-step}
 use Rattle.automaton.specs.Contracts.BandSteps.{rows-lent, bands-of, step-under}
 use Rattle.automaton.specs.Rows.{has-zero, counts-by, row-counts, in-rows, lowest, first-row}
 
 -- each cell gets its left neighbour's value, on five cells: `cell := [-1]`
-abbrev left : Rule
-left look t = state (look (negsuc 0 ∷ []))
+abbrev left : CellRule
+left look t = result (look (negsuc 0 ∷ []))
 
 abbrev shifting : Automaton (List ℤ) (List ℤ)
 shifting = automaton (5 ∷ []) 1 false (box-indices (record { back = 1; ahead = 0 } ∷ [])) left

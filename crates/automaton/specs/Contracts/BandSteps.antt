@@ -5,7 +5,7 @@ use lib.IntN.{ℤ, subℕ}
 use Rattle.value.specs.Worked.{wrap-of}
 use Rattle.automaton.specs.Step.{Fault, no-fault, fault-at, Step}
 use Rattle.automaton.specs.Shape.{product, Bound}
-use Rattle.automaton.specs.Grid.{cell-of, grid-of, Rule}
+use Rattle.automaton.specs.Grid.{cell-of, grid-of, CellRule}
 use Rattle.automaton.specs.Bands.{Band, band-step, rows-in, rows-with}
 
 -- What m cells and those behind them give together: a fault is counted from the first cell, and what stands behind it is not evaluated.
@@ -28,7 +28,7 @@ unfoldable pub rows-lent : List ℕ → ℕ → (n count back first : ℕ) → L
 rows-lent ns fields n count back first g =
     grid-of fields (count * product ns) (λ c. cell-of fields g (wrap-of first (subℕ (c / product ns) back) n * product ns + c % product ns))
 
-module _ (ns : List ℕ) (fields : ℕ) (rule : Rule) where
+module _ (ns : List ℕ) (fields : ℕ) (rule : CellRule) where
   -- The call of one band.
   abbrev pub band-of : (n : ℕ) → Bound → List ℤ → ℕ → Band → Step (List ℤ)
   band-of n edge g t b = band-step ns fields rule (rows-with edge b) (edge .back) (rows-in b) (rows-lent ns fields n (rows-with edge b) (edge .back) (b .first) g) t

@@ -43,6 +43,13 @@ abbrev pub Positive : List ℕ → Type 0
 Positive [] = Unit {0}
 Positive (n ∷ ns) = (0 < n) × Positive ns
 
+-- The sizes of a grid, or of a band's rows with its border rows: n of them, with at most so many cells, and so many entries for the fields.
+pub record Shaped (n fields most : ℕ) (sizes : List ℕ) (lent : ℕ) : Type 0 where
+  pub dims : length sizes ≡ n
+  pub positive : Positive sizes
+  pub cells : product sizes ≤ most
+  pub entries : product sizes * fields ≡ lent
+
 -- Two lists have one length: as many relative indices, or bounds, as dimensions.
 abbrev pub Alike : {A B : Type 0} → List A → List B → Type 0
 Alike [] [] = Unit {0}

@@ -6,6 +6,7 @@ use Prim.Native.Nat.{ℕ, suc}
 use Prim.Native.String.{String}
 use lib.Dec.{eqb}
 use lib.IntN.{ℤ, pos, negsuc}
+use Rattle.value.proofs.Theorems.Truth.{failing}
 use Rattle.automaton.specs.Grid.{differ}
 use Rattle.automaton.specs.Bands
 use Rattle.token.specs.Bytes.{as-bytes}
@@ -29,10 +30,6 @@ holds (calls source sizes first last held rows room time number place cell count
     eqb (r .number) number && eqb (r .place) place && eqb (r .cell) cell && eqb (r .count) count && not (differ (r .grid) left)
 
 -- the numbers, from n on, of the cases that do not hold
-unfoldable failing : ℕ → List Case → List ℕ
-failing n [] = []
-failing n (c ∷ cs) = elim (holds c) [ true ↦ failing (suc n) cs | false ↦ n ∷ failing (suc n) cs ]
-
 -- numbers
 abbrev of : List ℕ → List ℤ
 of [] = []
@@ -83,6 +80,6 @@ cases =
     ∷ []
 
 -- none fails
-cases-hold : failing 1 cases ≡ []
+cases-hold : failing holds 1 cases ≡ []
 unfolding cases failing holds
 cases-hold = refl

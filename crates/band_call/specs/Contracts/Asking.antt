@@ -5,6 +5,7 @@ use mathlib.Core.List.{List}
 use Prim.Native.Nat.{ℕ, suc, _+_, _-_, _<_, _≤_}
 use lib.ListN.{length, getD}
 use lib.IntN.{ℤ, pos}
+use Rattle.value.specs.Limits.{most-dims, most-along, most-cells}
 use Rattle.automaton.specs.Shape.{product, Bound}
 use Rattle.automaton.specs.Bands.{Band}
 use Rattle.run_meaning.specs.Admission.{all-between, good-times}
@@ -13,9 +14,9 @@ use Rattle.band_call.specs.BandCall.{band-right, band-rooms}
 -- what `row_cells` asks
 pub record RowsDivide (sizes : List ℕ) : Type 0 where
   pub some-dims : 0 < length sizes
-  pub few-dims : length sizes ≤ 3
-  pub each-size : all-between 1 4096 sizes ≡ true
-  pub few-cells : product sizes ≤ 1048576
+  pub few-dims : length sizes ≤ most-dims
+  pub each-size : all-between 1 most-along sizes ≡ true
+  pub few-cells : product sizes ≤ most-cells
 
 -- the first of 60, 21 and 22 that holds, else 0
 abbrev pub band-number : Bool → Bool → Bool → ℕ

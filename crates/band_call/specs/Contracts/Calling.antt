@@ -5,17 +5,18 @@ use mathlib.Core.List.{List}
 use Prim.Native.Nat.{ℕ, suc, _+_, _-_, _*_, _<_, _≤_}
 use lib.ListN.{length, getD, drop}
 use lib.IntN.{ℤ}
+use Rattle.value.specs.Limits.{most-cells}
 use Rattle.automaton.specs.Step as automaton
 use Rattle.automaton.specs.Shape.{product, Bound}
 use Rattle.automaton.specs.Contracts.ShapeLaws.{Positive}
 use Rattle.automaton.specs.Bands.{Band, rows-in, rows-with, band-step}
 use Rattle.program.specs.Syntax.{Program}
+use Rattle.program.specs.declared.Rule.{Rule}
 use Rattle.grammar.specs.Checking.{words-after}
 use Rattle.grammar.specs.Contracts.Flat.{names-after}
-use Rattle.cell_meaning.specs.declared.Rule.{Rule}
 use Rattle.cell_meaning.specs.Evaluation.{evaluate}
 use Rattle.cell_meaning.specs.Contracts.Stands.{Holds}
-use Rattle.run_meaning.specs.Contracts.Fitting.{Sized}
+use Rattle.program.specs.Contracts.Fitting.{Sized}
 use Rattle.run_meaning.specs.Report as report
 use Rattle.run_calls.specs.Calls.{NameForm, SourceLent}
 use Rattle.run_steps.specs.declared.Report.{Report}
@@ -28,7 +29,7 @@ pub record LentFits (words : List ℕ) (rule : Rule) (sizes : List ℕ) (row : �
   pub dims : length sizes ≡ rule .dims
   pub some-dims : 0 < length sizes
   pub positive : Positive sizes
-  pub few-cells : product sizes ≤ 1048576
+  pub few-cells : product sizes ≤ most-cells
   pub row-is : row ≡ row-cells sizes
   pub order : b .first ≤ b .last
   pub inside : b .last < getD sizes 0 0

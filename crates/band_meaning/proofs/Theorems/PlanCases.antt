@@ -5,6 +5,7 @@ use mathlib.Core.List.{List, [], _∷_, _++_}
 use Prim.Native.Nat.{ℕ, suc}
 use Prim.Native.String.{String}
 use lib.Dec.{eqb}
+use Rattle.value.proofs.Theorems.Truth.{failing}
 use Rattle.automaton.specs.Bands
 use Rattle.token.specs.Bytes.{as-bytes, same}
 use Rattle.run_calls.proofs.Theorems.Cases
@@ -40,10 +41,6 @@ holds (tells source sizes number place before behind) =
     eqb (r .number) number && eqb (r .place) place && eqb (r .before) before && eqb (r .behind) behind
 
 -- the numbers, from n on, of the cases that do not hold
-unfoldable failing : ℕ → List Case → List ℕ
-failing n [] = []
-failing n (c ∷ cs) = elim (holds c) [ true ↦ failing (suc n) cs | false ↦ n ∷ failing (suc n) cs ]
-
 -- a source of one dimension, and one of two
 abbrev line : String → List ℕ
 line rest = as-bytes "1 dimensions of 0..9 " ++ as-bytes rest
@@ -124,6 +121,6 @@ cases =
     ∷ []
 
 -- none fails
-cases-hold : failing 1 cases ≡ []
+cases-hold : failing holds 1 cases ≡ []
 unfolding cases failing holds
 cases-hold = refl

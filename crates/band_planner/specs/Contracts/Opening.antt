@@ -4,6 +4,7 @@ use mathlib.Core.Bool.{Bool, true}
 use mathlib.Core.List.{List}
 use Prim.Native.Nat.{ℕ, _<_, _≤_}
 use lib.ListN.{length}
+use Rattle.value.specs.Limits.{most-along, most-cells}
 use Rattle.automaton.specs.Shape.{product}
 use Rattle.automaton.specs.Contracts.ShapeLaws.{Positive}
 use Rattle.program.specs.Syntax.{Program}
@@ -15,7 +16,7 @@ use Rattle.cell_meaning.specs.Written.{relatives-in, written-in}
 use Rattle.program.specs.Refusal.{refusal}
 use Rattle.run_meaning.specs.Admission.{all-between, good-sizes, too-far}
 use Rattle.run_meaning.proofs.Theorems.Locality.{Flagged}
-use Rattle.run_meaning.specs.Contracts.Fitting.{Sized}
+use Rattle.program.specs.Contracts.Fitting.{Sized}
 use Rattle.run_admission.specs.Contracts.Admitting.{Lists}
 use Rattle.band_meaning.specs.Edge.{edge}
 use Rattle.band_meaning.specs.OnSizes.{no-grid, on-grid, on-sizes}
@@ -34,15 +35,15 @@ pub record RowsOpen (fit : Bool) (source words sizes : List ℕ) (r : RowsOpened
   pub on : on-sizes sizes (read-source fit source) ≡ on-grid (read .program)
   pub holds : Holds words (r .rule) (read .program)
   pub lists : Lists words (r .rule) (relatives-in (read .program))
-  pub timed : read .program .timed ≡ r .timed
+  pub timed : read .program .timed ≡ r .rule .timed
   pub flagged : Flagged (read .program)
   pub rule-fits : Sized (length words) (r .rule)
   pub some-dims : 0 < r .rule .dims
   pub some-fields : 0 < r .rule .fields
   pub dims : length sizes ≡ r .rule .dims
   pub positive : Positive sizes
-  pub few-cells : product sizes ≤ 1048576
-  pub each-size : all-between 1 4096 sizes ≡ true
+  pub few-cells : product sizes ≤ most-cells
+  pub each-size : all-between 1 most-along sizes ≡ true
   pub sized : good-sizes (read .program) sizes ≡ true
   pub far : refusal (r .far) (r .at) ≡ too-far sizes (written-in (read .program))
   pub rows-are : r .rows ≡ rows sizes

@@ -6,6 +6,7 @@ use Prim.Native.Nat.{ℕ, suc}
 use lib.ListN.{length, replicate}
 use lib.Dec.{eqb}
 use lib.IntN.{ℤ, pos, negsuc}
+use Rattle.value.proofs.Theorems.Truth.{failing}
 use Rattle.automaton.specs.Grid.{differ}
 use Rattle.automaton.specs.Bands
 use Rattle.token.specs.Bytes.{as-bytes, same}
@@ -74,10 +75,6 @@ holds (runs q said counts began) =
     && not (differ (r .room) (replicate (q .room) (ended began)))
 
 -- the numbers, from n on, of the cases that do not hold
-unfoldable failing : ℕ → List Case → List ℕ
-failing n [] = []
-failing n (c ∷ cs) = elim (holds c) [ true ↦ failing (suc n) cs | false ↦ n ∷ failing (suc n) cs ]
-
 -- numbers
 abbrev of : List ℕ → List ℤ
 of [] = []
@@ -123,6 +120,6 @@ cases =
     ∷ []
 
 -- none fails
-cases-hold : failing 1 cases ≡ []
+cases-hold : failing holds 1 cases ≡ []
 unfolding cases failing holds
 cases-hold = refl

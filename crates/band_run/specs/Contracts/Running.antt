@@ -8,7 +8,7 @@ use lib.IntN.{ℤ}
 use Rattle.automaton.specs.Shape.{product, Bound}
 use Rattle.token.specs.Lexeme.{is-built-in}
 use Rattle.program.specs.Syntax.{Program}
-use Rattle.cell_meaning.specs.declared.Rule.{Rule}
+use Rattle.program.specs.declared.Rule.{Rule}
 use Rattle.run_meaning.specs.declared.Reach.{Reach}
 use Rattle.run_calls.specs.Calls.{NameForm, flat-names, Memory}
 use Rattle.band_meaning.specs.Edge.{edge}

@@ -8,14 +8,15 @@ use lib.Signed.{quotZ}
 use Rattle.value.specs.Number.{eqZ}
 use Rattle.value.specs.Worked.{value}
 use Rattle.value.specs.declared.Worked.the-variants.{Number, ZeroDivisor}
+use Rattle.automaton.specs.Step.{fault}
 use Rattle.token.specs.Kind.{operation}
-use Rattle.cell_meaning.specs.Operators.{placed, failed, apply-binary}
+use Rattle.cell_meaning.specs.Operators.{placed, apply-binary}
 
 -- `%` never gives 30; its value is in range (`remainder-in-range` in `value`)
-pub percent-never-30 : (at place : ℕ) (a b : ℤ) → placed at (apply-binary (operation .percent) a b) ≡ failed 30 place → ⊥
+pub percent-never-30 : (at place : ℕ) (a b : ℤ) → placed at (apply-binary (operation .percent) a b) ≡ fault 30 place → ⊥
 unfolding apply-binary
 percent-never-30 at place a b e = by (eqZ b (pos 0)) e
   where
-    by : (t : Bool) → placed at (cond t ZeroDivisor (Number (value (a -ℤ b *ℤ quotZ a b)))) ≡ failed 30 place → ⊥
+    by : (t : Bool) → placed at (cond t ZeroDivisor (Number (value (a -ℤ b *ℤ quotZ a b)))) ≡ fault 30 place → ⊥
     by true e = let y : _≡_ {A = ℕ} 31 30 = cc in omega arith
     by false e = let y : _≡_ {A = ℕ} 0 1 = cc in omega arith

@@ -14,7 +14,7 @@ use Rattle.value.specs.Worked.{decode-of, span-of}
 use Rattle.automaton.specs.Listed.{list-of}
 use Rattle.token.specs.Kind.{kind, keyword, operation, delimiter, level-of}
 use Rattle.program.specs.Syntax.{Range, range, Index, fixed, moving, Expr, number, time, variable, index, field, element, unary, binary, Target, to-field, to-variable, Clause, Block, empty, assign, select, loop, exit, constant, Program}
-use Rattle.cell_meaning.specs.declared.Rule.{Rule}
+use Rattle.program.specs.declared.Rule.{Rule}
 use Rattle.cell_meaning.specs.Links.{Table, begins, table-of}
 
 -- ---- the table
@@ -169,7 +169,7 @@ pub record ArmAt (t : Table) (c : Expr) (Part Rest : ℕ → Type 0) (at : ℕ) 
 
 -- a loop stands at its `forall`, with so many loops open around it
 pub record LoopAt (t : Table) (depth : ℕ) (r : Range) (Part : ℕ → Type 0) (at : ℕ) : Type 0 where
-  pub room : depth < most-open
+  pub shallow : depth < most-open
   pub few : span-of (r .low) (r .high) ≤ most-turns
   pub values : r ≡ range-in t (at + 1)
   pub part : Part (t .inner at)

@@ -4,16 +4,18 @@ use mathlib.Core.List.{List}
 use Prim.Native.Nat.{ℕ, _+_, _*_, _<_, _≤_}
 use lib.ListN.{length}
 use lib.IntN.{ℤ}
-use Rattle.value.specs.Limits.{most-open}
+use Rattle.value.specs.Limits.{most-tokens, most-names, most-open, most-dims, most-fields}
+use Rattle.value.specs.Contracts.Buffers.{most-room}
 use Rattle.value.specs.Choice.{if_then_else_}
 use Rattle.value.specs.Worked.{value}
 use Rattle.value.specs.declared.Value.{Value}
+use Rattle.automaton.specs.Step.{Outcome, result, fault}
 use Rattle.automaton.specs.Shape.{product, coordinates, neighbour}
-use Rattle.automaton.specs.Contracts.ShapeLaws.{Positive}
+use Rattle.automaton.specs.Contracts.ShapeLaws.{Shaped}
 use Rattle.automaton.specs.Grid.{cell-of}
 use Rattle.token.specs.Kind.{kind, delimiter}
 use Rattle.program.specs.Syntax.{Expr}
-use Rattle.cell_meaning.specs.Operators.{Worth, worth, failed, placed, apply-binary}
+use Rattle.cell_meaning.specs.Operators.{placed, apply-binary}
 use Rattle.cell_meaning.specs.Evaluation.{Env, eval}
 use Rattle.cell_meaning.specs.Contracts.Stands.{ranges-in, refers, is-unary, parsed, decode-expression, decode-operand, decode-primary, decode-name, decode-bracket}
 use Rattle.cell_meaning.specs.Links.{Table, table-of}
@@ -39,28 +41,26 @@ env-of words sizes grid site =
     }
 
 -- what evaluating a cell asks of its numbers, with so many loops open; nothing is asked of what the word table holds, but the leaf table must be its own
-pub record SiteReady (leaves words sizes place : List ℕ) (grid : List ℤ) (site : Site) (depth : ℕ) : Type 0 where
+pub record SiteReady (leaves words sizes point : List ℕ) (grid : List ℤ) (site : Site) (depth : ℕ) : Type 0 where
   pub table : 4 * site .tokens ≤ length words
-  pub tokens : site .tokens ≤ 4096
-  pub base : site .base ≤ 4096
-  pub fields : site .fields ≤ 8
-  pub slots : site .slots ≤ 256
+  pub tokens : site .tokens ≤ most-tokens
+  pub base : site .base ≤ most-tokens
+  pub fields : site .fields ≤ most-fields
+  pub slots : site .slots ≤ most-names
   pub time : site .time < 2147483648
-  pub dims : length sizes ≤ 3
-  pub positive : Positive sizes
-  pub cells : product sizes ≤ 4194304
+  pub dims : length sizes ≤ most-dims
+  pub shaped : Shaped (length sizes) (site .fields) most-room sizes (length grid)
   pub cell : site .cell < product sizes
-  pub own : place ≡ coordinates sizes (site .cell)
-  pub entries : product sizes * site .fields ≡ length grid
+  pub own : point ≡ coordinates sizes (site .cell)
   pub loops : depth ≤ most-open
   pub noted : Leaves leaves words sizes (site .tokens) (site .fields) (site .slots)
 
 -- ---- answers
 
 -- an evaluator's answer: a value with the position past the expression, or a fault
-abbrev pub told-of : Worth → ℕ → Told
-told-of (worth z) next = Found (value z) next
-told-of (failed number place) next = Failed number place
+abbrev pub told-of : Outcome ℤ → ℕ → Told
+told-of (result z) next = Found (value z) next
+told-of (fault number place) next = Failed number place
 
 -- an answer's position lies past `at` and not past the last token
 abbrev pub OperandOnward : ℕ → ℕ → Told → Type 0

@@ -1,19 +1,22 @@
 -- What the functions that run statements promise.
 use mathlib.Core.Path.{_≡_}
-use mathlib.Core.Bool.{true}
+use mathlib.Core.Bool.{Bool, true, false}
 use mathlib.Core.List.{List, [], _∷_, _++_}
 use mathlib.Core.Option.{Option, none, some}
-use Prim.Native.Nat.{ℕ, _+_, _*_, _<_, _≤_}
+use Prim.Native.Nat.{ℕ, _+_, _<_, _≤_}
 use lib.ListN.{length, getD, take}
 use lib.IntN.{ℤ}
+use Rattle.value.specs.Contracts.Buffers.{most-room}
+use Rattle.value.specs.Choice.{if_then_else_}
 use Rattle.value.specs.Worked.{span-of}
 use Rattle.automaton.specs.Step as Step
 use Rattle.automaton.specs.Shape.{product, coordinates, neighbour}
-use Rattle.automaton.specs.Contracts.ShapeLaws.{Positive}
+use Rattle.automaton.specs.Contracts.ShapeLaws.{Shaped}
 use Rattle.automaton.specs.Grid.{cell-of}
 use Rattle.program.specs.Syntax.{Range, no-range, Expr, Clause, Block, empty, assign, select, loop, exit, constant, Program}
-use Rattle.cell_meaning.specs.declared.Rule.{Rule}
-use Rattle.cell_meaning.specs.Evaluation.{Env, eval, Flow, on, leaving, faulted, Frame, frame, goes, onward, valued, store, conditional, assign-first, each, exec, evaluate}
+use Rattle.program.specs.declared.Rule.{Rule}
+use Rattle.program.specs.Contracts.Fitting.{Sized}
+use Rattle.cell_meaning.specs.Evaluation.{Env, bind, eval, Frame, frame, onward, store, met, assign-first, each, exec, evaluate}
 use Rattle.cell_meaning.specs.Contracts.Leaves.{Leaves}
 use Rattle.cell_meaning.specs.Contracts.Stands.{ExprAt, target-in, first-clause, ClausesAt, LoopAt, Stands, Choice, Holds}
 use Rattle.cell_meaning.specs.Links.{Table, begins}
@@ -26,15 +29,11 @@ use Rattle.cell_statements.specs.declared.assignment.Verdict.the-variant
 use Rattle.cell_statements.specs.declared.blocks.Chosen.{Chosen}
 use Rattle.cell_statements.specs.declared.blocks.Chosen.the-variants as Went
 
--- how statements go on
-abbrev pub flow-of : Going → Flow
-flow-of On = on
-flow-of Leaving = leaving
-flow-of (Faulted number place) = faulted number place
-
--- the frame that a function leaves
-abbrev pub left-by-exit : Going → List ℤ → List ℤ → Frame
-left-by-exit r vars next = frame (flow-of r) vars next
+-- what a function leaves: the frame, or the fault
+abbrev pub left-by-exit : Going → List ℤ → List ℤ → Step.Outcome Frame
+left-by-exit On vars next = Step.result (frame false vars next)
+left-by-exit Leaving vars next = Step.result (frame true vars next)
+left-by-exit (Faulted number place) vars next = Step.fault number place
 
 -- ---- assignments
 
@@ -43,37 +42,36 @@ field-range env f = getD (env .fields) f no-range
 
 -- a value is stored in the target of the assignment at `at`, behind the `:=` at `here`
 pub record Stores (t : Table) (env : Env) (at here : ℕ) (z : ℤ) (vars next vars′ next′ : List ℤ) (r : Going) : Type 0 where
-  pub says : left-by-exit r vars′ next′ ≡ store (env .fields) (target-in t at) (t .place here) (frame on vars next) z
+  pub says : left-by-exit r vars′ next′ ≡ store (env .fields) (target-in t at) (t .place here) (frame false vars next) z
 
 -- the clause at the `:=` at `here` is chosen
 pub record AssignsOne (t : Table) (env : Env) (vs : List ℤ) (at here : ℕ) (vars next vars′ next′ : List ℤ) (r : Going) : Type 0 where
   pub says : (e : Expr) (past : ℕ) → ExprAt t e (here + 1) past
-      → left-by-exit r vars′ next′ ≡ valued (eval env vars vs e) (frame on vars next) (store (env .fields) (target-in t at) (t .place here) (frame on vars next))
+      → left-by-exit r vars′ next′ ≡ bind (eval env vars vs e) (store (env .fields) (target-in t at) (t .place here) (frame false vars next))
 
 -- the condition of the clause at a `:=`
 abbrev pub ConditionAt : Table → Option Expr → ℕ → Type 0
 ConditionAt t none at = t .word2 at ≡ 0
 ConditionAt t (some e) at = (past : ℕ) × (t .word2 at ≡ 0 → ⊥) × ExprAt t e (t .inner at) past
 
--- what is done by what a condition says
-abbrev pub guarded : Verdict → (Frame → Frame) → (Frame → Frame) → Frame → Frame
-guarded Said.Holds f g fr = f fr
-guarded Said.Fails f g fr = g fr
-guarded (Said.Faulted number place) f g fr = goes (faulted number place) fr
+-- what is found of a condition
+abbrev pub guarded : Verdict → Step.Outcome Bool
+guarded Said.Holds = Step.result true
+guarded Said.Fails = Step.result false
+guarded (Said.Faulted number place) = Step.fault number place
 
 pub record Guards (t : Table) (env : Env) (vs : List ℤ) (here : ℕ) (vars : List ℤ) (r : Verdict) : Type 0 where
-  pub says : (o : Option Expr) → ConditionAt t o here → (f g : Frame → Frame) (next : List ℤ)
-      → conditional env vs o f g (frame on vars next) ≡ guarded r f g (frame on vars next)
+  pub says : (o : Option Expr) → ConditionAt t o here → met env vars vs o ≡ guarded r
   pub asked : r ≡ Said.Fails → t .word2 here ≡ 0 → ⊥
 
 pub record Assigns (t : Table) (env : Env) (vs : List ℤ) (at : ℕ) (vars next vars′ next′ : List ℤ) (r : Going) : Type 0 where
-  pub says : (cs : List Clause) → ClausesAt t cs (first-clause t at) → left-by-exit r vars′ next′ ≡ assign-first env vs (target-in t at) cs (frame on vars next)
+  pub says : (cs : List Clause) → ClausesAt t cs (first-clause t at) → left-by-exit r vars′ next′ ≡ assign-first env vs (target-in t at) cs (frame false vars next)
 
 -- ---- statements. `ix` are the values of index variables, of which the first `depth` belong to the open loops
 
 -- a list of statements
 pub record RunsBlock (t : Table) (env : Env) (depth at : ℕ) (vars next ix vars′ next′ ix′ : List ℤ) (r : Going) : Type 0 where
-  pub says : (b : Block) → Stands t depth b at → left-by-exit r vars′ next′ ≡ exec env (take depth ix) b (frame on vars next)
+  pub says : (b : Block) → Stands t depth b at → left-by-exit r vars′ next′ ≡ exec env (take depth ix) b (frame false vars next)
   pub kept : take depth ix′ ≡ take depth ix
 
 abbrev pub rest-after : Block → Block
@@ -87,14 +85,14 @@ rest-after (constant rest) = rest
 -- the first statement of a list
 pub record RunsStatement (t : Table) (env : Env) (depth at : ℕ) (vars next ix vars′ next′ ix′ : List ℤ) (r : Going) : Type 0 where
   pub says : begins (t .kind at) ≡ true → (b : Block) → Stands t depth b at
-      → exec env (take depth ix) b (frame on vars next) ≡ onward (left-by-exit r vars′ next′) (exec env (take depth ix) (rest-after b))
+      → exec env (take depth ix) b (frame false vars next) ≡ onward (left-by-exit r vars′ next′) (exec env (take depth ix) (rest-after b))
   pub kept : take depth ix′ ≡ take depth ix
 
 -- where a choice goes on: with statements that stand at a position, with nothing more, or with a fault
-abbrev pub LoopSettles : Table → Env → List ℤ → ℕ → Chosen → Frame → Frame → Type 0
+abbrev pub LoopSettles : Table → Env → List ℤ → ℕ → Chosen → Step.Outcome Frame → Frame → Type 0
 LoopSettles t env vs depth (Went.List m) x fr = (b : Block) × Stands t depth b m × (x ≡ exec env vs b fr)
-LoopSettles t env vs depth Went.Nothing x fr = x ≡ fr
-LoopSettles t env vs depth (Went.Faulted number place) x fr = x ≡ goes (faulted number place) fr
+LoopSettles t env vs depth Went.Nothing x fr = x ≡ Step.result fr
+LoopSettles t env vs depth (Went.Faulted number place) x fr = x ≡ Step.fault number place
 
 -- a list's position lies past `at` and not past the last token
 abbrev pub Forward : ℕ → ℕ → Chosen → Type 0
@@ -102,45 +100,40 @@ Forward at n (Went.List m) = (at < m) × (m ≤ n)
 Forward at n Went.Nothing = Unit {0}
 Forward at n (Went.Faulted number place) = Unit {0}
 
+-- what the choice by a condition comes to
+abbrev pub choice-outcome : Env → List ℤ → Expr → Block → Block → Frame → Step.Outcome Frame
+choice-outcome env vs c d e fr = bind (met env (fr .vars) vs (some c)) (λ t. if t then exec env vs d fr else exec env vs e fr)
+
 -- a choice
 pub record Chooses (t : Table) (env : Env) (vs : List ℤ) (depth n at : ℕ) (vars : List ℤ) (r : Chosen) : Type 0 where
   pub says : (c : Expr) (d e : Block) → Choice t depth c d e at → (next : List ℤ)
-      → LoopSettles t env vs depth r (conditional env vs (some c) (exec env vs d) (exec env vs e) (frame on vars next)) (frame on vars next)
+      → LoopSettles t env vs depth r (choice-outcome env vs c d e (frame false vars next)) (frame false vars next)
   pub onward : Forward at n r
 
-abbrev pub body-of : Env → List ℤ → Block → ℤ → Frame → Frame
+abbrev pub body-of : Env → List ℤ → Block → ℤ → Frame → Step.Outcome Frame
 body-of env vs d v = exec env (vs ++ (v ∷ [])) d
 
 -- a loop
 pub record RunsLoop (t : Table) (env : Env) (depth at : ℕ) (vars next ix vars′ next′ ix′ : List ℤ) (r : Going) : Type 0 where
   pub says : (values : Range) (d : Block) → LoopAt t depth values (λ i. Stands t (depth + 1) d i) at
-      → left-by-exit r vars′ next′ ≡ each (body-of env (take depth ix) d) (span-of (values .low) (values .high)) (values .low) (frame on vars next)
+      → left-by-exit r vars′ next′ ≡ each (body-of env (take depth ix) d) (span-of (values .low) (values .high)) (values .low) (frame false vars next)
   pub kept : take depth ix′ ≡ take depth ix
 
 -- ---- a cell
 
 -- what is asked of the numbers; nothing is asked of what the word table holds, but the leaf table must be its own. There are as many fields as entries in the memory lent for them
-pub record Fit (leaves words : List ℕ) (rule : Rule) (sizes place : List ℕ) (cell : ℕ) (grid : List ℤ) (fields time : ℕ) : Type 0 where
-  pub table : 4 * rule .tokens ≤ length words
-  pub tokens : rule .tokens ≤ 4096
-  pub base : rule .base ≤ 4096
-  pub body : rule .body ≤ rule .tokens
-  pub slots : rule .slots ≤ 256
-  pub most : rule .fields ≤ 8
+pub record Fit (leaves words : List ℕ) (rule : Rule) (sizes point : List ℕ) (cell : ℕ) (grid : List ℤ) (fields time : ℕ) : Type 0 where
+  pub rule-fits : Sized (length words) rule
+  pub shaped : Shaped (rule .dims) (rule .fields) most-room sizes (length grid)
   pub lent : rule .fields ≡ fields
   pub small : time < 2147483648
-  pub dims : length sizes ≡ rule .dims
-  pub few : rule .dims ≤ 3
-  pub positive : Positive sizes
-  pub cells : product sizes ≤ 4194304
   pub inside : cell < product sizes
-  pub own : place ≡ coordinates sizes cell
-  pub entries : product sizes * rule .fields ≡ length grid
+  pub own : point ≡ coordinates sizes cell
   pub noted : Leaves leaves words sizes (rule .tokens) (rule .fields) (rule .slots)
 
 -- the outcome of a cell whose next fields are left in `next`
 abbrev pub outcome-is : Outcome → List ℤ → Step.Outcome (List ℤ)
-outcome-is Done next = Step.state next
+outcome-is Done next = Step.result next
 outcome-is (Fault number place) next = Step.fault number place
 
 -- whichever program stands in the table, the outcome is what its evaluation gives

@@ -44,6 +44,3 @@ holds (writes sizes fields flag earlier later t room number len after) =
     eqb (w .number) number && eqb (w .length) len && same (w .room) after
 
 -- the numbers, from n on, of the cases that do not hold
-unfoldable pub failing : ℕ → List Case → List ℕ
-failing n [] = []
-failing n (c ∷ cs) = elim (holds c) [ true ↦ failing (suc n) cs | false ↦ n ∷ failing (suc n) cs ]

@@ -6,10 +6,11 @@ use Prim.Native.Nat.{ℕ, _*_}
 use Prim.Native.String.{String}
 use lib.ListN.{length, replicate}
 use lib.IntN.{ℤ, pos, negsuc}
+use Rattle.value.proofs.Theorems.Truth.{failing}
 use Rattle.token.specs.Bytes.{as-bytes}
 use Rattle.program.specs.Syntax.{range}
 use Rattle.list_meaning.specs.ListChecking.{Limits}
-use Rattle.list_meaning.proofs.Theorems.Cases.{Case, checks, sets, writes, failing, holds}
+use Rattle.list_meaning.proofs.Theorems.Cases.{Case, checks, sets, writes, holds}
 
 -- a grid of 2 by 4 cells with three fields, of ranges -9..9, 0..1 and 0..100, from time 3 to time 8
 abbrev pub plane : Option ℕ → Limits
@@ -95,6 +96,6 @@ worked-examples =
     ∷ []
 
 -- none fails
-pub all-hold : failing 1 worked-examples ≡ []
+pub all-hold : failing holds 1 worked-examples ≡ []
 unfolding worked-examples failing holds
 all-hold = refl

@@ -14,27 +14,24 @@ returns c =
 
 flag-of-requires : tie.Need-flag-of-requires
 flag-of-requires c κs =
-    let o = c .before .before in
-    let p = o .before in
+    let p = c .before .before .before in
     let s = p .before .before .before .before .before .before in
-    can-miss (s .load .ensures .0) (s .load .ensures .1) (p .if1 .left) (o .rule-of .ensures) (search (s .load .kept, needs))
+    can-miss (s .load .ensures .0) (s .load .ensures .1) (p .if1 .left) (search (s .load .kept, needs))
 
 write-loaded-requires : tie.Need-write-loaded-requires
 write-loaded-requires c κs =
-    let o = c .before .before .before .before .before in
-    let p = o .before in
+    let p = c .before .before .before .before .before .before in
     let s = p .before .before .before .before .before .before in
-    let a = source-read (s .load .ensures .0) (s .load .ensures .1) (not-false _ (p .if1 .left)) (o .rule-of .ensures) in (a .sized, a .some-fields)
+    let a = source-read (s .load .ensures .0) (s .load .ensures .1) (not-false _ (p .if1 .left)) in (a .sized, a .some-fields)
 
 returns-2 : tie.Need-returns-2
 returns-2 c =
     let o = c .before .before in
     let f = o .before .before .before in
-    let p = f .before .before .before in
-    let q = p .before in
+    let q = f .before .before .before .before in
     let l = q .before .before .before .before .before .before in
     let s = l .before .before .before .before .before .before .before .before in
-    read-written (s .fits .time) (source-written (l .load .ensures .0) (l .load .ensures .1) _ _ (q .if1 .left) (p .rule-of .ensures) (f .flag-of .ensures) (o .write-loaded .ensures))
+    read-written (s .fits .time) (source-written (l .load .ensures .0) (l .load .ensures .1) _ _ (q .if1 .left) (f .flag-of .ensures) (o .write-loaded .ensures))
 
 pub write-listed-spec : {M : Type 1} → statement M
 write-listed-spec =
@@ -44,7 +41,6 @@ write-listed-spec =
     (λ c. search needs)
     (λ c. search needs)
     returns
-    (λ c κs. search needs)
     flag-of-requires
     write-loaded-requires
     (λ c. search needs)

@@ -6,6 +6,7 @@ use mathlib.Core.Option.{Option}
 use Prim.Native.Nat.{ℕ, _*_, _≤_}
 use lib.ListN.{length}
 use lib.IntN.{ℤ}
+use Rattle.value.specs.Limits.{most-dims, most-cells, most-fields}
 use Rattle.automaton.specs.Shape.{product, coordinates}
 use Rattle.automaton.specs.Contracts.ShapeLaws.{Positive}
 use Rattle.automaton.specs.Grid.{cell-of, differ}
@@ -13,10 +14,10 @@ use Rattle.list_meaning.specs.Writing.{cell-line, shown}
 
 -- two grids of these sizes with so many fields
 pub record Grids (sizes : List ℕ) (fields : ℕ) (earlier later : List ℤ) : Type 0 where
-  pub dims : length sizes ≤ 3
+  pub dims : length sizes ≤ most-dims
   pub positive : Positive sizes
-  pub cells : product sizes ≤ 1048576
-  pub fields-few : fields ≤ 8
+  pub cells : product sizes ≤ most-cells
+  pub fields-few : fields ≤ most-fields
   pub earlier-entries : product sizes * fields ≡ length earlier
   pub later-entries : product sizes * fields ≡ length later
 

@@ -5,9 +5,9 @@ use mathlib.Core.List.{List}
 use mathlib.Core.Option.{Option}
 use Prim.Native.Nat.{ℕ}
 use Rattle.program.specs.Syntax.{Program}
+use Rattle.program.specs.declared.Rule.{Rule}
 use Rattle.grammar.specs.Checking.{words-after}
 use Rattle.grammar.specs.Contracts.Flat.{names-after}
-use Rattle.cell_meaning.specs.declared.Rule.{Rule}
 use Rattle.cell_meaning.specs.Contracts.Stands.{Holds}
 use Rattle.cell_meaning.specs.Written.{relatives-in}
 use Rattle.run_calls.specs.Calls.{NameForm, SourceLent}

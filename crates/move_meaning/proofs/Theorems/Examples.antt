@@ -5,6 +5,7 @@ use mathlib.Core.List.{List, [], _∷_, _++_}
 use Prim.Native.Nat.{ℕ, suc}
 use Prim.Native.String.{String}
 use lib.Dec.{eqb}
+use Rattle.value.proofs.Theorems.Truth.{failing}
 use Rattle.token.specs.Bytes
 use Rattle.token.specs.Kind
 use Rattle.token.specs.Lexeme
@@ -63,10 +64,6 @@ unfolding Bytes.member Bytes.same Bytes.kind-of Bytes.fold Kind.level-of Lexeme.
     last-statement moves-once read-head profile-flag one-move
 holds c = let a = one-move true (c .source) in eqb (a .rule) (c .rule) && eqb (a .number) (c .number) && eqb (a .place) (c .place)
 
-unfoldable pub failing : ℕ → List Case → List ℕ
-failing n [] = []
-failing n (c ∷ cs) = elim (holds c) [ true ↦ failing (suc n) cs | false ↦ n ∷ failing (suc n) cs ]
-
 unfoldable pub examples : List Case
 examples =
     -- in the profile
@@ -109,6 +106,6 @@ examples =
     ∷ []
 
 -- none fails
-pub all-hold : failing 1 examples ≡ []
+pub all-hold : failing holds 1 examples ≡ []
 unfolding examples failing holds
 all-hold = refl

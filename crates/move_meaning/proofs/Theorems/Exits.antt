@@ -15,7 +15,8 @@ use Rattle.grammar.specs.Reader.{Input, State, ok, Reader, _>>=_, _>>_, _<<_, _
 use Rattle.grammar.specs.Expressions.{Cell, read-expression}
 use Rattle.grammar.specs.Statements.{Arm, choices, arm-end, arm-turn, read-if, read-forall, read-exit, read-assignment, Parts, put-after, statement-turn, read-block}
 use Rattle.grammar.specs.Source.{input-of, Accepted, accepted-as, parse}
-use Rattle.read_links.proofs.Theorems.Steps.{Gives, bind, made, gave, choose, refused, repeated, Turned, given-as, at-token}
+use Rattle.grammar.proofs.Theorems.Ends.{Gives, bind}
+use Rattle.read_links.proofs.Theorems.Steps.{made, gave, choose, refused, repeated, Turned, given-as, at-token}
 use Rattle.read_links.proofs.Theorems.Accepted.{Parsed, parsed}
 use Rattle.move_meaning.proofs.Theorems.Moving.{Enclosed}
 
@@ -76,10 +77,10 @@ module _ (input : Input) (cell : Cell) where
       bind (reads t) (λ b _ e. bind (anything _) (λ past _ _. bind (anything _) (λ _ u _.
       arm-end-adds d block reads got _ (arms-more d got _ h e) s u)))))))
 
-  if-adds : (d : ℕ) (room : Bool) (expr : Reader Expr) (block : Reader Block) → Reads d block → (s : State) → Gives input (read-if room expr block) s (λ f _. Adds d f)
+  if-adds : (d : ℕ) (free : Bool) (expr : Reader Expr) (block : Reader Block) → Reads d block → (s : State) → Gives input (read-if free expr block) s (λ f _. Adds d f)
   unfolding read-if
-  if-adds d room expr block reads s =
-      choose room
+  if-adds d free expr block reads s =
+      choose free
       (λ _.
       bind (anything _) (λ i t _.
       bind (repeated (arm-turn expr block) (λ got s h. arm-turn-adds d expr block reads got s h) turns [] t tt) (λ statement _ h.
@@ -88,9 +89,9 @@ module _ (input : Input) (cell : Cell) where
 
   -- ---- loops
 
-  forall-adds : (d : ℕ) (room : Bool) (block : Reader Block) → Reads (d + 1) block → (s : State) → Gives input (read-forall room d block) s (λ f _. Adds d f)
+  forall-adds : (d : ℕ) (free : Bool) (block : Reader Block) → Reads (d + 1) block → (s : State) → Gives input (read-forall free d block) s (λ f _. Adds d f)
   unfolding read-forall
-  forall-adds d room block reads s =
+  forall-adds d free block reads s =
       bind (anything _) (λ i _ _. bind (anything _) (λ _ _ _. bind (anything _) (λ name _ _. bind (anything _) (λ _ _ _. bind (anything _) (λ r _ _.
       bind (anything _) (λ _ _ _. bind (anything _) (λ slot _ _. bind (anything _) (λ inner t _.
       bind (reads t) (λ b _ e. bind (anything _) (λ _ _ _. bind (anything _) (λ _ _ _. bind (anything _) (λ past _ _. bind (anything _) (λ _ _ _.
@@ -111,9 +112,9 @@ module _ (input : Input) (cell : Cell) where
       (λ _.
       choose (is-kind (token-of input s (s .at)) (keyword .const)) (λ _. made _ (anything _) (λ _ t _. more constant (λ rest r. r)))
       (λ _.
-      choose (is-kind (token-of input s (s .at)) (keyword .if)) (λ _. made _ (if-adds loops (parts .room) (parts .inner-expr) (parts .inner loops) (reads .inner-if) s) (λ f t q. more f q))
+      choose (is-kind (token-of input s (s .at)) (keyword .if)) (λ _. made _ (if-adds loops (parts .free) (parts .inner-expr) (parts .inner loops) (reads .inner-if) s) (λ f t q. more f q))
       (λ _.
-      choose (is-kind (token-of input s (s .at)) (keyword .forall)) (λ _. made _ (forall-adds loops (parts .room) (parts .inner (loops + 1)) (reads .inner-loop) s) (λ f t q. more f q))
+      choose (is-kind (token-of input s (s .at)) (keyword .forall)) (λ _. made _ (forall-adds loops (parts .free) (parts .inner (loops + 1)) (reads .inner-loop) s) (λ f t q. more f q))
       (λ _.
       choose (is-kind (token-of input s (s .at)) (keyword .exit) && ltb 0 loops)
       (λ q. made _ (exit-adds loops (ltb-true 0 loops (and-both (is-kind (token-of input s (s .at)) (keyword .exit)) (ltb 0 loops) q .1)) s) (λ f t q. more f q))
@@ -122,14 +123,14 @@ module _ (input : Input) (cell : Cell) where
       more : (f : Block → Block) → Adds loops f → Adds loops (λ after. before (f after)) × ((b : Block) (u : State) → Enclosed loops b → Enclosed loops b)
       more f q = (λ rest r. h (f rest) (q rest r), λ b u e. e)
 
-  pub block-enclosed : (room loops : ℕ) → Reads loops (read-block cell room loops)
+  pub block-enclosed : (free loops : ℕ) → Reads loops (read-block cell free loops)
   unfolding read-block
   block-enclosed zero loops s =
       repeated _ (turn-adds loops _ (record { inner-if = λ s. refused 14; inner-loop = λ s. refused 14 })) turns (λ after. after) s (λ rest h. h)
-  block-enclosed (suc room) loops s =
-      repeated _ (turn-adds loops _ (record { inner-if = block-enclosed room loops; inner-loop = block-enclosed room (loops + 1) })) turns (λ after. after) s (λ rest h. h)
+  block-enclosed (suc free) loops s =
+      repeated _ (turn-adds loops _ (record { inner-if = block-enclosed free loops; inner-loop = block-enclosed free (loops + 1) })) turns (λ after. after) s (λ rest h. h)
 
 pub enclosed : (source : List ℕ) → length source ≤ 65535 → (a : Accepted) → parse source ≡ ok a → Enclosed 0 (a .program .body)
 enclosed source short a e =
     let p = parsed source short a e in
-    subst (λ (z : Accepted). Enclosed 0 (z .program .body)) (sym (p .is)) (block-enclosed (input-of source) (p .declaration .cell) most-open 0 (p .s₂) .is (p .body) (p .s₃) (p .block))
+    subst (λ (z : Accepted). Enclosed 0 (z .program .body)) (sym (p .is)) (block-enclosed (input-of source) (p .trace .declaration .cell) most-open 0 (p .trace .s₂) .is (p .trace .body) (p .trace .s₃) (p .trace .block))

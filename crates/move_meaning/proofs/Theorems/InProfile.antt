@@ -74,9 +74,9 @@ flag-found source a f h = go (moved-slot source (a .names)) h
 -- ---- rule 3
 
 -- the first statement stands where reading comes to it
-pub head-at : (source : List ℕ) (a : Accepted) (p : Parsed source a) → statements-at source ≡ p .s₂ .at
+pub head-at : (source : List ℕ) (a : Accepted) (p : Parsed source a) → statements-at source ≡ p .trace .s₂ .at
 unfolding read-head _>>=_ position
-head-at source a p = rw (p .constants, p .cell) refl
+head-at source a p = rw (p .trace .constants, p .trace .cell) refl
 
 no-kind : (words : List ℕ) (n : ℕ) → word-in words n 0 n ≡ 0
 unfolding word-in

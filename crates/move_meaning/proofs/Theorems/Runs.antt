@@ -14,13 +14,13 @@ use lib.IntN.{ℤ, pos}
 use Rattle.value.proofs.Theorems.Laws.{never}
 use Rattle.automaton.specs.Listed.{list-of}
 use Rattle.automaton.specs.Contracts.ListedLaws.{length-list-of, getD-list-of, list-of-ext}
-use Rattle.automaton.specs.Step.{Outcome, state, fault, Fault, no-fault, fault-at, fault-of, state-or, first-fault, Automaton, Step, Run, one-more, grid-after, step-of, run-of}
+use Rattle.automaton.specs.Step.{Outcome, result, fault, Fault, no-fault, fault-at, fault-of, state-or, first-fault, Automaton, Step, Run, one-more, grid-after, step-of, run-of}
 use Rattle.automaton.proofs.Theorems.Blocks.{no-blocks}
 use Rattle.automaton.proofs.Theorems.Quiet.{first-fault-none, run-go, run-stop}
 use Rattle.automaton.specs.Shape.{product, neighbour}
 use Rattle.automaton.specs.Contracts.ShapeLaws.{Positive, neighbour-zeros}
 use Rattle.automaton.specs.Grid.{cell-of, grid-of, automaton}
-use Rattle.automaton.proofs.Theorems.GridLaws.{cell-of-grid-of, some-field}
+use Rattle.automaton.proofs.Theorems.GridLaws.{cell-of-grid-of, some-field, cell-length}
 use Rattle.program.specs.Syntax.{Range, range, no-range, Program}
 use Rattle.cell_meaning.specs.Evaluation.{entry, evaluate}
 use Rattle.cell_meaning.specs.Places.{own-place}
@@ -28,10 +28,6 @@ use Rattle.run_meaning.specs.Reach.{reach, running}
 use Rattle.cell_meaning.proofs.Theorems.Kept.{evaluate-keeps}
 use Rattle.run_meaning.proofs.Theorems.Locality.{own-zeros}
 use Rattle.move_meaning.proofs.Theorems.Moving.{OneMove, still, moved}
-
-cell-length : (fields : ℕ) (g : List ℤ) (c : ℕ) → length (cell-of fields g c) ≡ fields
-unfolding cell-of
-cell-length fields g c = length-list-of _ fields
 
 -- a grid is that of its cells' fields
 grid-same : (fields cells : ℕ) (g : List ℤ) → length g ≡ cells * fields → grid-of fields cells (cell-of fields g) ≡ g
@@ -44,12 +40,12 @@ grid-same fields cells g e = ext-getD (pos 0) _ g (length-list-of _ (cells * fie
         ∙ getD-list-of _ fields (i % fields) (pos 0) (mod-lt i (some-field cells fields i l))
         ∙ ap (λ (x : ℕ). getD g x (pos 0)) (div-add-mod' i fields)
 
-no-fault-state : {S : Type 0} (c : ℕ) (o : Outcome S) → fault-of c o ≡ no-fault → (a : S) × (o ≡ state a)
-no-fault-state c (state a) e = (a, refl)
+no-fault-state : {S : Type 0} (c : ℕ) (o : Outcome S) → fault-of c o ≡ no-fault → (a : S) × (o ≡ result a)
+no-fault-state c (result a) e = (a, refl)
 no-fault-state c (fault k q) e = absurd (let z : _≡_ {A = ℕ} 0 1 = cc in omega arith)
 
 -- no fault where every cell has a state
-all-states : {S : Type 0} (f : ℕ → Outcome S) (s : ℕ → S) (n : ℕ) → ((c : ℕ) → c < n → f c ≡ state (s c)) → first-fault f n ≡ no-fault
+all-states : {S : Type 0} (f : ℕ → Outcome S) (s : ℕ → S) (n : ℕ) → ((c : ℕ) → c < n → f c ≡ result (s c)) → first-fault f n ≡ no-fault
 unfolding first-fault
 all-states f s zero h = refl
 all-states f s (suc n) h = rw (all-states f s n (λ c l. h c (omega arith)), h n (le-refl (suc n))) refl
@@ -68,14 +64,14 @@ module _ (f : ℕ) (p : Program) (h : OneMove f p) (sizes : List ℕ) (dims : le
       (ap (λ (n : ℕ). neighbour sizes c (own-place n)) (sym dims) ∙ ap (neighbour sizes c) (own-zeros sizes) ∙ neighbour-zeros sizes c positive l)
 
   -- what evaluating the cell c gives
-  abbrev result : List ℤ → ℕ → ℕ → Outcome (List ℤ)
-  result g t c = evaluate p (λ ds. cell-of (length (p .fields)) g (neighbour sizes c ds)) t
+  abbrev gives : List ℤ → ℕ → ℕ → Outcome (List ℤ)
+  gives g t c = evaluate p (λ ds. cell-of (length (p .fields)) g (neighbour sizes c ds)) t
 
   -- a cell whose flag is not 0 keeps its fields, and does not fault
-  pub keeps : (g : List ℤ) (t c : ℕ) → c < product sizes → (flag g c ≡ pos 0 → ⊥) → result g t c ≡ state (cell-of (length (p .fields)) g c)
+  pub keeps : (g : List ℤ) (t c : ℕ) → c < product sizes → (flag g c ≡ pos 0 → ⊥) → gives g t c ≡ result (cell-of (length (p .fields)) g c)
   keeps g t c l set =
       still f p h (λ ds. cell-of (length (p .fields)) g (neighbour sizes c ds)) t (λ e. set (ap (λ (a : List ℤ). entry a f) (sym (own-cell g c l)) ∙ e))
-      ∙ ap (λ (a : List ℤ). state a) (own-cell g c l)
+      ∙ ap (λ (a : List ℤ). result a) (own-cell g c l)
 
   -- every flag is 0 or 1
   abbrev pub Flags : List ℤ → Type 0
@@ -94,12 +90,12 @@ module _ (f : ℕ) (p : Program) (h : OneMove f p) (sizes : List ℕ) (dims : le
 
   -- what a completed step gives a cell
   stepped : (g : List ℤ) (t : ℕ) → step-of M g t .fault ≡ no-fault → (c : ℕ) → c < product sizes
-      → result g t c ≡ state (cell-of (length (p .fields)) (step-of M g t .grid) c)
+      → gives g t c ≡ result (cell-of (length (p .fields)) (step-of M g t .grid) c)
   unfolding step-of running automaton
   stepped g t e c l =
       let fields : ℕ = length (p .fields) in
-      let r = no-fault-state c (result g t c) (first-fault-none (M .next g t) (product sizes) e c l) in
-      let s : ℕ → List ℤ = λ x. state-or (cell-of fields g x) (result g t x) in
+      let r = no-fault-state c (gives g t c) (first-fault-none (M .next g t) (product sizes) e c l) in
+      let s : ℕ → List ℤ = λ x. state-or (cell-of fields g x) (gives g t x) in
       let is : s c ≡ r .0 = ap (state-or (cell-of fields g c)) (r .1) in
       let sized : length (s c) ≡ fields =
       ap length is
@@ -107,7 +103,7 @@ module _ (f : ℕ) (p : Program) (h : OneMove f p) (sizes : List ℕ) (dims : le
       (cell-length fields g _) (r .1)
       in
       r .1
-      ∙ ap (λ (a : List ℤ). state a)
+      ∙ ap (λ (a : List ℤ). result a)
       (sym (ap (λ (x : Fault). cell-of fields (grid-after M x g (M .next g t)) c) e ∙ cell-of-grid-of fields (product sizes) s c sized l ∙ is))
 
   -- its flag is 1 after it, if it was 0 or 1 before
@@ -119,11 +115,11 @@ module _ (f : ℕ) (p : Program) (h : OneMove f p) (sizes : List ℕ) (dims : le
           moved f p h (λ ds. cell-of (length (p .fields)) g (neighbour sizes c ds)) t (cell-length (length (p .fields)) g _)
           (ap (λ (a : List ℤ). entry a f) (own-cell g c l) ∙ clear) _ (stepped g t e c l)
       go (inr set) =
-          let same : state (cell-of (length (p .fields)) (step-of M g t .grid) c) ≡ state (cell-of (length (p .fields)) g c) =
+          let same : result (cell-of (length (p .fields)) (step-of M g t .grid) c) ≡ result (cell-of (length (p .fields)) g c) =
           sym (stepped g t e c l) ∙ keeps g t c l (one-not-zero (flag g c) set)
           in ap (λ (a : List ℤ). entry a f) (inside same) ∙ set
         where
-          inside : {a b : List ℤ} → state a ≡ state b → a ≡ b
+          inside : {a b : List ℤ} → result a ≡ result b → a ≡ b
           inside q = cc
 
   -- where every flag is 1, a step completes and changes nothing
@@ -135,13 +131,13 @@ module _ (f : ℕ) (p : Program) (h : OneMove f p) (sizes : List ℕ) (dims : le
       fields : ℕ
       fields = length (p .fields)
 
-      each : (c : ℕ) → c < product sizes → result g t c ≡ state (cell-of fields g c)
+      each : (c : ℕ) → c < product sizes → gives g t c ≡ result (cell-of fields g c)
       each c l = keeps g t c l (one-not-zero (flag g c) (all c l))
 
       none-faults : first-fault (M .next g t) (product sizes) ≡ no-fault
       none-faults = all-states (M .next g t) (cell-of fields g) (product sizes) each
 
-      same : grid-of fields (product sizes) (λ c. state-or (cell-of fields g c) (result g t c)) ≡ grid-of fields (product sizes) (cell-of fields g)
+      same : grid-of fields (product sizes) (λ c. state-or (cell-of fields g c) (gives g t c)) ≡ grid-of fields (product sizes) (cell-of fields g)
       same =
           list-of-ext _ _ (product sizes * fields)
           (λ i l. ap (λ (a : List ℤ). getD a (i % fields) (pos 0)) (ap (state-or (cell-of fields g (i / fields))) (each (i / fields) (div-lt-iff-lt-mul (some-field (product sizes) fields i l) .1 l))))
@@ -171,7 +167,7 @@ module _ (f : ℕ) (p : Program) (h : OneMove f p) (sizes : List ℕ) (dims : le
       → cell-of (length (p .fields)) (step-of M g t .grid) c ≡ cell-of (length (p .fields)) g c
   kept-by-step g t e c l set = inside (sym (stepped g t e c l) ∙ keeps g t c l (one-not-zero (flag g c) set))
     where
-      inside : {a b : List ℤ} → state a ≡ state b → a ≡ b
+      inside : {a b : List ℤ} → result a ≡ result b → a ≡ b
       inside q = cc
 
   -- ---- a run, with blocks
@@ -261,7 +257,7 @@ module _ (f : ℕ) (p : Program) (h : OneMove f p) (sizes : List ℕ) (dims : le
 
       -- so that the cell does not change in any later step, and does not fault
       pub never-changes : (k m t : ℕ) (g b b′ : List ℤ) → k ≤ m → before k t g ≡ some b → before m t g ≡ some b′ → (c : ℕ) → c < product sizes
-          → flag b c ≡ pos 1 → result b′ (t + m) c ≡ state (cell-of (length (p .fields)) b′ c)
+          → flag b c ≡ pos 1 → gives b′ (t + m) c ≡ result (cell-of (length (p .fields)) b′ c)
       never-changes k m t g b b′ q e e′ c l set =
           keeps b′ (t + m) c l (one-not-zero (flag b′ c) (flag-later k m t g b b′ q e e′ c l set))
 

@@ -10,7 +10,7 @@ use Rattle.names.specs.declared.Entry.{Entry}
 use Rattle.names.specs.declared.Found.{Found}
 use Rattle.names.specs.Names.{is-field, entry-at, letters}
 use Rattle.names.specs.Contracts.Finding.{found-of, Below}
-use Rattle.cell_meaning.specs.declared.Rule.{Rule}
+use Rattle.program.specs.declared.Rule.{Rule}
 use Rattle.cell_meaning.specs.Contracts.Stands.{range-in, rule-table, ranges-in}
 use Rattle.cell_meaning.specs.Links.{table-of}
 use Rattle.move_meaning.specs.Profile.{moved-slot, is-flag, flag-in}

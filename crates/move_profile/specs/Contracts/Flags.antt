@@ -3,10 +3,10 @@ use mathlib.Core.Path.{_≡_}
 use mathlib.Core.Bool.{Bool}
 use mathlib.Core.List.{List}
 use Prim.Native.Nat.{ℕ}
+use Rattle.program.specs.declared.Rule.{Rule}
 use Rattle.grammar.specs.Source.{Accepted}
 use Rattle.grammar.specs.Checking.{words-after}
 use Rattle.grammar.specs.Contracts.Flat.{names-after}
-use Rattle.cell_meaning.specs.declared.Rule.{Rule}
 use Rattle.move_meaning.specs.Profile.{flag-field, profile-flag, rule-missed, missed, one-move}
 use Rattle.move_meaning.specs.Contracts.Flags.{flag-told}
 use Rattle.move_profile.specs.declared.Profile.{Profile}

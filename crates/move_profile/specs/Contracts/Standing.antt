@@ -4,15 +4,10 @@ use mathlib.Core.List.{List}
 use Prim.Native.Nat.{ℕ}
 use lib.ListN.{length}
 use Rattle.token.specs.Scanning.{scan}
+use Rattle.program.specs.declared.Rule.{Rule}
 use Rattle.grammar.specs.Source.{Accepted}
-use Rattle.cell_meaning.specs.declared.Rule.{Rule}
 use Rattle.cell_meaning.specs.Contracts.Stands.{Holds}
-use Rattle.read_source.specs.declared.checking.Outline.{Outline}
 use Rattle.move_meaning.specs.Profile.{statements-at}
-
--- the rule of an outline
-abbrev pub rule-in : Outline → Rule
-rule-in o = record { tokens = o .tokens; base = o .base; body = o .body; dims = o .dims; fields = o .fields; slots = o .slots }
 
 -- its words and names stand in the word table and the name list, and these are the numbers of its rule
 pub record Stood (source words names : List ℕ) (rule : Rule) (a : Accepted) : Type 0 where

@@ -10,7 +10,7 @@ use lib.Dec.{eqb, leb}
 use lib.IntN.{ℤ, pos, natAbs}
 use borrow.Author.Tests.{eqb-true}
 use Rattle.value.proofs.Theorems.Laws.{and-both}
-use Rattle.automaton.specs.Step.{state, Fault, no-fault, fault-at, Automaton, Blocks, Run, step-of, run-of}
+use Rattle.automaton.specs.Step.{result, Fault, no-fault, fault-at, Automaton, Blocks, Run, step-of, run-of}
 use Rattle.automaton.proofs.Theorems.Quiet.{run-go, run-stop}
 use Rattle.automaton.specs.Grid.{automaton}
 use Rattle.automaton.specs.Shape.{product}

@@ -59,7 +59,7 @@ returns-3 c =
     record {
       gives =
           on _ (array-head .ensures .gives) (r .given .1)
-          (λ z e. rw (word-of (r .given .0 .0 .word) e (omega (arith, known-told .given)))
+          (λ z e. rw (word-of (r .given .0 .0 .value) e (omega (arith, known-told .given)))
           (on _ (expect .ensures .gives _ _) (q .given .1)
           (λ _ _. here _
           (off _ (read-values .ensures .gives) y))));
@@ -142,7 +142,7 @@ returns-4 c =
     record {
       gives =
           on _ (array-head .ensures .gives) (r .given .1)
-          (λ z e. rw (word-of (r .given .0 .0 .word) e (omega (arith, known-told .given)))
+          (λ z e. rw (word-of (r .given .0 .0 .value) e (omega (arith, known-told .given)))
           (on _ (expect .ensures .gives _ _) (q .given .1)
           (λ _ _. here _
           (on _ (read-values .ensures .gives) (p .given .1)

@@ -15,15 +15,15 @@ returns c =
     let token-at = c .before .before .before .before .token-at in
     let if1 = c .before .before .if1 in
     let moved = c .before .moved in
-    let carrying = c .carrying in
+    let carrying-value = c .carrying-value in
     let m = moved .ensures in
-    let k = carrying .ensures in
+    let k = carrying-value .ensures in
     record {
       gives =
           token _ (token-at .ensures)
           (so _ _ (eq-eqb _ _ (if1 .taken))
           (on _ (advanced m) refl
-          (λ _ _. carried _ k (ap decode-of (sym (k .word))))));
+          (λ _ _. carried _ k (ap decode-of (sym (k .value))))));
       onward =
           goes-on
           (omega (arith, m .at, k .at))
@@ -86,9 +86,9 @@ returns-3 c =
     let entry-in = c .before .before .before .before .before .before .before .entry-in in
     let if3 = c .before .before .before .before .before .if3 in
     let use-name = c .before .before .before .use-name in
-    let carrying2 = c .carrying2 in
+    let carrying-value2 = c .carrying-value2 in
     let u = use-name .ensures in
-    let k = carrying2 .ensures in
+    let k = carrying-value2 .ensures in
     record {
       gives =
           token _ (token-at .ensures)
@@ -98,7 +98,7 @@ returns-3 c =
           (named _ _ (entry-in .ensures)
           (so _ _ (eq-eqb _ _ (if3 .taken))
           (on-told _ (used _ (entry-in .ensures) u) refl
-          (carried _ k (ap decode-of (sym (k .word))))))))));
+          (carried _ k (ap decode-of (sym (k .value))))))))));
       onward =
           goes-on
           (omega (arith, u .at, k .at))

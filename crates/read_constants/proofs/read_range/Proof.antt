@@ -78,18 +78,18 @@ returns-4 c =
     let p = c .before .before .before .before .p in
     let rule = c .before .before .range-rule in
     let if1 = c .before .if1 in
-    let carrying = c .carrying in
+    let carrying-value = c .carrying-value in
     let u = went (read-signed .ensures .onward) (r .given .1) in
     let v = went (expect .ensures .onward) (q .given .1) in
     let w = went (read-signed2 .ensures .onward) (p .given .1) in
-    let k = carrying .ensures in
+    let k = carrying-value .ensures in
     record {
       gives =
           on-told _ (read-signed .ensures .gives) (r .given .1)
           (on _ (expect .ensures .gives _ _) (q .given .1)
           (λ _ _. on-told _ (read-signed2 .ensures .gives) (p .given .1)
           (so _ _ (eq-eqb _ _ (sym (rule .ensures) ∙ if1 .taken))
-          (carried _ k (rw (k .word, k .low))))));
+          (carried _ k (rw (k .value, k .low))))));
       onward =
           goes-on
           (omega (arith, u .past, v .past, w .past, k .at))

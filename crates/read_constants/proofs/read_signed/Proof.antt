@@ -39,7 +39,7 @@ returns-2 c =
     let read-constant = c .before .before .before .before .before .before .before .read-constant in
     let r = c .before .before .before .r in
     let opposite = c .before .opposite in
-    let carrying = c .carrying in
+    let carrying-value = c .carrying-value in
     let m = moved .ensures in
     let w = went (read-constant .ensures .onward) (r .given .1) in
     record {
@@ -47,8 +47,8 @@ returns-2 c =
           token _ (token-at .ensures)
           (so _ _ (eq-eqb _ _ (if1 .taken))
           (on-told _ (on _ (advanced m) refl (λ _ _. read-constant .ensures .gives)) (r .given .1)
-          (carried _ (carrying .ensures) (ap decode-of (sym (carrying .ensures .word ∙ opposite .ensures))))));
-      onward = goes-on (omega (arith, carrying .ensures .at, w .past, m .at)) (omega (arith, carrying .ensures .at, w .within)) (omega (arith, carrying .ensures .count, w .few, m .count));
+          (carried _ (carrying-value .ensures) (ap decode-of (sym (carrying-value .ensures .value ∙ opposite .ensures))))));
+      onward = goes-on (omega (arith, carrying-value .ensures .at, w .past, m .at)) (omega (arith, carrying-value .ensures .at, w .within)) (omega (arith, carrying-value .ensures .count, w .few, m .count));
     }
 
 returns-3 : tie.Need-returns-3

@@ -31,7 +31,7 @@ returns-2 c =
     record {
       gives =
           on-told _ (read-constant .ensures .gives) (r .given .1)
-          (so _ _ (size-test (r .given .0 .0 .word) (decode .ensures) (within .ensures) ∙ if1 .taken)
+          (so _ _ (size-test (r .given .0 .0 .value) (decode .ensures) (within .ensures) ∙ if1 .taken)
           (returned _ refl));
       onward = goes-on (w .past) (w .within) (w .few);
     }
@@ -55,7 +55,7 @@ returns-3 c =
     record {
       gives =
           on-told _ (read-constant .ensures .gives) (r .given .1)
-          (other _ _ (size-test (r .given .0 .0 .word) (decode .ensures) (within .ensures) ∙ if1 .left)
+          (other _ _ (size-test (r .given .0 .0 .value) (decode .ensures) (within .ensures) ∙ if1 .left)
           (refused-last _ y));
       onward = nowhere y;
     }

@@ -110,7 +110,7 @@ returns-2 c =
       gives =
           turn-done (loop .inv .0) (omega (arith, loop .inv .2, pre .tokens))
           (with-this _ _ (on _ (read-signed .ensures .gives) (r .given .1)
-          (λ z e. rw (word-of (r .given .0 .0 .word) e (omega (arith, known-told .given)))
+          (λ z e. rw (word-of (r .given .0 .0 .value) e (omega (arith, known-told .given)))
           (on _ (put-in _ _ _ (put-word .ensures)) refl
           (λ _ _. token _ (token-at .ensures)
           (other _ _ (ne-eqb _ _ (if1 .taken))
@@ -154,7 +154,7 @@ returns-3 c =
       gives =
           turn-done (loop .inv .0) (omega (arith, loop .inv .2, pre .tokens))
           (with-this _ _ (on _ (read-signed .ensures .gives) (r .given .1)
-          (λ z e. rw (word-of (r .given .0 .0 .word) e (omega (arith, known-told .given)))
+          (λ z e. rw (word-of (r .given .0 .0 .value) e (omega (arith, known-told .given)))
           (on _ (put-in _ _ _ (put-word .ensures)) refl
           (λ _ _. token _ (token-at .ensures)
           (other _ _ (ne-eqb _ _ (if1 .taken))
@@ -202,7 +202,7 @@ returns-4 c =
       gives =
           turn-refused (loop .inv .0) (omega (arith, loop .inv .2, pre .tokens))
           (with-this _ _ (on _ (read-signed .ensures .gives) (r .given .1)
-          (λ z e. rw (word-of (r .given .0 .0 .word) e (omega (arith, known-told .given)))
+          (λ z e. rw (word-of (r .given .0 .0 .value) e (omega (arith, known-told .given)))
           (on _ (put-in _ _ _ (put-word .ensures)) refl
           (λ _ _. token _ (token-at .ensures)
           (so _ _ (eq-eqb _ _ (if1 .left))
@@ -245,7 +245,7 @@ loop-again c =
     let m = moved .ensures in (
       turn-again (loop .inv .0) (omega (arith, loop .inv .2, pre .tokens))
           (with-this _ _ (on _ (read-signed .ensures .gives) (r .given .1)
-          (λ z e. rw (word-of (r .given .0 .0 .word) e (omega (arith, known-told .given)))
+          (λ z e. rw (word-of (r .given .0 .0 .value) e (omega (arith, known-told .given)))
           (on _ (put-in _ _ _ (put-word .ensures)) refl
           (λ _ _. token _ (token-at .ensures)
           (so _ _ (eq-eqb _ _ (if1 .left))

@@ -47,7 +47,7 @@ returns-2 c =
       gives =
           on _ (advanced m) refl
           (λ _ _. on _ (read-signed .ensures .gives) (r .given .1)
-          (λ z e. rw (word-of (r .given .0 .0 .word) e (omega (arith, known-told .given)))
+          (λ z e. rw (word-of (r .given .0 .0 .value) e (omega (arith, known-told .given)))
           (on _ (declared _ _ _ d) refl
           (λ _ _. returned _ tt))));
       onward =

@@ -7,14 +7,14 @@ returns : tie.Need-returns
 returns c =
     let if1 = c .before .before .if1 in
     let moved = c .before .moved in
-    let carrying = c .carrying in
-    starts-const (if1 .taken) (moved .ensures) (carrying .ensures)
+    let carrying-number = c .carrying-number in
+    starts-const (if1 .taken) (moved .ensures) (carrying-number .ensures)
 
 returns-2 : tie.Need-returns-2
 returns-2 c =
     let if1 = c .before .if1 in
-    let carrying2 = c .carrying2 in
-    starts-plain (if1 .left) (carrying2 .ensures)
+    let carrying-number2 = c .carrying-number2 in
+    starts-plain (if1 .left) (carrying-number2 .ensures)
 
 pub group-start-spec : {M : Type 1} → statement M
 group-start-spec =

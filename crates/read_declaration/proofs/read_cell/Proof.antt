@@ -38,6 +38,12 @@ returns-2 c =
       onward = nowhere (e ∙ y);
     }
 
+expect-requires-2 : tie.Need-expect-requires-2
+expect-requires-2 c κs =
+    let pre = c .before .before .before .before .before .before .before .before .before .before .before .before .before .before .before .before .before .pre in
+    let read-dims = c .before .before .before .before .before .before .before .before .before .before .before .read-dims in
+    (pre .tokens, read-dims .kept .1 .1 .0 ∙ pre .table, omega arith)
+
 returns-3 : tie.Need-returns-3
 unfolding read-cell
 returns-3 c =
@@ -146,7 +152,7 @@ read-cell-spec =
     (λ c. search needs)
     (λ c. search needs)
     returns-2
-    (λ c κs. search needs)
+    expect-requires-2
     (λ c. search needs)
     (λ c. search needs)
     (λ c κs. search needs)

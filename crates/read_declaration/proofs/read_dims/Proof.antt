@@ -2,7 +2,7 @@ use Rattle.grammar.specs.Source.{read-dims}
 use Rattle.read_state.proofs.Steps.{on-told, off, so, other, returned, refused-last}
 use Rattle.read_state.proofs.Going.{nowhere, went, goes-on}
 use native.Mathlib.Omega.{arith}
-use mathlib.Core.Path.{refl}
+use mathlib.Core.Path.{refl, _∙_}
 use borrow.Author.Needs.{needs}
 use Rattle.read_declaration.proofs.Tests.{dims-good, dims-none, dims-many}
 use Rattle.read_declaration.proofs.read_dims.Statement.{statement}
@@ -44,6 +44,12 @@ sub-refuse-2 c =
     let r = c .before .before .before .before .before .before .before .r in
     omega (arith, went (read-constant .ensures .onward) (r .given .1) .past)
 
+refuse-requires-2 : tie.Need-refuse-requires-2
+refuse-requires-2 c κs =
+    let pre = c .before .before .before .before .before .before .before .before .before .before .before .before .before .before .before .before .pre in
+    let read-constant = c .before .before .before .before .before .before .before .before .before .before .before .read-constant in
+    (pre .tokens, read-constant .kept .1 .1 .0 ∙ pre .table)
+
 returns-3 : tie.Need-returns-3
 unfolding read-dims
 returns-3 c =
@@ -55,7 +61,7 @@ returns-3 c =
     let y = refuse2 .ensures in
     record {
       gives =
-          on-told _ (read-constant .ensures .gives) (r .given .1) (other _ _ (dims-many (r .given .0 .0 .word) (if2 .taken)
+          on-told _ (read-constant .ensures .gives) (r .given .1) (other _ _ (dims-many (r .given .0 .0 .value) (if2 .taken)
           (omega (arith, known-told .given))) (refused-last _ y));
       onward = nowhere y;
     }
@@ -89,7 +95,7 @@ read-dims-spec =
     (λ c. search needs)
     returns-2
     sub-refuse-2
-    (λ c κs. search needs)
+    refuse-requires-2
     (λ c. search needs)
     returns-3
     (λ c. search needs)

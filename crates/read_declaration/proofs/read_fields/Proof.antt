@@ -49,10 +49,10 @@ returns-2 c =
     let read-range = c .before .before .before .before .before .before .before .before .before .before .read-range in
     let r = c .before .before .before .before .before .before .r in
     let write-ranges = c .before .before .before .write-ranges in
-    let carrying = c .carrying in
+    let carrying-fields = c .carrying-fields in
     λ dims.
     let w = went (read-range .ensures .onward) (r .given .1) in
-    let m = carrying .ensures in
+    let m = carrying-fields .ensures in
     record {
       gives =
           token _ (token-at .ensures) (kind-behind _ (kind-at .ensures) (so _ _ (sym (is-unnamed .ensures) ∙ if1 .taken) (made

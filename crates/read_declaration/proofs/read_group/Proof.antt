@@ -77,12 +77,12 @@ returns-3 c =
     let read-range = c .before .before .before .before .before .before .before .before .before .before .before .read-range in
     let q = c .before .before .before .before .before .before .before .q in
     let write-ranges = c .before .before .before .write-ranges in
-    let carrying = c .carrying in
+    let carrying-fields = c .carrying-fields in
     λ rs h.
     let n = went-on (read-names .ensures .gives) (r .given .1) .is .1 in
     let a = went (read-names .ensures .onward) (r .given .1) in
     let b = went (read-range .ensures .onward) (q .given .1) in
-    let m = carrying .ensures in
+    let m = carrying-fields .ensures in
     record {
       gives =
           on _ (behind _ _ rs (h .many) (read-names .ensures .gives)) (r .given .1)

@@ -65,15 +65,15 @@ returns c =
     let is-end = c .before .before .before .is-end in
     let if1 = c .before .before .if1 in
     let moved = c .before .moved in
-    let carrying = c .carrying in
+    let carrying-fields = c .carrying-fields in
     let i = loop .inv .1 in
     let m = moved .ensures in
-    let d = carrying .ensures in
+    let d = carrying-fields .ensures in
     record {
       gives =
           turn-done (loop .inv .0) (omega (arith, i .here, i .tokens)) (λ rs p. token _ (token-at .ensures)
           (so _ _ (end-test (is-end .ensures) rs (p .many) (if1 .taken)) (on _ (advanced m) refl (λ _ _. carried (done rs) d
-          (record { ranges = rw (d .word) p; some = omega (arith, d .word, is-end .ensures .some (if1 .taken)); few = omega (arith, d .word, loop .inv .3); room = omega (arith, d .word, d .at, m .at, loop .inv .2); named = d .low })))));
+          (record { ranges = rw (d .fields) p; some = omega (arith, d .fields, is-end .ensures .some (if1 .taken)); few = omega (arith, d .fields, loop .inv .3); room = omega (arith, d .fields, d .at, m .at, loop .inv .2); named = d .named })))));
       onward =
           goes-on (omega (arith, d .at, m .at, loop .inv .4))
           (omega (arith, d .at, m .at, token-at .ensures .inside, is-end .ensures .kind (if1 .taken)))

@@ -173,10 +173,10 @@ returns-4 c =
     let if1 = c .before .before .before .before .before .if1 in
     let expect = c .before .before .before .before .expect in
     let p = c .before .before .p in
-    let carrying = c .carrying in
+    let carrying-fields = c .carrying-fields in
     let i = loop .inv .1 in
     let w = loop .inv .0 in
-    let m = carrying .ensures in
+    let m = carrying-fields .ensures in
     let a = went (fresh .ensures .onward) (r .given .1) in
     let d = declare .ensures in
     let b = went (forbid .ensures .onward) (q .given .1) in
@@ -188,7 +188,7 @@ returns-4 c =
           (on-told _ (field-name (loop .n) (full .ensures) (fresh .ensures .gives)) (r .given .1) (on _ (declared _ _ _ d) refl
           (λ _ _. on _ (forbid .ensures .gives _ _) (q .given .1) (λ _ _. token _ (token-at .ensures) (other _ _ (ne-eqb _ _ (if1 .taken))
           (on _ (expect .ensures .gives _ _) (p .given .1) (λ _ _. carried (done _) m
-          (record { is = sym (m .word); more = omega (arith, w .more, m .word); few = omega (arith, l, m .word); far = omega (arith, w .far, m .word, m .at, a .past, d .at, b .past, e .past) })))))))));
+          (record { is = sym (m .fields); more = omega (arith, w .more, m .fields); few = omega (arith, l, m .fields); far = omega (arith, w .far, m .fields, m .at, a .past, d .at, b .past, e .past) })))))))));
       onward =
           goes-on (omega (arith, w .far, w .more, m .at, a .past, d .at, b .past, e .past)) (omega (arith, m .at, e .within))
           (omega (arith, m .count, e .few, b .few, d .count, a .few));

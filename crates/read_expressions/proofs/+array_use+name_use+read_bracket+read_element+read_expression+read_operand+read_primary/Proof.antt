@@ -396,10 +396,10 @@ read-element-returns-2 t c =
     λ e. record { gives = looked _ (stated _ (on _ (read-bracket .ensures .gives) (r .given .1) (λ _ _. made _ (forbid .ensures .gives _ _) (λ _ _ _. tt)))); onward = further (forbid .ensures .onward) (omega (arith, w .past)) (w .few) }
 
 abbrev read-expression-Inv-loop : read-expression-lts.InvT-loop
-read-expression-Inv-loop source names words₀ scan cell level room here₀ last₀ words here last = ((more : ℕ) → 5 ≤ suc more + level → (e : Expr) → Turning (repeat turns (turn-in (operand-in (cell-as cell) room) level more) (left-part e 0)) (turn-in (operand-in (cell-as cell) room) level more) source scan here₀ names words₀ (λ l. l .level ≡ last) here names words) × (length words ≡ 16384) × (here₀ .at ≤ here .at) × (here .at ≤ scan .count) × (here .count ≤ here₀ .count)
+read-expression-Inv-loop source names words₀ scan cell level free here₀ last₀ words here last = ((more : ℕ) → 5 ≤ suc more + level → (e : Expr) → Turning (repeat turns (turn-in (operand-in (cell-as cell) free) level more) (left-part e 0)) (turn-in (operand-in (cell-as cell) free) level more) source scan here₀ names words₀ (λ l. l .level ≡ last) here names words) × (length words ≡ 16384) × (here₀ .at ≤ here .at) × (here .at ≤ scan .count) × (here .count ≤ here₀ .count)
 
 abbrev read-expression-μ-loop : read-expression-lts.MeasureT-loop
-read-expression-μ-loop source names words₀ scan cell level room here₀ last₀ words here last = 4097 - here .at
+read-expression-μ-loop source names words₀ scan cell level free here₀ last₀ words here last = 4097 - here .at
 
 read-expression-read-operand-requires : (t : ℕ) → read-expression-lts.Need-read-operand-requires (read-expression-calls t) (read-expression-at t) read-expression.Post read-expression-Inv-loop read-expression-μ-loop
 read-expression-read-operand-requires t c κs =

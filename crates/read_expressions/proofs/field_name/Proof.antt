@@ -33,8 +33,8 @@ moved-requires c κs =
     let if1 = c .before .before .before .before .if1 in
     omega (arith, token-at .ensures .inside, is-name .ensures .kind (if1 .taken), pre .tokens)
 
-cast-carrying : tie.Need-cast-carrying
-cast-carrying c =
+cast-carrying-number : tie.Need-cast-carrying-number
+cast-carrying-number c =
     let pre = c .before .before .before .before .before .before .before .before .before .before .before .pre in
     let find-name = c .before .before .before .before .find-name in
     let f = c .before .before .f in
@@ -49,12 +49,12 @@ returns-2 c =
     let find-name = c .before .before .before .before .before .find-name in
     let f = c .before .before .before .f in
     let moved = c .before .moved in
-    let carrying = c .carrying in
+    let carrying-number = c .carrying-number in
     let m = moved .ensures in
-    let k = carrying .ensures in
+    let k = carrying-number .ensures in
     let l = below-slot (find-name .ensures .below) (f .given .1) in
     record {
-      gives = token _ (token-at .ensures) (so _ _ (sym (is-name .ensures .is) ∙ if1 .taken) (found-it _ _ _ (find-name .ensures) (f .given .1) (on _ (advanced m) refl (λ _ _. carried _ k (sym (k .word), omega (arith, k .word, k .count, m .count, l))))));
+      gives = token _ (token-at .ensures) (so _ _ (sym (is-name .ensures .is) ∙ if1 .taken) (found-it _ _ _ (find-name .ensures) (f .given .1) (on _ (advanced m) refl (λ _ _. carried _ k (sym (k .number), omega (arith, k .number, k .count, m .count, l))))));
       onward = goes-on (omega (arith, m .at, k .at)) (omega (arith, m .at, k .at, token-at .ensures .inside, is-name .ensures .kind (if1 .taken))) (omega (arith, k .count, m .count));
     }
 
@@ -79,7 +79,7 @@ field-name-spec =
     (λ c κs. search needs)
     returns
     moved-requires
-    cast-carrying
+    cast-carrying-number
     (λ c κs. search needs)
     returns-2
     (λ c κs. search needs)

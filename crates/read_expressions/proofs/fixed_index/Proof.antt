@@ -25,7 +25,7 @@ returns-2 c =
     let r = c .before .before .before .before .before .r in
     let known-told = c .before .before .before .before .known-told in
     let put-word = c .before .before .put-word in
-    λ t. let w = went (read-signed .ensures .onward) (r .given .1) in record { gives = here _ (on-told _ (read-signed .ensures .gives) (r .given .1) (on _ (put-decoded _ (r .given .0 .0 .word) (omega (arith, known-told .given)) (put-in _ 3 _ (put-word .ensures))) refl (λ _ _. returned _ tt))); onward = goes-on (w .past) (w .within) (w .few) }
+    λ t. let w = went (read-signed .ensures .onward) (r .given .1) in record { gives = here _ (on-told _ (read-signed .ensures .gives) (r .given .1) (on _ (put-decoded _ (r .given .0 .0 .value) (omega (arith, known-told .given)) (put-in _ 3 _ (put-word .ensures))) refl (λ _ _. returned _ tt))); onward = goes-on (w .past) (w .within) (w .few) }
 
 pub fixed-index-spec : {M : Type 1} → statement M
 fixed-index-spec =

@@ -59,10 +59,10 @@ returns-3 c =
     let forbid = c .before .before .before .before .before .before .forbid in
     let q = c .before .before .before .before .q in
     let entry-in = c .before .entry-in in
-    let carrying = c .carrying in
+    let carrying-number = c .carrying-number in
     let w = went (dot-field .ensures .onward) (r .given .1) in
     let v = went (forbid .ensures .onward) (q .given .1) in
-    let k = carrying .ensures in
+    let k = carrying-number .ensures in
     record {
       gives = so _ _ (if1 .taken) (field-read (dot-field .ensures .gives) (r .given .1) (forbid .ensures .gives _ _) (q .given .1) (entry-in .ensures) k);
       onward = goes-on (omega (arith, w .past, v .past, k .at)) (omega (arith, v .within, k .at)) (omega (arith, w .few, v .few, k .count));
@@ -82,11 +82,11 @@ returns-5 c =
     let if1 = c .before .before .before .before .before .if1 in
     let unnamed = c .before .before .before .before .unnamed in
     let r2 = c .before .before .r2 in
-    let carrying2 = c .carrying2 in
+    let carrying-number2 = c .carrying-number2 in
     let w = went (unnamed .ensures .onward) (r2 .given .1) in
-    let k = carrying2 .ensures in
+    let k = carrying-number2 .ensures in
     record {
-      gives = other _ _ (if1 .left) (on _ (unnamed .ensures .gives _ _) (r2 .given .1) (λ _ _. carried _ k (sym (k .word))));
+      gives = other _ _ (if1 .left) (on _ (unnamed .ensures .gives _ _) (r2 .given .1) (λ _ _. carried _ k (sym (k .number))));
       onward = goes-on (omega (arith, w .past, k .at)) (omega (arith, w .within, k .at)) (omega (arith, w .few, k .count));
     }
 

@@ -6,13 +6,14 @@ use lib.Dec.{eqb}
 use lib.ListN.{length}
 use borrow.Author.Tests.{eq-eqb, ne-eqb}
 use borrow.Author.Needs.{needs}
+use Rattle.value.proofs.Theorems.Truth.{or-second, neither}
 use Rattle.grammar.specs.Reader.{again, done, repeat, turns}
 use Rattle.grammar.specs.Expressions.{index-turn, read-indices}
 use Rattle.read_state.proofs.Steps.{on, off, so, other, token, advanced, refused, returned, both-hold, first-not, second-not, not-false, not-true}
 use Rattle.read_state.proofs.Turns.{Turning, turn-first, turn-again, turn-done, turn-refused}
 use Rattle.read_state.proofs.Going.{nowhere, went, goes-on}
 use Rattle.read_expressions.specs.Contracts.Promises.{cell-as}
-use Rattle.read_expressions.proofs.Indices.{first-holds, second-holds, neither, counted, full, not-full}
+use Rattle.read_expressions.proofs.Indices.{first-holds, counted, full, not-full}
 use Rattle.read_expressions.proofs.read_indices.Statement.{statement}
 use Rattle.read_expressions.proofs.read_indices.Tie as tie
 
@@ -158,7 +159,7 @@ returns-4 c =
     let refuse2 = c .refuse2 in
     let y = refuse2 .ensures in
     record {
-      gives = turn-refused (loop .inv .0) (omega (arith, loop .inv .3, pre .tokens)) (λ x p. on _ (read-index .ensures .gives) (r .given .1) (λ i _. token _ (token-at .ensures) (other _ _ (first-not _ (ne-eqb _ _ (if1 .taken))) (other _ _ (second-not (eq-eqb _ _ (if2 .left)) (not-full x i p (if3 .left))) (so _ _ (second-holds (eqb (token-at .result .kind) 44) (eq-eqb _ _ (if2 .left))) (refused _ y)))))) y;
+      gives = turn-refused (loop .inv .0) (omega (arith, loop .inv .3, pre .tokens)) (λ x p. on _ (read-index .ensures .gives) (r .given .1) (λ i _. token _ (token-at .ensures) (other _ _ (first-not _ (ne-eqb _ _ (if1 .taken))) (other _ _ (second-not (eq-eqb _ _ (if2 .left)) (not-full x i p (if3 .left))) (so _ _ (or-second (eqb (token-at .result .kind) 44) (eq-eqb _ _ (if2 .left))) (refused _ y)))))) y;
       onward = nowhere y;
     }
 

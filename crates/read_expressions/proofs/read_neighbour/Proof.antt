@@ -17,7 +17,7 @@ returns c =
     let args = c .before .before .before .before .before .before .before .args in
     let opening = c .before .before .opening in
     let enum-told = c .enum-told in
-    record { gives = here _ (off _ (opening-as (args .room) (opening .ensures) .gives _ _) (enum-told .given .1)); onward = nowhere (enum-told .given .1) }
+    record { gives = here _ (off _ (opening-as (args .free) (opening .ensures) .gives _ _) (enum-told .given .1)); onward = nowhere (enum-told .given .1) }
 
 read-indices-requires : tie.Need-read-indices-requires
 read-indices-requires c κs =
@@ -35,7 +35,7 @@ returns-2 c =
     let read-indices = c .before .before .before .before .read-indices in
     let enum-told2 = c .enum-told2 in
     record {
-      gives = here _ (on _ (opening-as (args .room) (opening .ensures) .gives _ _) (o .given .1) (λ _ _. off _ (read-indices .ensures .gives) (enum-told2 .given .1)));
+      gives = here _ (on _ (opening-as (args .free) (opening .ensures) .gives _ _) (o .given .1) (λ _ _. off _ (read-indices .ensures .gives) (enum-told2 .given .1)));
       onward = nowhere (enum-told2 .given .1);
     }
 
@@ -61,7 +61,7 @@ returns-3 c =
     let read-field = c .before .before .read-field in
     let enum-told3 = c .enum-told3 in
     record {
-      gives = here _ (on _ (opening-as (args .room) (opening .ensures) .gives _ _) (o .given .1) (λ _ _. on _ (read-indices .ensures .gives) (q .given .1) (λ _ _. off _ (read-field .ensures .gives) (enum-told3 .given .1))));
+      gives = here _ (on _ (opening-as (args .free) (opening .ensures) .gives _ _) (o .given .1) (λ _ _. on _ (read-indices .ensures .gives) (q .given .1) (λ _ _. off _ (read-field .ensures .gives) (enum-told3 .given .1))));
       onward = nowhere (enum-told3 .given .1);
     }
 
@@ -88,7 +88,7 @@ returns-4 c =
     let v = went (read-indices .ensures .onward) (q .given .1) in
     let w = went (read-field .ensures .onward) (r .given .1) in
     record {
-      gives = here _ (on _ (opening-as (args .room) (opening .ensures) .gives _ _) (o .given .1) (λ _ _. on _ (read-indices .ensures .gives) (q .given .1) (λ _ _. on-told _ (read-field .ensures .gives) (r .given .1) (on _ (put-field .ensures _ _ _) refl (λ _ _. returned _ tt)))));
+      gives = here _ (on _ (opening-as (args .free) (opening .ensures) .gives _ _) (o .given .1) (λ _ _. on _ (read-indices .ensures .gives) (q .given .1) (λ _ _. on-told _ (read-field .ensures .gives) (r .given .1) (on _ (put-field .ensures _ _ _) refl (λ _ _. returned _ tt)))));
       onward = goes-on (omega (arith, u .past, v .past, w .past)) (w .within) (omega (arith, u .few, v .few, w .few));
     }
 

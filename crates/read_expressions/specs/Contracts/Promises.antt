@@ -21,9 +21,9 @@ use Rattle.read_expressions.specs.declared.Cell.{Cell}
 abbrev pub cell-as : Cell → grammar.Cell
 cell-as cell = record { dims = cell .dims; named = cell .named }
 
--- a slot of the name list, in `word`
+-- a slot of the name list, in `number`
 abbrev pub slot-in : ℕ → Reading → Type 0
-slot-in a t = (a ≡ t .word) × (t .word < t .count)
+slot-in a t = (a ≡ t .number) × (t .number < t .count)
 
 -- what may not stand where fields have no names: behind the own cell, and behind a relative index
 abbrev pub unnamed-of : Bool → Reader Unit
@@ -31,13 +31,13 @@ unnamed-of true = plain
 unnamed-of false = forbid (delimiter .dot) 12
 
 -- whether one more bracket may be open, and what reads the expression in it
-abbrev pub has-room : ℕ → Bool
-has-room zero = false
-has-room (suc room) = true
+abbrev pub some-free : ℕ → Bool
+some-free zero = false
+some-free (suc free) = true
 
 abbrev pub inner-in : grammar.Cell → ℕ → Reader Expr
 inner-in cell zero = refuse 14
-inner-in cell (suc room) = climb levels (operand-in cell room) 1
+inner-in cell (suc free) = climb levels (operand-in cell free) 1
 
 -- whether two levels are those of relations
 abbrev pub are-relations : ℕ → ℕ → Bool
@@ -49,6 +49,6 @@ pub record Unary (t : Token) (r : Bool) : Type 0 where
   pub kind : r ≡ true → 1 ≤ t .kind
 
 -- an expression of operators of a level or tighter: `more` levels may be entered, enough for the levels from this one on
-pub record Climbs (cell : Cell) (level room : ℕ) (source : List ℕ) (scan : Scan) (s : Reading) (ns ws : List ℕ) (r : Read) (ws′ : List ℕ) : Type 0 where
-  pub gives : (more : ℕ) → 5 ≤ more + level → Gives anything (climb more (operand-in (cell-as cell) room) level) source scan s ns ws r ns ws′
+pub record Climbs (cell : Cell) (level free : ℕ) (source : List ℕ) (scan : Scan) (s : Reading) (ns ws : List ℕ) (r : Read) (ws′ : List ℕ) : Type 0 where
+  pub gives : (more : ℕ) → 5 ≤ more + level → Gives anything (climb more (operand-in (cell-as cell) free) level) source scan s ns ws r ns ws′
   pub onward : Onward (s .count) scan (s .at + 1) r

@@ -17,10 +17,11 @@ use Rattle.program.specs.Syntax.{Range, Expr, Target, to-field, to-variable, Cl
 use Rattle.grammar.specs.Reader.{Input, State, Reader, return, Turn, again, done, repeat, turns, token-of, is-kind, is-name, by-name}
 use Rattle.grammar.specs.Expressions.{Cell}
 use Rattle.grammar.specs.Statements.{old-variable, new-variable, named-target, field-target, read-target, target-number, clause, when-clause, clause-end, clause-turn, read-assignment}
+use Rattle.grammar.proofs.Theorems.Ends.{Gives, bind}
 use Rattle.cell_meaning.specs.Contracts.Stands.{ExprAt, target-in, first-clause, ClausesAt, assigns, Stands}
 use Rattle.cell_meaning.specs.Links.{Table, table-of, word-in}
 use Rattle.cell_meaning.specs.Written.{relatives-in-expr, relatives-in-condition, relatives-in-clauses, relatives-in-block}
-use Rattle.read_links.proofs.Theorems.Steps.{advanced, written, named, Gives, gave, refused, refused-last, bind, made, regroup, choose, at-position, at-token, at-state, at-entry, over, wrote, wrote-both, named-it, by-found, expected, forbidden, Turned, repeated}
+use Rattle.read_links.proofs.Theorems.Steps.{advanced, written, named, gave, refused, refused-last, made, regroup, choose, at-position, at-token, at-state, at-entry, over, wrote, wrote-both, named-it, by-found, expected, forbidden, Turned, repeated}
 use Rattle.read_links.proofs.Theorems.Runs.{tokens, Text, Sound, Run, stay, join, go-on, write-first, word-other}
 use Rattle.read_links.proofs.Theorems.Naming.{of-kind, head-is, name-it}
 use Rattle.read_links.proofs.Theorems.Constants.{is-name-inside, fresh-gives}

@@ -14,10 +14,11 @@ use Rattle.program.specs.Table.{word-at}
 use Rattle.grammar.specs.Reader.{Input, State, Reader, again, done, turns, token-of, is-kind}
 use Rattle.grammar.specs.Expressions.{Cell}
 use Rattle.grammar.specs.Statements.{Arm, choices, arm-end, arm-turn, read-if}
+use Rattle.grammar.proofs.Theorems.Ends.{Gives, bind}
 use Rattle.cell_meaning.specs.Contracts.Stands.{ElseAt, Stands, Elsif, Choice}
 use Rattle.cell_meaning.specs.Links.{Table, table-of, word-in, linked}
 use Rattle.cell_meaning.specs.Written.{Relative, relatives-in-expr, relatives-in-block}
-use Rattle.read_links.proofs.Theorems.Steps.{advanced, written, Gives, gave, refused, bind, handed, regroup, choose, at-position, at-token, over, wrote, expected, Turned, repeated}
+use Rattle.read_links.proofs.Theorems.Steps.{advanced, written, gave, refused, handed, regroup, choose, at-position, at-token, over, wrote, expected, Turned, repeated}
 use Rattle.read_links.proofs.Theorems.Runs.{tokens, Text, Sound, Run, stay, join, go-on, write-first, word-put, word-other}
 use Rattle.read_links.proofs.Theorems.Naming.{of-kind, token-kind}
 use Rattle.read_links.proofs.Theorems.Tables.{View, Claim, Known, first-part, second-part, inner-part, unwritten, rewritten, view-from, view-word, view-kind, link-to}
@@ -247,10 +248,10 @@ module _ {input : Input} {text : List ℕ} (T : Text input text) (cell : Cell) (
 
     -- ---- the whole
 
-    pub if-gives : (room : Bool) {s : State} → Sound input text s → is-kind (token-of input s (s .at)) (keyword .if) ≡ true → Gives input (read-if room expr block) s (Statement T cell some-dims depth s)
+    pub if-gives : (free : Bool) {s : State} → Sound input text s → is-kind (token-of input s (s .at)) (keyword .if) ≡ true → Gives input (read-if free expr block) s (Statement T cell some-dims depth s)
     unfolding read-if Stands choices plain-kind relatives-in-block
-    if-gives room {s} x q =
-        choose room
+    if-gives free {s} x q =
+        choose free
         (λ _.
         at-position _
         (bind (repeated (arm-turn expr block) turn-gives turns [] s (record { sound = x; plain = plain-of {k = token-of input s (s .at) .kind} (keyword .if) (eqb-true _ _ q) refl; inside = of-kind x (s .at) (keyword .if) (omega arith) q }))

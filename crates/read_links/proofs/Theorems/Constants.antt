@@ -4,12 +4,13 @@ use native.Mathlib.Nat.{le-refl}
 use native.Mathlib.Omega.{arith}
 use mathlib.Core.Path.{_≡_, refl, sym, ap, _∙_, subst, subst₂}
 use mathlib.Core.Logic.{_⊎_, inl, inr}
-use mathlib.Core.Bool.{Bool, true, false, not, cond, _&&_, _||_}
+use mathlib.Core.Bool.{Bool, true, false, not, _&&_, _||_}
 use mathlib.Core.List.{List}
 use lib.Dec.{eqb, leb, ltb}
 use lib.IntN.{ℤ, pos, negsuc, negℤ, _-ℤ_}
 use lib.ListN.{length}
 use borrow.Author.Tests.{lt-ltb, ltb-true, ltb-false, leb-true, leb-false, le-leb, eqb-true, not-false}
+use Rattle.value.proofs.Theorems.Truth.{or-either, or-true}
 use Rattle.value.specs.Limits.{most-names}
 use Rattle.value.specs.Choice.{if_then_else_}
 use Rattle.value.specs.Number.{in-range, within}
@@ -22,30 +23,23 @@ use Rattle.program.specs.Syntax.{Range, range}
 use Rattle.program.specs.Table.{word-at}
 use Rattle.grammar.specs.Reader.{Input, State, Result, ok, fail, Reader, and-then, _>>=_, _>>_, _▷_, return, next-token, unit, is-kind, again, done, turns, token-of, position, advance, put, is-name, entry-in, fresh, use-name}
 use Rattle.grammar.specs.Constants.{is-sign, named-constant, read-constant, read-signed, range-rule, read-range, value-turn, read-values, read-size, array-head, array-constant, simple-constant, constant-value, read-declaration, constants-turn, read-constants}
-use Rattle.read_links.proofs.Theorems.Steps.{advanced, written, Gives, gave, refused, refused-last, bind, regroup, given-as, choose, at-position, at-token, at-state, at-entry, over, wrote, wrote-both, wrote-last, noted-it, named-it, by-found, expected, opened, Turned, repeated}
+use Rattle.grammar.proofs.Theorems.Ends.{Gives, bind}
+use Rattle.read_links.proofs.Theorems.Steps.{advanced, written, gave, refused, refused-last, regroup, given-as, choose, at-position, at-token, at-state, at-entry, over, wrote, wrote-both, wrote-last, noted-it, named-it, by-found, expected, opened, Turned, repeated}
 use Rattle.read_links.proofs.Theorems.Runs.{word-put, both-2, both-3, tokens, head-at, Text, Signable, Sound, Run, stay, join, go-on, write-first, write-plain}
 use Rattle.read_links.proofs.Theorems.Naming.{token-value, of-kind, head-is, name-it, still-noted, note-it, found-name}
 
 -- ---- tests
 
-pub either : (a b : Bool) → (a || b) ≡ true → (a ≡ true) ⊎ (b ≡ true)
-either true b e = inl refl
-either false b e = inr e
-
-or-true : (a : Bool) → (a || true) ≡ true
-or-true true = refl
-or-true false = refl
-
 -- a token of one of three kinds
 pub of-kinds : {input : Input} {text : List ℕ} {s : State} → Sound input text s → (i a b c : ℕ) → 0 < a → 0 < b → 0 < c → (eqb (token-of input s i .kind) a || eqb (token-of input s i .kind) b || eqb (token-of input s i .kind) c) ≡ true → i < tokens input
-of-kinds {input} {text} {s} x i a b c la lb lc q = by (either (eqb (token-of input s i .kind) a || eqb (token-of input s i .kind) b) (eqb (token-of input s i .kind) c) q)
+of-kinds {input} {text} {s} x i a b c la lb lc q = by (or-either (eqb (token-of input s i .kind) a || eqb (token-of input s i .kind) b) (eqb (token-of input s i .kind) c) q)
   where
     by₂ : (eqb (token-of input s i .kind) a ≡ true) ⊎ (eqb (token-of input s i .kind) b ≡ true) → i < tokens input
     by₂ (inl h) = of-kind x i a la h
     by₂ (inr h) = of-kind x i b lb h
 
     by : ((eqb (token-of input s i .kind) a || eqb (token-of input s i .kind) b) ≡ true) ⊎ (eqb (token-of input s i .kind) c ≡ true) → i < tokens input
-    by (inl h) = by₂ (either _ _ h)
+    by (inl h) = by₂ (or-either _ _ h)
     by (inr h) = of-kind x i c lc h
 
 -- a token that is a name, `cell` or `time`
@@ -255,10 +249,10 @@ module _ {input : Input} {text : List ℕ} (T : Text input text) where
   pub past-token : {s t : State} → Piece input text s t → (k : ℕ) → 0 < k → eqb (token-of input t (t .at) .kind) k ≡ true → Piece input text s (advanced t)
   past-token {s} {t} p k l q = join-pieces p (one-token (p .run .sound) (of-kind (p .run .sound) (t .at) k l q))
 
-  head-gives : (room : Bool) {s : State} → Sound input text s → s .at < tokens input → Gives input (array-head room) s (λ z t. Piece input text s t)
+  head-gives : (free : Bool) {s : State} → Sound input text s → s .at < tokens input → Gives input (array-head free) s (λ z t. Piece input text s t)
   unfolding array-head
-  head-gives room {s} x l =
-      opened room
+  head-gives free {s} x l =
+      opened free
       (λ _.
       let p = one-token x l in
       expected (delimiter .unbracket) 7
@@ -268,10 +262,10 @@ module _ {input : Input} {text : List ℕ} (T : Text input text) where
 
   -- a declaration: from its `const` on, which stands at s₀, and its name at the position behind
   module _ {s₀ : State} (x₀ : Sound input text s₀) (i : ℕ) (i-is : i ≡ s₀ .at + 1) (i-in : i < tokens input) (a-name : head-at text i ≡ kind .name) (few : s₀ .count < 256) where
-    array-gives : (room : Bool) {s : State} → Piece input text s₀ s → i < s .at → s .at < tokens input → Gives input (array-constant room i) s (λ _ t. Run input text s₀ t × (s₀ .at < t .at))
+    array-gives : (free : Bool) {s : State} → Piece input text s₀ s → i < s .at → s .at < tokens input → Gives input (array-constant free i) s (λ _ t. Run input text s₀ t × (s₀ .at < t .at))
     unfolding array-constant
-    array-gives room {s} p₀ i-far l =
-        bind (head-gives room (p₀ .run .sound) l)
+    array-gives free {s} p₀ i-far l =
+        bind (head-gives free (p₀ .run .sound) l)
         (λ z s₁ p₁.
         expected (delimiter .assign) 7
         (λ q.
@@ -307,12 +301,12 @@ module _ {input : Input} {text : List ℕ} (T : Text input text) where
         named-it i (name-kind .constant) (encode-of z) _
         (gave unit (name-it (p₂ .run) i (name-kind .constant) (encode-of z) i-in a-name (omega (arith, p₂ .same)) (omega arith) (omega arith) (λ _. encoded-signable z (h .1)) (λ q. absurd (omega arith)) (λ q. absurd (omega arith)) (λ q. absurd (omega arith)), p₂ .far))))
 
-    value-gives : (room : Bool) {s : State} → Piece input text s₀ s → i < s .at → Gives input (constant-value room i) s (λ _ t. Run input text s₀ t × (s₀ .at < t .at))
+    value-gives : (free : Bool) {s : State} → Piece input text s₀ s → i < s .at → Gives input (constant-value free i) s (λ _ t. Run input text s₀ t × (s₀ .at < t .at))
     unfolding constant-value
-    value-gives room {s} p far =
+    value-gives free {s} p far =
         at-token _
         (choose _ (λ q. simple-gives p (of-kind (p .run .sound) (s .at) (delimiter .assign) (omega arith) q))
-        (λ _. choose _ (λ q. array-gives room p far (of-kind (p .run .sound) (s .at) (delimiter .bracket) (omega arith) q)) (λ _. refused 7)))
+        (λ _. choose _ (λ q. array-gives free p far (of-kind (p .run .sound) (s .at) (delimiter .bracket) (omega arith) q)) (λ _. refused 7)))
 
   -- over a name that is declared: its position, and that the list has room
   pub record Fresh (full : ℕ) (s : State) (i : ℕ) (t : State) : Type 0 where
@@ -353,15 +347,15 @@ module _ {input : Input} {text : List ℕ} (T : Text input text) where
     pub far : s .at < t .at
     pub past : word-at (t .words) (s .at) 3 ≡ t .at
 
-  pub declaration-gives : (room : Bool) {s : State} → Sound input text s → s .at < tokens input → Gives input (read-declaration room) s (λ _ t. Declares s t)
+  pub declaration-gives : (free : Bool) {s : State} → Sound input text s → s .at < tokens input → Gives input (read-declaration free) s (λ _ t. Declares s t)
   unfolding read-declaration
-  declaration-gives room {s} x l =
+  declaration-gives free {s} x l =
       at-position _
       (over
       (let p = one-token x l in
       bind (fresh-gives false 0 (p .run .sound))
       (λ i t f.
-      bind (value-gives x i (f .here) (f .inside) (f .a-name) (f .few) room (join-pieces p (f .piece)) (omega (arith, f .here, f .piece .far)))
+      bind (value-gives x i (f .here) (f .inside) (f .a-name) (f .few) free (join-pieces p (f .piece)) (omega (arith, f .here, f .piece .far)))
       (λ _ u h.
       at-position _
       (wrote-last (s .at) 3 (u .at)

@@ -19,9 +19,10 @@ use Rattle.program.specs.Syntax.{Range, Expr, number, time, variable, index, el
 use Rattle.grammar.specs.Reader.{Input, State, Reader, _>>_, return, done, turns, token-of, refuse}
 use Rattle.grammar.specs.Constants.{is-sign as is-sign-token}
 use Rattle.grammar.specs.Expressions.{Cell, plain, array-values, read-bracket, read-element, array-use, name-use, read-primary, read-operand, LeftPart, left-part, read-right, operator-turn, climb, levels, operand-in, read-expression}
+use Rattle.grammar.proofs.Theorems.Ends.{Gives, bind}
 use Rattle.cell_meaning.specs.Contracts.Stands.{array-in, is-sign-kind, is-unary}
 use Rattle.cell_meaning.specs.Links.{Table, table-of, word-in}
-use Rattle.read_links.proofs.Theorems.Steps.{advanced, Gives, gave, refused, bind, made, regroup, given-as, choose, at-token, at-state, over, noted-it, by-found, expected, forbidden, opened, Turned, repeated}
+use Rattle.read_links.proofs.Theorems.Steps.{advanced, gave, refused, made, regroup, given-as, choose, at-token, at-state, over, noted-it, by-found, expected, forbidden, opened, Turned, repeated}
 use Rattle.read_links.proofs.Theorems.Runs.{tokens, Text, Sound, Run, stay, join, go-on}
 use Rattle.read_links.proofs.Theorems.Naming.{of-kind, token-inside, token-value, still-noted, note-it, Found, found-name}
 use Rattle.read_links.proofs.Theorems.Constants.{of-kinds, used, used-it, use-piece}
@@ -71,14 +72,14 @@ module _ {input : Input} {text : List ℕ} (T : Text input text) (cell : Cell) (
   -- ---- brackets and names
 
   -- the first token is plain, or the `[` of an array constant's element
-  bracket-gives : (room : Bool) (inner : Reader Expr) → ReadsLevel 1 inner → (close : ℕ) → 0 < close → plain-kind close ≡ true → {s : State} → Sound input text s
+  bracket-gives : (free : Bool) (inner : Reader Expr) → ReadsLevel 1 inner → (close : ℕ) → 0 < close → plain-kind close ≡ true → {s : State} → Sound input text s
       → s .at < tokens input → (plain-kind (token-of input s (s .at) .kind) ≡ true) ⊎ (token-of input s (s .at) .kind ≡ delimiter .bracket)
-      → Gives input (read-bracket room inner close) s (Reads T (cell .dims) (λ tb at e next. Bracket tb close at e next) s)
+      → Gives input (read-bracket free inner close) s (Reads T (cell .dims) (λ tb at e next. Bracket tb close at e next) s)
   unfolding read-bracket
-  bracket-gives room inner reads close o p {s} x l first =
+  bracket-gives free inner reads close o p {s} x l first =
       let r₁ = go-on x l in
       regroup _ _ _
-      (opened room
+      (opened free
       (λ _.
       bind (reads (advanced s) (r₁ .sound))
       (λ e t h.
@@ -108,16 +109,16 @@ module _ {input : Input} {text : List ℕ} (T : Text input text) (cell : Cell) (
     simple : (e : Expr) → Claim input text (cell .dims) s (used s slot) (λ tb. Name tb (s .at) e (s .at + 1)) → Gives input (plain >> return e) (used s slot) (Reads T (cell .dims) (λ tb at e next. Name tb at e next) s)
     simple e c = plain-it (gave e (behind, c))
 
-    array-gives : (room : Bool) (inner : Reader Expr) → ReadsLevel 1 inner → it .kind ≡ name-kind .array → Gives input (array-use room inner (entry-at (s .names) slot)) (used s slot) (Reads T (cell .dims) (λ tb at e next. Name tb at e next) s)
+    array-gives : (free : Bool) (inner : Reader Expr) → ReadsLevel 1 inner → it .kind ≡ name-kind .array → Gives input (array-use free inner (entry-at (s .names) slot)) (used s slot) (Reads T (cell .dims) (λ tb at e next. Name tb at e next) s)
     unfolding array-use read-element it plain-kind
-    array-gives room inner reads k =
+    array-gives free inner reads k =
         at-token _
         (choose _
         (λ c.
         let b = of-kind (behind .sound) (s .at + 1) (delimiter .bracket) (omega arith) c in
         at-token _
         (at-state _
-        (bind (bracket-gives room inner reads (delimiter .unbracket) (omega arith) refl (behind .sound) b (inr (eqb-true _ _ c)))
+        (bind (bracket-gives free inner reads (delimiter .unbracket) (omega arith) refl (behind .sound) b (inr (eqb-true _ _ c)))
         (λ d t h.
         forbidden (delimiter .dot) 12
         (λ _.
@@ -133,11 +134,11 @@ module _ {input : Input} {text : List ℕ} (T : Text input text) (cell : Cell) (
         )
         (λ _. regroup _ _ _ (noted-it 12 (λ p. plain-it (gave _ (note-it behind 12 p (omega arith), λ wf v. absurd (still-noted (s .noted) 12 p (omega arith) (v .clear))))))))
 
-    name-gives : (room : Bool) (inner : Reader Expr) → ReadsLevel 1 inner → Gives input (name-use room inner slot) s (Reads T (cell .dims) (λ tb at e next. Name tb at e next) s)
+    name-gives : (free : Bool) (inner : Reader Expr) → ReadsLevel 1 inner → Gives input (name-use free inner slot) s (Reads T (cell .dims) (λ tb at e next. Name tb at e next) s)
     unfolding name-use it
-    name-gives room inner reads =
+    name-gives free inner reads =
         used-it slot _
-        (choose _ (λ a. array-gives room inner reads (eqb-true _ _ a))
+        (choose _ (λ a. array-gives free inner reads (eqb-true _ _ a))
         (λ na.
         choose _
         (λ c.
@@ -164,9 +165,9 @@ module _ {input : Input} {text : List ℕ} (T : Text input text) (cell : Cell) (
 
   -- ---- operands
 
-  primary-gives : (room : Bool) (inner : Reader Expr) → ReadsLevel 1 inner → {s : State} → Sound input text s → Gives input (read-primary cell room inner) s (Reads T (cell .dims) (λ tb at e next. Primary tb at e next) s)
+  primary-gives : (free : Bool) (inner : Reader Expr) → ReadsLevel 1 inner → {s : State} → Sound input text s → Gives input (read-primary cell free inner) s (Reads T (cell .dims) (λ tb at e next. Primary tb at e next) s)
   unfolding read-primary plain-kind
-  primary-gives room inner reads {s} x =
+  primary-gives free inner reads {s} x =
       at-token _
       (choose _
       (λ q.
@@ -181,10 +182,10 @@ module _ {input : Input} {text : List ℕ} (T : Text input text) (cell : Cell) (
       (λ _.
       choose _
       (λ q.
-      given-as (bracket-gives room inner reads (delimiter .unparen) (omega arith) refl x (of-kind x (s .at) (delimiter .paren) (omega arith) q) (inl (plain-of {k = token-of input s (s .at) .kind} (delimiter .paren) (eqb-true _ _ q) refl)))
+      given-as (bracket-gives free inner reads (delimiter .unparen) (omega arith) refl x (of-kind x (s .at) (delimiter .paren) (omega arith) q) (inl (plain-of {k = token-of input s (s .at) .kind} (delimiter .paren) (eqb-true _ _ q) refl)))
       (λ e t h. (h .0, λ wf v. primary-bracket _ (s .at) (view-kind v x (s .at) ∙ eqb-true _ _ q) (h .1 wf v))))
       (λ _.
-      choose _ (neighbour-gives T (cell .dims) cell refl some-dims room x)
+      choose _ (neighbour-gives T (cell .dims) cell refl some-dims free x)
       (λ _.
       choose _ (own-gives T (cell .dims) cell x)
       (λ _.
@@ -196,26 +197,26 @@ module _ {input : Input} {text : List ℕ} (T : Text input text) (cell : Cell) (
       choose _
       (λ q.
       by-found _ false
-      (λ slot f. given-as (name-gives x q slot (found-name f) room inner reads) (λ e t h. (h .0, λ wf v. primary-name _ (s .at) (view-kind v x (s .at) ∙ eqb-true _ _ q) (h .1 wf v))))
+      (λ slot f. given-as (name-gives x q slot (found-name f) free inner reads) (λ e t h. (h .0, λ wf v. primary-name _ (s .at) (view-kind v x (s .at) ∙ eqb-true _ _ q) (h .1 wf v))))
       (refused 8))
       (λ _. refused 7)))))))
 
-  operand-gives : (room : Bool) (inner : Reader Expr) → ReadsLevel 1 inner → ReadsOperand (read-operand cell room inner)
+  operand-gives : (free : Bool) (inner : Reader Expr) → ReadsLevel 1 inner → ReadsOperand (read-operand cell free inner)
   unfolding read-operand is-unary is-sign-kind is-sign-token
-  operand-gives room inner reads s x =
+  operand-gives free inner reads s x =
       at-token _
       (choose (eqb (token-of input s (s .at) .kind) (operation .plus) || eqb (token-of input s (s .at) .kind) (operation .minus) || eqb (token-of input s (s .at) .kind) (operation .not))
       (λ q.
       let l : s .at < tokens input = of-kinds x (s .at) (operation .plus) (operation .minus) (operation .not) (omega arith) (omega arith) (omega arith) q in
       let r = go-on x l in
-      made _ (over (primary-gives room inner reads (r .sound)))
+      made _ (over (primary-gives free inner reads (r .sound)))
       (λ e t h. (
         join r (h .0),
         λ wf v.
             subst₂ (λ (k p : ℕ). Operand (table-of wf (tokens input) (cell .dims)) (s .at) (unary k p e) (t .at)) (view-kind v x (s .at)) (view-place v x (s .at) l)
             (operand-unary _ (s .at) (rw (view-kind v x (s .at)) q) (h .1 wf (inner-part v))),
       )))
-      (λ q. given-as (primary-gives room inner reads x) (λ e t h. (h .0, λ wf v. operand-plain _ (s .at) (rw (view-kind v x (s .at)) q) (h .1 wf v)))))
+      (λ q. given-as (primary-gives free inner reads x) (λ e t h. (h .0, λ wf v. operand-plain _ (s .at) (rw (view-kind v x (s .at)) q) (h .1 wf v)))))
 
   -- ---- operators
 
@@ -276,11 +277,11 @@ module _ {input : Input} {text : List ℕ} (T : Text input text) (cell : Cell) (
           given-as (repeated _ (turn-gives level (λ k i u. climb more operand k i u) o (λ own m. tighter (own + 1) (omega arith) (omega arith))) turns (left-part e 0) t (h .0 .sound))
           (λ e′ u k. (join (h .0) (k .0), λ wf v. expression _ level (s .at) (h .1 wf (first-part v (k .0))) (k .1 wf (second-part x v (h .0) (k .0))))))
 
-  operands : (room : ℕ) → ReadsOperand (operand-in cell room)
+  operands : (free : ℕ) → ReadsOperand (operand-in cell free)
   unfolding operand-in
   operands zero = operand-gives false (refuse 14) (λ s x. refused 14)
-  operands (suc room) = operand-gives true _ (climb-gives levels (operand-in cell room) (operands room) 1 (omega arith) (omega arith))
+  operands (suc free) = operand-gives true _ (climb-gives levels (operand-in cell free) (operands free) 1 (omega arith) (omega arith))
 
   -- an expression stands where it is read
-  pub expression-gives : (room : ℕ) → ReadsLevel 1 (read-expression cell room)
-  expression-gives room = climb-gives levels (operand-in cell room) (operands room) 1 (omega arith) (omega arith)
+  pub expression-gives : (free : ℕ) → ReadsLevel 1 (read-expression cell free)
+  expression-gives free = climb-gives levels (operand-in cell free) (operands free) 1 (omega arith) (omega arith)

@@ -10,6 +10,7 @@ use lib.Dec.{eqb}
 use lib.IntN.{ℤ}
 use lib.ListN.{length, length-append}
 use borrow.Author.Tests.{eqb-true, eqb-false, not-true}
+use Rattle.value.proofs.Theorems.Truth.{or-either}
 use Rattle.value.specs.Choice.{if_then_else_}
 use Rattle.value.specs.Worked.{decode-of, encode-of}
 use Rattle.value.proofs.Theorems.Laws.{and-both}
@@ -21,12 +22,13 @@ use Rattle.program.specs.Syntax.{Range, Index, fixed, moving, Expr, field}
 use Rattle.grammar.specs.Reader.{Input, State, Reader, _>>_, unit, again, done, turns, token-of, is-kind, is-name, forbid}
 use Rattle.grammar.specs.Constants.{is-sign as is-sign-token}
 use Rattle.grammar.specs.Expressions.{Cell, plain, field-name, dot-field, field-number, read-field, put-field, named-index, fixed-index, read-index, index-turn, read-indices, read-neighbour, read-own}
+use Rattle.grammar.proofs.Theorems.Ends.{Gives, bind}
 use Rattle.cell_meaning.specs.Contracts.Stands.{index-in, next-index, indices-in, is-sign-kind}
 use Rattle.cell_meaning.specs.Links.{Table, table-of, word-in, linked}
-use Rattle.read_links.proofs.Theorems.Steps.{advanced, written, Gives, gave, refused, bind, regroup, given-as, choose, at-position, at-token, at-entry, over, wrote, wrote-both, by-found, expected, forbidden, opened, Turned, repeated}
+use Rattle.read_links.proofs.Theorems.Steps.{advanced, written, gave, refused, regroup, given-as, choose, at-position, at-token, at-entry, over, wrote, wrote-both, by-found, expected, forbidden, opened, Turned, repeated}
 use Rattle.read_links.proofs.Theorems.Runs.{tokens, head-at, span-at, Text, Entered, Sound, Run, stay, join, go-on, write-first, word-put, both-2, both-3}
 use Rattle.read_links.proofs.Theorems.Naming.{of-kind, head-is, token-start, token-len, Found, found-name}
-use Rattle.read_links.proofs.Theorems.Constants.{is-name-inside, signable-decoded, either, Piece, write-piece, used, used-it, use-piece, signed-gives}
+use Rattle.read_links.proofs.Theorems.Constants.{is-name-inside, signable-decoded, Piece, write-piece, used, used-it, use-piece, signed-gives}
 use Rattle.read_links.proofs.Theorems.Tables.{View, Claim, first-part, second-part, inner-part, unwritten, view-word, view-kind, view-place, link-to}
 use Rattle.read_links.proofs.Theorems.Adding.{plain-kind, plain-by, plain-of, Adds, adds-none, adds-both, adds-plain}
 use Rattle.read_links.proofs.Theorems.Decoding.{Primary, primary-index, primary-own}
@@ -58,7 +60,7 @@ module _ {input : Input} {text : List ℕ} (T : Text input text) where
   -- `cell` and `time` are found in no name list
   pub a-name-found : {s : State} → Sound input text s → (i : ℕ) → is-name (token-of input s i) ≡ true → {fields : Bool} {slot : ℕ} → Found (input .source) (s .names) (s .count) fields (token-of input s i .start) (token-of input s i .len) slot → eqb (token-of input s i .kind) (kind .name) ≡ true
   unfolding is-name
-  a-name-found {s} x i q {fields} {slot} f = by (either _ _ q)
+  a-name-found {s} x i q {fields} {slot} f = by (or-either _ _ q)
     where
       l : i < tokens input
       l = is-name-inside x i q
@@ -77,7 +79,7 @@ module _ {input : Input} {text : List ℕ} (T : Text input text) where
       by₂ (inr h) = absurd (no (inl (head-is x i (kind .cell) (omega arith) h)))
 
       by : ((eqb (token-of input s i .kind) (kind .name) || eqb (token-of input s i .kind) (kind .cell)) ≡ true) ⊎ (eqb (token-of input s i .kind) (kind .time) ≡ true) → eqb (token-of input s i .kind) (kind .name) ≡ true
-      by (inl h) = by₂ (either _ _ h)
+      by (inl h) = by₂ (or-either _ _ h)
       by (inr h) = absurd (no (inr (head-is x i (kind .time) (omega arith) h)))
 
   -- ---- relative indices
@@ -300,12 +302,12 @@ module _ {input : Input} {text : List ℕ} (T : Text input text) where
     abbrev pub Reads : (Table → ℕ → Expr → ℕ → Type 0) → State → Expr → State → Type 0
     Reads D s e t = Run input text s t × Claim input text dims s t (λ tb. D tb (s .at) e (t .at))
 
-    pub neighbour-gives : (cell : Cell) → cell .dims ≡ dims → 0 < dims → (room : Bool) {s : State} → Sound input text s → eqb (token-of input s (s .at) .kind) (delimiter .bracket) ≡ true → Gives input (read-neighbour cell room) s (Reads Primary s)
+    pub neighbour-gives : (cell : Cell) → cell .dims ≡ dims → 0 < dims → (free : Bool) {s : State} → Sound input text s → eqb (token-of input s (s .at) .kind) (delimiter .bracket) ≡ true → Gives input (read-neighbour cell free) s (Reads Primary s)
     unfolding read-neighbour
-    neighbour-gives cell d l room {s} x q =
+    neighbour-gives cell d l free {s} x q =
         let r₁ = go-on x (of-kind x (s .at) (delimiter .bracket) (omega arith) q) in
         at-position _
-        (opened room
+        (opened free
         (λ _.
         bind (elements-gives cell d (r₁ .sound) l)
         (λ is t h.

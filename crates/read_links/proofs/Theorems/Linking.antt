@@ -9,6 +9,7 @@ use lib.Dec.{ltb}
 use lib.ListN.{length, getD, replicate, length-append, length-replicate, getD-replicate, List·getD-eq-default}
 use lib.Seq.{getD-append-add, ext-getD}
 use borrow.Author.Tests.{ltb-true, ltb-false, lt-ltb}
+use Rattle.token.proofs.Scans.{words-long}
 use Rattle.value.specs.Limits.{most-open}
 use Rattle.value.specs.Worked.{decode-of}
 use Rattle.automaton.specs.Contracts.ListedLaws.{length-list-of, getD-list-of}
@@ -20,10 +21,9 @@ use Rattle.names.specs.Names.{name-kind, entry-at, letters}
 use mathlib.Core.Option.{Option}
 use Rattle.program.specs.Syntax.{range, no-range, Expr, Clause, Block}
 use Rattle.program.specs.Table.{word-at}
-use Rattle.grammar.specs.Reader.{Input, State, ok, unit, token-of}
-use Rattle.grammar.specs.Constants.{read-constants}
-use Rattle.grammar.specs.Statements.{read-block}
-use Rattle.grammar.specs.Source.{Declared, read-cell, input-of, start-state, has-kind}
+use Rattle.grammar.specs.Reader.{Input, unit}
+use Rattle.grammar.specs.Source.{input-of, start-state, has-kind}
+use Rattle.grammar.specs.Contracts.Traces.{Trace}
 use Rattle.cell_meaning.specs.Contracts.Stands.{ranges-in, Stands}
 use Rattle.cell_meaning.specs.Links.{table-of, word-in}
 use Rattle.cell_meaning.specs.Written.{relatives-in-block}
@@ -41,11 +41,6 @@ use Rattle.read_links.proofs.Theorems.Timed.{Timing, timed-stands}
 use Rattle.read_links.proofs.Theorems.Scanning.{same-lists, wordlike, Fit, All, Good, scanned-good}
 
 -- ---- the words of the tokens of a source
-
-words-long : (ts : List Token) → length (token-words ts) ≡ 4 * length ts
-unfolding token-words
-words-long [] = refl
-words-long (t ∷ ts) = omega (arith, words-long ts)
 
 -- the token whose words stand at a position
 pub record There (source words : List ℕ) (i : ℕ) : Type 0 where
@@ -172,50 +167,48 @@ module _ (source : List ℕ) (short : length source ≤ 65535) where
 
 -- ---- the whole source
 
--- what is left where the statements begin, at s₂, and behind them, at s₃; the cell declaration began at s₁
-pub record Linked (source : List ℕ) (s₁ s₂ s₃ : State) (d : Declared) (b : Block) : Type 0 where
+-- what is left where the statements begin and behind them, of the states that reading passes
+pub record Linked (source : List ℕ) (t : Trace source) : Type 0 where
   -- the statements stand in the table that is left
-  pub body : Stands (table-of (s₃ .words) (tokens (input-of source)) (d .cell .dims)) 0 b (s₂ .at)
+  pub body : Stands (table-of (t .s₃ .words) (tokens (input-of source)) (t .declaration .cell .dims)) 0 (t .body) (t .s₂ .at)
   -- the indices that are written in them are those of the tokens from there on
-  pub indices : Writes (table-of (s₃ .words) (tokens (input-of source)) (d .cell .dims)) [] (s₂ .at) (tokens (input-of source)) (relatives-in-block [] b)
+  pub indices : Writes (table-of (t .s₃ .words) (tokens (input-of source)) (t .declaration .cell .dims)) [] (t .s₂ .at) (tokens (input-of source)) (relatives-in-block [] (t .body))
   -- a clause without a condition is the last
-  pub proper : Proper b
+  pub proper : Proper (t .body)
   -- the ranges of the fields stand from the `of` behind `dimensions` on, two tokens behind the constants
-  pub fields : d .fields ≡ ranges-in (table-of (s₃ .words) (tokens (input-of source)) (d .cell .dims)) (s₁ .at + 2) (length (d .fields))
-  pub fields-inside : s₁ .at + 2 + length (d .fields) < s₂ .at
+  pub fields : t .declaration .fields ≡ ranges-in (table-of (t .s₃ .words) (tokens (input-of source)) (t .declaration .cell .dims)) (t .s₁ .at + 2) (length (t .declaration .fields))
+  pub fields-inside : t .s₁ .at + 2 + length (t .declaration .fields) < t .s₂ .at
   -- their ends are literals with at most one sign
-  pub ends : (k : ℕ) → k < length (d .fields) → Signable (getD (d .fields) k no-range .low) × Signable (getD (d .fields) k no-range .high)
-  pub some-dims : 0 < d .cell .dims
-  pub few-dims : d .cell .dims ≤ 3
-  pub some-fields : 0 < length (d .fields)
-  pub few-fields : length (d .fields) ≤ 8
+  pub ends : (k : ℕ) → k < length (t .declaration .fields) → Signable (getD (t .declaration .fields) k no-range .low) × Signable (getD (t .declaration .fields) k no-range .high)
+  pub some-dims : 0 < t .declaration .cell .dims
+  pub few-dims : t .declaration .cell .dims ≤ 3
+  pub some-fields : 0 < length (t .declaration .fields)
+  pub few-fields : length (t .declaration .fields) ≤ 8
   pub few-tokens : tokens (input-of source) ≤ 4096
   -- nothing before the statements was written while they were read
-  pub kept : (i : ℕ) → i < 4 * s₂ .at → getD (s₃ .words) i 0 ≡ getD (s₂ .words) i 0
-  pub inside : s₂ .at ≤ tokens (input-of source)
-  pub in-order : s₂ .at ≤ s₃ .at
-  pub within : s₃ .at ≤ tokens (input-of source)
-  pub few-names : s₃ .count ≤ 256
+  pub kept : (i : ℕ) → i < 4 * t .s₂ .at → getD (t .s₃ .words) i 0 ≡ getD (t .s₂ .words) i 0
+  pub inside : t .s₂ .at ≤ tokens (input-of source)
+  pub in-order : t .s₂ .at ≤ t .s₃ .at
+  pub within : t .s₃ .at ≤ tokens (input-of source)
+  pub few-names : t .s₃ .count ≤ 256
   -- the names are as in every state that reading can be in
-  pub sound : Sound (input-of source) (scanned-words (scan source)) s₃
+  pub sound : Sound (input-of source) (scanned-words (scan source)) (t .s₃)
   -- and none is an index's
-  pub no-index : (slot : ℕ) → slot < s₃ .count → entry-at (s₃ .names) slot .kind ≡ name-kind .index → ⊥
-  pub size : length (s₃ .words) ≡ 16384
+  pub no-index : (slot : ℕ) → slot < t .s₃ .count → entry-at (t .s₃ .names) slot .kind ≡ name-kind .index → ⊥
+  pub size : length (t .s₃ .words) ≡ 16384
   -- the tokens are those of the source
-  pub heads : (i : ℕ) → head-at (s₃ .words) i ≡ head-at (scanned-words (scan source)) i
-  pub spans : (i : ℕ) → span-at (s₃ .words) i ≡ span-at (scanned-words (scan source)) i
+  pub heads : (i : ℕ) → head-at (t .s₃ .words) i ≡ head-at (scanned-words (scan source)) i
+  pub spans : (i : ℕ) → span-at (t .s₃ .words) i ≡ span-at (scanned-words (scan source)) i
 
--- reading goes from the start over the constants to s₁, over the cell declaration to s₂, and over the statements to s₃; there the source
--- ends, and no refusal is noted
-pub linking : (source : List ℕ) → length source ≤ 65535 → (s₁ s₂ s₃ : State) (d : Declared) (b : Block) → read-constants (input-of source) (start-state (scan source)) ≡ ok (unit, s₁) → read-cell (input-of source) s₁ ≡ ok (d, s₂)
-    → read-block (d .cell) most-open 0 (input-of source) s₂ ≡ ok (b, s₃) → token-of (input-of source) s₃ (s₃ .at) .kind ≡ kind .stop → s₃ .noted .number ≡ 0 → Linked source s₁ s₂ s₃ d b
+-- so it is of every source of allowed length that is read so
+pub linking : (source : List ℕ) → length source ≤ 65535 → (t : Trace source) → Linked source t
 unfolding kind-at
-linking source short s₁ s₂ s₃ d b p q r stop clear =
+linking source short t =
     record {
-      body = whole .1 (λ e. omega (arith, stop)) (s₃ .words) view;
-      indices = subst (λ (n : ℕ). Writes (table-of (s₃ .words) (tokens input) (d .cell .dims)) [] (s₂ .at) n (relatives-in-block [] b)) at-end (all-of _ [] (whole .3 (s₃ .words) view [] refl));
+      body = whole .1 (λ e. omega (arith, t .stop)) (t .s₃ .words) view;
+      indices = subst (λ (n : ℕ). Writes (table-of (t .s₃ .words) (tokens input) (t .declaration .cell .dims)) [] (t .s₂ .at) n (relatives-in-block [] (t .body))) at-end (all-of _ [] (whole .3 (t .s₃ .words) view [] refl));
       proper = whole .2;
-      fields = ext-getD no-range (d .fields) _ (sym (length-list-of _ (length (d .fields)))) (λ k l. sym (field k l));
+      fields = ext-getD no-range (t .declaration .fields) _ (sym (length-list-of _ (length (t .declaration .fields)))) (λ k l. sym (field k l));
       fields-inside = cell .long;
       ends = cell .ends;
       some-dims = cell .some-dims;
@@ -241,45 +234,45 @@ linking source short s₁ s₂ s₃ d b p q r stop clear =
     T : Text input (scanned-words (scan source))
     T = text-of source short
 
-    constants : Run input (scanned-words (scan source)) (start-state (scan source)) s₁
-    constants = constants-gives T (start-sound source short) .is unit s₁ p
+    constants : Run input (scanned-words (scan source)) (start-state (scan source)) (t .s₁)
+    constants = constants-gives T (start-sound source short) .is unit (t .s₁) (t .constants)
 
-    cell : CellRead T s₁ d s₂
-    cell = cell-gives T (constants .sound) .is d s₂ q
+    cell : CellRead T (t .s₁) (t .declaration) (t .s₂)
+    cell = cell-gives T (constants .sound) .is (t .declaration) (t .s₂) (t .cell)
 
-    whole : BlockRead T (d .cell) (cell .some-dims) 0 s₂ b s₃
-    whole = block-gives T (d .cell) (cell .some-dims) most-open 0 (omega arith) s₂ (cell .run .sound) .is b s₃ r
+    whole : BlockRead T (t .declaration .cell) (cell .some-dims) 0 (t .s₂) (t .body) (t .s₃)
+    whole = block-gives T (t .declaration .cell) (cell .some-dims) most-open 0 (omega arith) (t .s₂) (cell .run .sound) .is (t .body) (t .s₃) (t .block)
 
-    run : Run input (scanned-words (scan source)) s₂ s₃
+    run : Run input (scanned-words (scan source)) (t .s₂) (t .s₃)
     run = whole .0
 
-    view : View input (scanned-words (scan source)) (d .cell .dims) (s₃ .words) s₂ s₃
+    view : View input (scanned-words (scan source)) (t .declaration .cell .dims) (t .s₃ .words) (t .s₂) (t .s₃)
     view = record {
       final = record { heads = run .sound .heads; spans = run .sound .spans };
       later = λ j l m. refl;
-      known = known-left (d .cell .dims) (cell .run .sound) run clear;
-      clear = clear;
+      known = known-left (t .declaration .cell .dims) (cell .run .sound) run (t .clear);
+      clear = t .clear;
     }
 
-    at-end : s₃ .at ≡ tokens input
-    at-end = by (ltb (s₃ .at) (tokens input)) refl
+    at-end : t .s₃ .at ≡ tokens input
+    at-end = by (ltb (t .s₃ .at) (tokens input)) refl
       where
-        by : (c : Bool) → ltb (s₃ .at) (tokens input) ≡ c → s₃ .at ≡ tokens input
+        by : (c : Bool) → ltb (t .s₃ .at) (tokens input) ≡ c → t .s₃ .at ≡ tokens input
         by true e =
-            let l = ltb-true (s₃ .at) (tokens input) e in
-            let k : kind-at input (scanned-words (scan source)) (s₃ .at) ≡ head-at (scanned-words (scan source)) (s₃ .at) = rw (lt-ltb (s₃ .at) (tokens input) l) in
-            let t = at source short (s₃ .at) l in
-            absurd (t .fit .going (sym (t .head) ∙ sym k ∙ sym (token-kind (run .sound) (s₃ .at)) ∙ stop))
-        by false e = omega (arith, ltb-false (s₃ .at) (tokens input) e, run .sound .within)
+            let l = ltb-true (t .s₃ .at) (tokens input) e in
+            let k : kind-at input (scanned-words (scan source)) (t .s₃ .at) ≡ head-at (scanned-words (scan source)) (t .s₃ .at) = rw (lt-ltb (t .s₃ .at) (tokens input) l) in
+            let u = at source short (t .s₃ .at) l in
+            absurd (u .fit .going (sym (u .head) ∙ sym k ∙ sym (token-kind (run .sound) (t .s₃ .at)) ∙ t .stop))
+        by false e = omega (arith, ltb-false (t .s₃ .at) (tokens input) e, run .sound .within)
 
-    field : (k : ℕ) → k < length (d .fields) → getD (ranges-in (table-of (s₃ .words) (tokens input) (d .cell .dims)) (s₁ .at + 2) (length (d .fields))) k no-range ≡ getD (d .fields) k no-range
+    field : (k : ℕ) → k < length (t .declaration .fields) → getD (ranges-in (table-of (t .s₃ .words) (tokens input) (t .declaration .cell .dims)) (t .s₁ .at + 2) (length (t .declaration .fields))) k no-range ≡ getD (t .declaration .fields) k no-range
     field k l =
-        let i = s₁ .at + 2 + k in
+        let i = t .s₁ .at + 2 + k in
         let m : i < tokens input = omega (arith, cell .long, cell .run .sound .within) in
-        let w : (v : ℕ) → v < 4 → word-in (s₃ .words) (tokens input) v i ≡ word-at (s₂ .words) i v = λ v o. word-inside (s₃ .words) (tokens input) v i m ∙ run .below (4 * i + v) (omega (arith, cell .long)) in
-        getD-list-of _ (length (d .fields)) k no-range l ∙ ap₂ (λ (x y : ℕ). range (decode-of x) (decode-of y)) (w 2 (omega arith)) (w 3 (omega arith)) ∙ cell .ranges k l
+        let w : (v : ℕ) → v < 4 → word-in (t .s₃ .words) (tokens input) v i ≡ word-at (t .s₂ .words) i v = λ v o. word-inside (t .s₃ .words) (tokens input) v i m ∙ run .below (4 * i + v) (omega (arith, cell .long)) in
+        getD-list-of _ (length (t .declaration .fields)) k no-range l ∙ ap₂ (λ (x y : ℕ). range (decode-of x) (decode-of y)) (w 2 (omega arith)) (w 3 (omega arith)) ∙ cell .ranges k l
 
 -- where `time` stands in the statements, a token of the source is `time`
-pub timed-linked : {timed-expr : Expr → Bool} {timed-condition : Option Expr → Bool} {timed-clauses : List Clause → Bool} {timed : Block → Bool} → Timing timed-expr timed-condition timed-clauses timed → {source : List ℕ} {s₁ s₂ s₃ : State} {d : Declared} {b : Block}
-    → Linked source s₁ s₂ s₃ d b → timed b ≡ true → has-kind (kind .time) (s₃ .words) (tokens (input-of source)) ≡ true
-timed-linked T {source} {s₁} {s₂} {s₃} {d} {b} x h = timed-stands T (s₃ .words) (tokens (input-of source)) (d .cell .dims) 0 b (s₂ .at) (x .proper) (x .body) h
+pub timed-linked : {timed-expr : Expr → Bool} {timed-condition : Option Expr → Bool} {timed-clauses : List Clause → Bool} {timed : Block → Bool} → Timing timed-expr timed-condition timed-clauses timed → {source : List ℕ} {t : Trace source}
+    → Linked source t → timed (t .body) ≡ true → has-kind (kind .time) (t .s₃ .words) (tokens (input-of source)) ≡ true
+timed-linked T {source} {t} x h = timed-stands T (t .s₃ .words) (tokens (input-of source)) (t .declaration .cell .dims) 0 (t .body) (t .s₂ .at) (x .proper) (x .body) h

@@ -17,7 +17,8 @@ use Rattle.names.specs.declared.Entry.{Entry}
 use Rattle.names.specs.Names.{name-kind, entry-at, with-value, variables-in}
 use Rattle.program.specs.Table.{word-at}
 use Rattle.grammar.specs.Reader.{Input, State, ok}
-use Rattle.grammar.specs.Source.{Accepted, accepted-as, settled-value, settled, input-of, parse}
+use Rattle.grammar.specs.Source.{Accepted, settled-value, settled, input-of, parse}
+use Rattle.grammar.specs.Contracts.Traces.{accepted-by}
 use Rattle.read_links.proofs.Theorems.Runs.{Sound, Run, stay, Signable, value-kept}
 use Rattle.read_links.proofs.Theorems.Removing.{one-more, variables-kept, variables-more}
 use Rattle.read_links.proofs.Theorems.Accepted.{Parsed, parsed}
@@ -63,8 +64,8 @@ numbered {s = s} {t = t} x r =
 -- ---- of an accepted source
 
 -- at its end, with n the slots of its program
-pub accepted-numbered : {source : List ℕ} {a : Accepted} (p : Parsed source a) → Numbered (p .s₃) (a .program .slots)
-accepted-numbered p = subst (λ (z : Accepted). Numbered (p .s₃) (z .program .slots)) (sym (p .is)) (numbered (p .linked .sound) (stay (p .linked .sound)))
+pub accepted-numbered : {source : List ℕ} {a : Accepted} (p : Parsed source a) → Numbered (p .trace .s₃) (a .program .slots)
+accepted-numbered p = subst (λ (z : Accepted). Numbered (p .trace .s₃) (z .program .slots)) (sym (p .is)) (numbered (p .linked .sound) (stay (p .linked .sound)))
 
 -- the values that names have after acceptance change nothing else
 module _ (words names : List ℕ) where
@@ -94,24 +95,24 @@ pub names-left : {source : List ℕ} {a : Accepted} (p : Parsed source a) → Le
 names-left {source} {a} p =
     subst (λ (z : Accepted). Left (z .names) (z .program .slots)) (sym (p .is))
     (record {
-      size = settled-length (p .s₃ .words) (p .s₃ .names) (p .s₃ .count) ∙ x .room;
+      size = settled-length (p .trace .s₃ .words) (p .trace .s₃ .names) (p .trace .s₃ .count) ∙ x .room;
       few = x .most;
-      kinds = λ slot l. let k = settled-kind (p .s₃ .words) (p .s₃ .names) (p .s₃ .count) slot in (rw k (x .entries slot l .some-kind), rw k (x .entries slot l .a-kind));
-      no-index = λ slot l k. p .linked .no-index slot l (sym (settled-kind (p .s₃ .words) (p .s₃ .names) (p .s₃ .count) slot) ∙ k);
-      rest = λ j l m. settled-word (p .s₃ .words) (p .s₃ .names) (p .s₃ .count) j (λ slot o e. absurd (omega arith)) ∙ x .rest j l m;
+      kinds = λ slot l. let k = settled-kind (p .trace .s₃ .words) (p .trace .s₃ .names) (p .trace .s₃ .count) slot in (rw k (x .entries slot l .some-kind), rw k (x .entries slot l .a-kind));
+      no-index = λ slot l k. p .linked .no-index slot l (sym (settled-kind (p .trace .s₃ .words) (p .trace .s₃ .names) (p .trace .s₃ .count) slot) ∙ k);
+      rest = λ j l m. settled-word (p .trace .s₃ .words) (p .trace .s₃ .names) (p .trace .s₃ .count) j (λ slot o e. absurd (omega arith)) ∙ x .rest j l m;
     })
   where
-    x : Sound (input-of source) (scanned-words (scan source)) (p .s₃)
+    x : Sound (input-of source) (scanned-words (scan source)) (p .trace .s₃)
     x = p .linked .sound
 
 -- the number that a variable has at the end is how many variables stand before it in the list that is left
-pub number-left : {source : List ℕ} {a : Accepted} (p : Parsed source a) (slot : ℕ) → slot < a .program .slots → entry-at (a .names) slot .kind ≡ name-kind .variable → entry-at (p .s₃ .names) slot .word ≡ variables-in (a .names) slot
+pub number-left : {source : List ℕ} {a : Accepted} (p : Parsed source a) (slot : ℕ) → slot < a .program .slots → entry-at (a .names) slot .kind ≡ name-kind .variable → entry-at (p .trace .s₃ .names) slot .word ≡ variables-in (a .names) slot
 number-left {source} {a} p slot =
-    subst (λ (z : Accepted). slot < z .program .slots → entry-at (z .names) slot .kind ≡ name-kind .variable → entry-at (p .s₃ .names) slot .word ≡ variables-in (z .names) slot) (sym (p .is))
-    (λ l k. p .linked .sound .numbered slot l (sym (kinds slot) ∙ k) ∙ sym (variables-kept (p .s₃ .names) (settled (p .s₃ .words) (p .s₃ .names) (p .s₃ .count)) slot (λ j _. kinds j)))
+    subst (λ (z : Accepted). slot < z .program .slots → entry-at (z .names) slot .kind ≡ name-kind .variable → entry-at (p .trace .s₃ .names) slot .word ≡ variables-in (z .names) slot) (sym (p .is))
+    (λ l k. p .linked .sound .numbered slot l (sym (kinds slot) ∙ k) ∙ sym (variables-kept (p .trace .s₃ .names) (settled (p .trace .s₃ .words) (p .trace .s₃ .names) (p .trace .s₃ .count)) slot (λ j _. kinds j)))
   where
-    kinds : (j : ℕ) → entry-at (settled (p .s₃ .words) (p .s₃ .names) (p .s₃ .count)) j .kind ≡ entry-at (p .s₃ .names) j .kind
-    kinds = settled-kind (p .s₃ .words) (p .s₃ .names) (p .s₃ .count)
+    kinds : (j : ℕ) → entry-at (settled (p .trace .s₃ .words) (p .trace .s₃ .names) (p .trace .s₃ .count)) j .kind ≡ entry-at (p .trace .s₃ .names) j .kind
+    kinds = settled-kind (p .trace .s₃ .words) (p .trace .s₃ .names) (p .trace .s₃ .count)
 
 -- ---- the constants in its name list
 
@@ -155,8 +156,8 @@ constants-signable source short a e = subst Says (sym (p .is)) all
     Says : Accepted → Type 0
     Says z = (slot : ℕ) → slot < z .program .slots → entry-at (z .names) slot .kind ≡ name-kind .constant → Signable (decode-of (entry-at (z .names) slot .word))
 
-    all : Says (accepted-as (input-of source) (p .declaration) (p .body) (p .s₃))
+    all : Says (accepted-by (p .trace))
     all slot l k =
-        let s = p .s₃ in
+        let s = p .trace .s₃ in
         let kind = sym (settled-kind (s .words) (s .names) (s .count) slot) ∙ k in
         subst (λ (x : Entry). Signable (decode-of (x .word))) (sym (settled-constant (s .words) (s .names) (s .count) slot kind)) (p .linked .sound .entries slot l .small kind)

@@ -8,6 +8,7 @@ use lib.Dec.{eqb, leb, ltb}
 use lib.ListN.{length, take, drop, getD, length-drop}
 use lib.Seq.{drop-cons, drop-drop}
 use borrow.Author.Tests.{not-true, eqb-true, eqb-false, ltb-true, ltb-false, leb-false, ne-eqb}
+use Rattle.token.proofs.Extents.{extent-within}
 use Rattle.value.specs.Choice.{if_then_else_}
 use Rattle.value.proofs.Theorems.Laws.{never, and-both}
 use Rattle.token.specs.declared.Token.{Token}
@@ -25,15 +26,6 @@ same-lists [] [] e = refl
 same-lists [] (y ∷ ys) e = never e
 same-lists (x ∷ xs) [] e = never e
 same-lists (x ∷ xs) (y ∷ ys) e = let h = and-both (eqb x y) (same xs ys) e in ap₂ (λ (a : ℕ) (b : List ℕ). a ∷ b) (eqb-true x y (h .0)) (same-lists xs ys (h .1))
-
-pub extent-within : (test : List ℕ → Bool) (s : List ℕ) → extent test s ≤ length s
-unfolding extent
-extent-within test [] = omega arith
-extent-within test (b ∷ bs) = by (test (b ∷ bs) || eqb (kind-of b) (byte-kind .underscore) && test bs) (extent-within test bs)
-  where
-    by : (c : Bool) → extent test bs ≤ length bs → elim c [ true ↦ suc (extent test bs) | false ↦ 0 ] ≤ suc (length bs)
-    by true h = omega arith
-    by false h = omega arith
 
 letters-here : (source : List ℕ) (n p : ℕ) → n ≤ length (drop p source) → map fold (take n (drop p source)) ≡ letters source p n
 unfolding letters

@@ -22,7 +22,8 @@ use Rattle.program.specs.Table.{word-at, with-word, with-range}
 use Rattle.program.specs.Contracts.Ranges.{range-at}
 use Rattle.grammar.specs.Reader.{Input, State, again, done, turns, token-of, is-kind, repeat, return}
 use Rattle.grammar.specs.Source.{field-turn, with-ranges, put-ranges, read-group, group-turn, read-dims, is-unnamed, Declared, declared, read-fields, read-cell}
-use Rattle.read_links.proofs.Theorems.Steps.{advanced, written, named, Gives, gave, refused-last, bind, made, choose, at-position, at-token, at-kind-after, over, named-it, expected, forbidden, Turned, repeated}
+use Rattle.grammar.proofs.Theorems.Ends.{Gives, bind}
+use Rattle.read_links.proofs.Theorems.Steps.{advanced, written, named, gave, refused-last, made, choose, at-position, at-token, at-kind-after, over, named-it, expected, forbidden, Turned, repeated}
 use Rattle.read_links.proofs.Theorems.Runs.{word-other, both-2, both-3, tokens, head-at, Text, Signable, Sound, Run, stay, join, go-on, write, entry-new, entry-kept}
 use Rattle.read_links.proofs.Theorems.Naming.{of-kind, name-it}
 use Rattle.read_links.proofs.Theorems.Constants.{Piece, one-token, signable-decoded, constant-gives, range-gives, fresh-it}
@@ -154,8 +155,8 @@ module _ {input : Input} {text : List ℕ} (T : Text input text) where
       turn : (n : ℕ) (s : State) → Names s₀ n s → Gives input (field-turn k n) s (Turned (Names s₀) (λ n s m t. Names s₀ m t × Run input text s t × (n ≤ m)) n s)
       turn n s h =
           fresh-it T true (if leb 8 n then 43 else 0) _ (h .bare .run .sound)
-          (λ free l name few.
-          let more : n < 8 = not-eight n free in
+          (λ not-full l name few.
+          let more : n < 8 = not-eight n not-full in
           let b₁ : Bare s₀ (advanced s) = bare-piece (h .bare) (one-token (h .bare .run .sound) l) in
           named-it _ _ _ _
           (let b₂ : Bare s₀ (named input (advanced s) (s .at) k n) = bare-named b₁ (s .at) k n l name few k₂ k₇ k₄ k₅ in

@@ -17,10 +17,11 @@ use Rattle.program.specs.Syntax.{Range, range, Block, empty, loop, exit, consta
 use Rattle.grammar.specs.Reader.{Input, State, Reader, done, turns, token-of, is-kind, is-name}
 use Rattle.grammar.specs.Expressions.{Cell}
 use Rattle.grammar.specs.Statements.{read-forall, read-exit, Parts, put-after, statement-turn, read-block}
+use Rattle.grammar.proofs.Theorems.Ends.{Gives, bind}
 use Rattle.cell_meaning.specs.Contracts.Stands.{Stands}
 use Rattle.cell_meaning.specs.Links.{Table, table-of, word-in, linked, begins}
 use Rattle.cell_meaning.specs.Written.{relatives-in-block}
-use Rattle.read_links.proofs.Theorems.Steps.{advanced, written, named, released, Gives, gave, refused, bind, made, given-as, choose, at-position, at-token, over, wrote, wrote-both, named-it, released-it, expected, opened, Turned, repeated}
+use Rattle.read_links.proofs.Theorems.Steps.{advanced, written, named, released, gave, refused, made, given-as, choose, at-position, at-token, over, wrote, wrote-both, named-it, released-it, expected, opened, Turned, repeated}
 use Rattle.read_links.proofs.Theorems.Runs.{tokens, head-at, Text, Sound, RunBut, Run, but, stay, join, go-on, write-first, word-put, both-2, both-3, entry-new}
 use Rattle.read_links.proofs.Theorems.Naming.{of-kind, name-it, release-it}
 use Rattle.read_links.proofs.Theorems.Constants.{signable-decoded, Piece, one-token, join-pieces, past-token, write-piece, range-gives, fresh-it, Declares, declaration-gives}
@@ -73,12 +74,12 @@ module _ {input : Input} {text : List ℕ} (T : Text input text) (cell : Cell) (
             high-is : word-in wf (tokens input) 3 (s .at + 1) ≡ encode-of (r .high)
             high-is = view-word v (b .sound .within) (s .at + 1) 3 (le-refl _) (omega (arith, b .on, f .far)) (omega arith) ∙ b .below _ (omega (arith, f .far)) ∙ both-3 (p .words) (s .at + 1) (encode-of (r .low)) (encode-of (r .high)) l
 
-    pub forall-gives : (room : Bool) → (room ≡ true → depth < 16) → (block : Reader Block) → ReadsBlock T cell some-dims (depth + 1) block → Gives input (read-forall room depth block) s (Statement T cell some-dims depth s)
+    pub forall-gives : (free : Bool) → (free ≡ true → depth < 16) → (block : Reader Block) → ReadsBlock T cell some-dims (depth + 1) block → Gives input (read-forall free depth block) s (Statement T cell some-dims depth s)
     unfolding read-forall Stands relatives-in-block plain-kind
-    forall-gives room deep-room block blocks =
+    forall-gives free deep-free block blocks =
         at-position _
-        (opened room
-        (λ has-room.
+        (opened free
+        (λ some-free.
         fresh-it T false 0 _ (first .sound)
         (λ _ name-in a-name few.
         expected (delimiter .colon) 6
@@ -113,7 +114,7 @@ module _ {input : Input} {text : List ℕ} (T : Text input text) (cell : Cell) (
               let v₁ : View input text (cell .dims) wf (advanced s) (advanced t) = record { final = v₀ .final; later = v₀ .later; known = v₀ .known; clear = v₀ .clear } in (
                 view-kind v x (s .at) ∙ eqb-true _ _ q,
                 record {
-                  room = deep-room has-room;
+                  shallow = deep-free some-free;
                   few = g .few;
                   values = range-stands r f name-in a-name few₁ (signable-decoded (r .low) (g .low-in)) (signable-decoded (r .high) (g .high-in)) inner v₁;
                   part = subst (λ (i : ℕ). Stands tb (depth + 1) body i) (sym (first-inner T (cell .dims) x whole far (p .at) (t .at + 1) v (omega (arith, f .far)) (f .run .sound .within)))
@@ -134,7 +135,7 @@ module _ {input : Input} {text : List ℕ} (T : Text input text) (cell : Cell) (
               (adds-plain tb more-loops (t .at) (plain-of (keyword .end) (view-kind v (b .0 .sound) (t .at) ∙ eqb-true _ _ n) refl))
               in
               adds-both tb loops
-              (adds-loop tb loops (s .at) (view-kind v x (s .at) ∙ eqb-true _ _ q) (omega (arith, deep, deep-room has-room)) (range-stands r f name-in a-name few₁ (signable-decoded (r .low) (g .low-in)) (signable-decoded (r .high) (g .high-in)) inner v₁) inner-is past-is far
+              (adds-loop tb loops (s .at) (view-kind v x (s .at) ∙ eqb-true _ _ q) (omega (arith, deep, deep-free some-free)) (range-stands r f name-in a-name few₁ (signable-decoded (r .low) (g .low-in)) (signable-decoded (r .high) (g .high-in)) inner v₁) inner-is past-is far
               (all-of tb more-loops part))
               more;
         }))))))))))))))
@@ -186,7 +187,7 @@ module _ {input : Input} {text : List ℕ} (T : Text input text) (cell : Cell) (
     pub inner-expr : ReadsLevel T cell some-dims 1 (parts .inner-expr)
     pub inner-if : ReadsBlock T cell some-dims loops (parts .inner loops)
     pub inner-loop : ReadsBlock T cell some-dims (loops + 1) (parts .inner (loops + 1))
-    pub deep : parts .room ≡ true → loops < 16
+    pub deep : parts .free ≡ true → loops < 16
 
   -- statements from a position on, behind those `before` them
   record Going (loops : ℕ) (before : Block → Block) (s : State) (b : Block) (t : State) : Type 0 where
@@ -225,13 +226,13 @@ module _ {input : Input} {text : List ℕ} (T : Text input text) (cell : Cell) (
       (choose (is-name (token-of input s (s .at))) (λ q. made _ (assignment-gives T cell some-dims loops (parts .expr) (reads .expr) x q) (λ f t h. one-more loops before f x h))
       (λ n₁.
       choose (is-kind (token-of input s (s .at)) (keyword .const))
-      (λ q. made _ (declaration-gives T (parts .room) x (of-kind x (s .at) (keyword .const) (omega arith) q)) (λ _ t h. one-more loops before constant x (constant-stands loops x q h)))
+      (λ q. made _ (declaration-gives T (parts .free) x (of-kind x (s .at) (keyword .const) (omega arith) q)) (λ _ t h. one-more loops before constant x (constant-stands loops x q h)))
       (λ n₂.
       choose (is-kind (token-of input s (s .at)) (keyword .if))
-      (λ q. made _ (if-gives T cell some-dims loops (parts .inner-expr) (reads .inner-expr) (parts .inner loops) (reads .inner-if) (parts .room) x q) (λ f t h. one-more loops before f x h))
+      (λ q. made _ (if-gives T cell some-dims loops (parts .inner-expr) (reads .inner-expr) (parts .inner loops) (reads .inner-if) (parts .free) x q) (λ f t h. one-more loops before f x h))
       (λ n₃.
       choose (is-kind (token-of input s (s .at)) (keyword .forall))
-      (λ q. made _ (forall-gives loops x q (parts .room) (reads .deep) (parts .inner (loops + 1)) (reads .inner-loop)) (λ f t h. one-more loops before f x h))
+      (λ q. made _ (forall-gives loops x q (parts .free) (reads .deep) (parts .inner (loops + 1)) (reads .inner-loop)) (λ f t h. one-more loops before f x h))
       (λ n₄.
       choose (is-kind (token-of input s (s .at)) (keyword .exit) && ltb 0 loops)
       (λ q. made _ (exit-gives loops x (and-both (is-kind (token-of input s (s .at)) (keyword .exit)) (ltb 0 loops) q .0)) (λ f t h. one-more loops before f x h))
@@ -258,20 +259,20 @@ module _ {input : Input} {text : List ℕ} (T : Text input text) (cell : Cell) (
   )
 
   -- a list of statements stands where it is read
-  pub block-gives : (room loops : ℕ) → loops + room ≤ 16 → ReadsBlock T cell some-dims loops (read-block cell room loops)
+  pub block-gives : (free loops : ℕ) → loops + free ≤ 16 → ReadsBlock T cell some-dims loops (read-block cell free loops)
   unfolding read-block
   block-gives zero loops l s x =
       given-as (repeated _ (turn-gives loops _ (record { expr = expression-gives T cell some-dims 0; inner-expr = λ s x. refused 14; inner-if = λ s x. refused 14; inner-loop = λ s x. refused 14; deep = λ e. absurd (let z : _≡_ {A = ℕ} 0 1 = cc in omega arith) })) turns (λ after. after) s x)
       (λ b t g. going-block loops g)
-  block-gives (suc room) loops l s x =
+  block-gives (suc free) loops l s x =
       given-as
       (repeated _
       (turn-gives loops _
       (record {
-        expr = expression-gives T cell some-dims (suc room);
-        inner-expr = expression-gives T cell some-dims room;
-        inner-if = block-gives room loops (omega arith);
-        inner-loop = block-gives room (loops + 1) (omega arith);
+        expr = expression-gives T cell some-dims (suc free);
+        inner-expr = expression-gives T cell some-dims free;
+        inner-if = block-gives free loops (omega arith);
+        inner-loop = block-gives free (loops + 1) (omega arith);
         deep = λ _. omega arith;
       }))
       turns (λ after. after) s x)

@@ -1,6 +1,5 @@
--- What holds of every accepted end of a reading, and the laws for putting readers together.
+-- The laws for putting readers together, of what holds of every accepted end.
 use Prim.Native.Nat.{ℕ, zero, suc, _+_, _-_}
-use native.Mathlib.Omega.{arith}
 use mathlib.Core.Path.{_≡_, refl, ap, _∙_, subst}
 use mathlib.Core.Bool.{Bool, true, false}
 use mathlib.Core.Option.{Option, none, some}
@@ -14,6 +13,7 @@ use Rattle.program.specs.Table.{with-word}
 use Rattle.program.specs.Refusal.{refusal}
 use Rattle.grammar.specs.Ranking.{first-of}
 use Rattle.grammar.specs.Reader.{Input, State, Result, ok, fail, Reader, and-then, _>>=_, _>>_, _▷_, return, unit, nothing, Turn, again, done, turned, get-state, token-of, refuse, refuse-last, note, repeat, next-token, kind-after, position, advance, put, put-both, expect-or, forbid, opening, on-slot, by-name, entry-in, declare, release}
+use Rattle.grammar.proofs.Theorems.Ends.{Gives, no-end, bind}
 
 -- ---- states
 
@@ -41,14 +41,6 @@ noting s k p = record { at = s .at; noted = first-of (s .noted) (refusal k p); c
 
 -- ---- ends
 
--- Q holds of what a reader gives from a state on, with the state that it leaves
-pub record Gives {A : Type 0} (input : Input) (m : Reader A) (s : State) (Q : A → State → Type 0) : Type 0 where
-  pub is : (a : A) (t : State) → m input s ≡ ok (a, t) → Q a t
-
--- what is refused is not given
-pub no-end : {A X : Type 0} {k p : ℕ} {a : A} → fail k p ≡ ok a → X
-no-end e = absurd (let z : _≡_ {A = ℕ} 0 1 = cc in omega arith)
-
 pub refused : {A : Type 0} {input : Input} {s : State} {Q : A → State → Type 0} (n : ℕ) → Gives input (refuse n) s Q
 unfolding refuse
 refused n = record { is = λ a t e. no-end e }
@@ -61,19 +53,9 @@ pub gave : {A : Type 0} {input : Input} {s : State} {Q : A → State → Type 0}
 unfolding return
 gave {A} {input} {s} {Q} a h = record { is = λ b t e. let x : _≡_ {A = A × State} (a, s) (b, t) = cc in subst (λ (q : A × State). Q (q .0) (q .1)) x h }
 
-module _ {A B : Type 0} {input : Input} {s : State} {Q : B → State → Type 0} where
-  -- one reader after another
-  pub bind : {P : A → State → Type 0} {m : Reader A} {f : A → Reader B} → Gives input m s P → ((a : A) (t : State) → P a t → Gives input (f a) t Q) → Gives input (m >>= f) s Q
-  unfolding _>>=_
-  bind {P} {m} {f} x k = record { is = λ b u e. go (m input s) refl b u e }
-    where
-      go : (r : Result (A × State)) → m input s ≡ r → (b : B) (u : State) → and-then r (λ a t. f a input t) ≡ ok (b, u) → Q b u
-      go (ok r) q b u e = k (r .0) (r .1) (x .is (r .0) (r .1) q) .is b u e
-      go (fail n p) q b u e = no-end e
-
-  -- what f makes of what is read
-  pub made : {P : A → State → Type 0} {m : Reader A} (f : A → B) → Gives input m s P → ((a : A) (t : State) → P a t → Q (f a) t) → Gives input (m ▷ f) s Q
-  made f x k = bind x (λ a t p. gave (f a) (k a t p))
+-- what f makes of what is read
+pub made : {A B : Type 0} {input : Input} {s : State} {Q : B → State → Type 0} {P : A → State → Type 0} {m : Reader A} (f : A → B) → Gives input m s P → ((a : A) (t : State) → P a t → Q (f a) t) → Gives input (m ▷ f) s Q
+made f x k = bind x (λ a t p. gave (f a) (k a t p))
 
 -- readers put together the other way
 pub regroup : {A B C : Type 0} {input : Input} {s : State} {Q : C → State → Type 0} (m : Reader A) (f : A → Reader B) (g : B → Reader C) → Gives input (m >>= λ a. f a >>= g) s Q → Gives input (m >>= f >>= g) s Q

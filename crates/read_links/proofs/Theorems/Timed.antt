@@ -9,6 +9,7 @@ use mathlib.Core.Option.{Option, none, some}
 use lib.Dec.{eqb, ltb}
 use lib.IntN.{ℤ}
 use borrow.Author.Tests.{eqb-true, eqb-false, ltb-true}
+use Rattle.value.proofs.Theorems.Truth.{neither}
 use Rattle.value.specs.Choice.{if_then_else_}
 use Rattle.value.proofs.Theorems.Laws.{never}
 use Rattle.value.specs.Worked.{decode-of}
@@ -39,9 +40,6 @@ pub record Timing (timed-expr : Expr → Bool) (timed-condition : Option Expr �
   pub of-loop : (r : Range) (d rest : Block) → timed (loop r d rest) ≡ (timed d || timed rest)
   pub of-exit : (rest : Block) → timed (exit rest) ≡ timed rest
   pub of-constant : (rest : Block) → timed (constant rest) ≡ timed rest
-
-neither : {a b : Bool} → a ≡ false → b ≡ false → (a || b) ≡ false
-neither p q = rw (p, q)
 
 -- ---- decoders that give something
 

@@ -32,9 +32,9 @@ module _ (source : List ℕ) (short : length source ≤ 65535) where
   unfolding forbid
   forbids k n e = search Steps
 
-  opens : (room : Bool) → Fine source (opening room)
+  opens : (free : Bool) → Fine source (opening free)
   unfolding opening
-  opens room = search Steps
+  opens free = search Steps
 
   -- refused by `full` if that is not 0
   limited : {A : Type 0} (full : ℕ) {m : Reader A} → (eqb full 0 ≡ false → is-refusal full ≡ true) → Fine source m → Fine source (if not (eqb full 0) then refuse full else m)
@@ -96,25 +96,25 @@ module _ (source : List ℕ) (short : length source ≤ 65535) where
   unfolding read-values value-turn
   values size first = search Ranges depth 12
 
-  head : (room : Bool) → Fine source (array-head room)
+  head : (free : Bool) → Fine source (array-head free)
   unfolding array-head read-size
-  head room = search Ranges depth 12
+  head free = search Ranges depth 12
 
-  array : (room : Bool) (i : ℕ) → Fine source (array-constant room i)
+  array : (free : Bool) (i : ℕ) → Fine source (array-constant free i)
   unfolding array-constant
-  array room i = search (values, head, Ranges) depth 12
+  array free i = search (values, head, Ranges) depth 12
 
   simple : (i : ℕ) → Fine source (simple-constant i)
   unfolding simple-constant
   simple i = search Ranges depth 10
 
-  value : (room : Bool) (i : ℕ) → Fine source (constant-value room i)
+  value : (free : Bool) (i : ℕ) → Fine source (constant-value free i)
   unfolding constant-value
-  value room i = search (array, simple, Ranges)
+  value free i = search (array, simple, Ranges)
 
-  declaration : (room : Bool) → Fine source (read-declaration room)
+  declaration : (free : Bool) → Fine source (read-declaration free)
   unfolding read-declaration
-  declaration room = search (value, Ranges) depth 12
+  declaration free = search (value, Ranges) depth 12
 
   pub constants : Fine source read-constants
   unfolding read-constants constants-turn
@@ -166,9 +166,9 @@ module _ (source : List ℕ) (short : length source ≤ 65535) where
   unfolding read-indices index-turn
   indices cell = search (index, Ranges) depth 14
 
-  neighbour : (cell : Cell) (room : Bool) → Fine source (read-neighbour cell room)
+  neighbour : (cell : Cell) (free : Bool) → Fine source (read-neighbour cell free)
   unfolding read-neighbour
-  neighbour cell room = search (indices, field-read, noted-field, Tokens) depth 12
+  neighbour cell free = search (indices, field-read, noted-field, Tokens) depth 12
 
   own : (cell : Cell) → Fine source (read-own cell)
   unfolding read-own
@@ -177,25 +177,25 @@ module _ (source : List ℕ) (short : length source ≤ 65535) where
 -- ---- expressions
 
 module _ (source : List ℕ) (short : length source ≤ 65535) where
-  bracket : (room : Bool) {inner : Reader Expr} (close : ℕ) → Fine source inner → Fine source (read-bracket room inner close)
+  bracket : (free : Bool) {inner : Reader Expr} (close : ℕ) → Fine source inner → Fine source (read-bracket free inner close)
   unfolding read-bracket
-  bracket room close x = search Tokens depth 10
+  bracket free close x = search Tokens depth 10
 
-  element : (room : Bool) {inner : Reader Expr} (e : Entry) → Fine source inner → Fine source (read-element room inner e)
+  element : (free : Bool) {inner : Reader Expr} (e : Entry) → Fine source inner → Fine source (read-element free inner e)
   unfolding read-element
-  element room e x = search (bracket, Tokens) depth 12
+  element free e x = search (bracket, Tokens) depth 12
 
-  name : (room : Bool) {inner : Reader Expr} (slot : ℕ) → Fine source inner → Fine source (name-use room inner slot)
+  name : (free : Bool) {inner : Reader Expr} (slot : ℕ) → Fine source inner → Fine source (name-use free inner slot)
   unfolding name-use array-use
-  name room slot x = search (element, plain-read, Tokens) depth 14
+  name free slot x = search (element, plain-read, Tokens) depth 14
 
-  primary : (cell : Cell) (room : Bool) {inner : Reader Expr} → Fine source inner → Fine source (read-primary cell room inner)
+  primary : (cell : Cell) (free : Bool) {inner : Reader Expr} → Fine source inner → Fine source (read-primary cell free inner)
   unfolding read-primary
-  primary cell room x = search (bracket, neighbour, own, name, plain-read, Tokens) depth 14
+  primary cell free x = search (bracket, neighbour, own, name, plain-read, Tokens) depth 14
 
-  operand : (cell : Cell) (room : Bool) {inner : Reader Expr} → Fine source inner → Fine source (read-operand cell room inner)
+  operand : (cell : Cell) (free : Bool) {inner : Reader Expr} → Fine source inner → Fine source (read-operand cell free inner)
   unfolding read-operand
-  operand cell room x = search (primary, Tokens) depth 10
+  operand cell free x = search (primary, Tokens) depth 10
 
   operator : (level : ℕ) {tighter : ℕ → Reader Expr} (l : LeftPart) → ((n : ℕ) → Fine source (tighter n)) → Fine source (operator-turn level tighter l)
   unfolding operator-turn read-right
@@ -206,13 +206,13 @@ module _ (source : List ℕ) (short : length source ≤ 65535) where
   climbed zero level x = x
   climbed (suc more) level x = bind x (λ e. repeated source short turns (left-part e 0) (λ l. operator level l (λ n. climbed more n x)))
 
-  operands : (cell : Cell) (room : ℕ) → Fine source (operand-in cell room)
+  operands : (cell : Cell) (free : ℕ) → Fine source (operand-in cell free)
   unfolding operand-in
   operands cell zero = operand cell false (refused source short _ refl)
-  operands cell (suc room) = operand cell true (climbed levels 1 (operands cell room))
+  operands cell (suc free) = operand cell true (climbed levels 1 (operands cell free))
 
-  expression : (cell : Cell) (room : ℕ) → Fine source (read-expression cell room)
-  expression cell room = climbed levels 1 (operands cell room)
+  expression : (cell : Cell) (free : ℕ) → Fine source (read-expression cell free)
+  expression cell free = climbed levels 1 (operands cell free)
 
 -- ---- statements
 
@@ -233,13 +233,13 @@ module _ (source : List ℕ) (short : length source ≤ 65535) where
   unfolding arm-turn arm-end
   arms got x y = search Tokens depth 20 fits 2000
 
-  choice : (room : Bool) {expr : Reader Expr} {block : Reader Block} → Fine source expr → Fine source block → Fine source (read-if room expr block)
+  choice : (free : Bool) {expr : Reader Expr} {block : Reader Block} → Fine source expr → Fine source block → Fine source (read-if free expr block)
   unfolding read-if
-  choice room x y = search (arms, Tokens) depth 12
+  choice free x y = search (arms, Tokens) depth 12
 
-  loop : (room : Bool) (depth : ℕ) {block : Reader Block} → Fine source block → Fine source (read-forall room depth block)
+  loop : (free : Bool) (depth : ℕ) {block : Reader Block} → Fine source block → Fine source (read-forall free depth block)
   unfolding read-forall
-  loop room depth x = search Ranges depth 24 fits 2000
+  loop free depth x = search Ranges depth 24 fits 2000
 
   exits : Fine source read-exit
   unfolding read-exit
@@ -249,10 +249,10 @@ module _ (source : List ℕ) (short : length source ≤ 65535) where
   unfolding statement-turn
   statement cell parts loops before x y z = search (assignment, declaration, choice, loop, exits, Tokens) depth 14
 
-  pub block : (cell : Cell) (room loops : ℕ) → Fine source (read-block cell room loops)
+  pub block : (cell : Cell) (free loops : ℕ) → Fine source (read-block cell free loops)
   unfolding read-block
   block cell zero loops =
       repeated source short turns _ (λ before. statement cell _ loops before (expression source short cell 0) (refused source short _ refl) (λ l. refused source short _ refl))
-  block cell (suc room) loops =
+  block cell (suc free) loops =
       repeated source short turns _
-      (λ before. statement cell _ loops before (expression source short cell (suc room)) (expression source short cell room) (λ l. block cell room l))
+      (λ before. statement cell _ loops before (expression source short cell (suc free)) (expression source short cell free) (λ l. block cell free l))

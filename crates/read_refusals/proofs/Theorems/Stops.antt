@@ -8,6 +8,8 @@ use lib.Dec.{eqb, leb, ltb}
 use lib.ListN.{length, take, drop, length-take, length-drop}
 use lib.Seq.{drop-drop}
 use borrow.Author.Tests.{eqb-true, ltb-true, leb-true}
+use Rattle.token.proofs.Extents.{extent-within}
+use Rattle.token.proofs.Blanks.{blanks-within}
 use Rattle.value.specs.Limits.{most-tokens}
 use Rattle.value.specs.Choice.{if_then_else_}
 use Rattle.value.proofs.Theorems.Laws.{never, and-both}
@@ -15,7 +17,7 @@ use Rattle.token.specs.Bytes.{byte-kind, kind-of, fold, same}
 use Rattle.token.specs.Kind.{kind}
 use Rattle.token.specs.Lexeme.{Spelled, keywords, two-byte-tokens, find-kind, starts, in-name, in-literal, extent, decimal, Lexeme, lexeme-of, unreadable, word, digits, punctuation, read-token}
 use Rattle.token.specs.Scanning.{blanks, stop-number, scan-from, scan}
-use Rattle.read_links.proofs.Theorems.Scanning.{same-lists, extent-within, all-kinds, kinds-kept, sign-byte}
+use Rattle.read_links.proofs.Theorems.Scanning.{same-lists, all-kinds, kinds-kept, sign-byte}
 use Rattle.read_refusals.proofs.Theorems.Numbers.{is-refusal, Refuses}
 
 -- ---- one token
@@ -90,22 +92,6 @@ stop-refuses count w told = by (eqb (w .kind) (kind .stop)) told (leb most-token
     by false t true c e = refl
     by false t false true e = refl
     by false t false false e = never (sym e)
-
-blanks-within : (inside : Bool) (s : List ℕ) → blanks inside s ≤ length s
-unfolding blanks
-blanks-within inside [] = omega arith
-blanks-within inside (b ∷ bs) = by (eqb (kind-of b) (byte-kind .line-end)) (inside || eqb (kind-of b) (byte-kind .comment)) (eqb (kind-of b) (byte-kind .blank)) (blanks-within true bs) (blanks-within false bs)
-  where
-    by : (a b c : Bool) → blanks true bs ≤ length bs → blanks false bs ≤ length bs
-        → elim a [
-          | true ↦ suc (blanks false bs)
-          | false ↦ elim b [ true ↦ suc (blanks true bs) | false ↦ elim c [ true ↦ suc (blanks false bs) | false ↦ 0 ] ]
-        ]
-        ≤ suc (length bs)
-    by true b c h k = omega arith
-    by false true c h k = omega arith
-    by false false true h k = omega arith
-    by false false false h k = omega arith
 
 scan-stops : (source : List ℕ) (turns place count : ℕ) (s : List ℕ) → s ≡ drop place source → place ≤ length source → Refuses source (scan-from turns place count s .number) (scan-from turns place count s .place)
 unfolding scan-from

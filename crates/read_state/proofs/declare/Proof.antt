@@ -7,7 +7,7 @@ returns : tie.Need-returns
 returns c =
     let token-at = c .before .before .before .before .token-at in
     let write-entry = c .before .before .write-entry in
-    record { words = write-entry .ensures ∙ rw (token-at .ensures .is); is = refl; at = refl; count = refl; word = refl }
+    record { words = write-entry .ensures ∙ rw (token-at .ensures .is); is = refl; at = refl; count = refl; number = refl }
 
 pub declare-spec : {M : Type 1} → statement M
 declare-spec =

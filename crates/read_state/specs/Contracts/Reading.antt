@@ -45,15 +45,15 @@ exactly f a t = a ≡ f t
 abbrev pub anything : {A : Type 0} → A → Reading → Type 0
 anything a t = Unit {0}
 
--- a number, a natural number (a slot, a position, a count), a range: in `in-word` and `low`
-abbrev pub number : ℤ → Reading → Type 0
-number = exactly (λ t. decode-of (t .word))
+-- a value, the number of a slot, a field or a variable, a range
+abbrev pub in-value : ℤ → Reading → Type 0
+in-value = exactly (λ t. decode-of (t .value))
 
-abbrev pub in-word : ℕ → Reading → Type 0
-in-word = exactly (λ t. t .word)
+abbrev pub in-number : ℕ → Reading → Type 0
+in-number = exactly (λ t. t .number)
 
 abbrev pub bounds : Range → Reading → Type 0
-bounds = exactly (λ t. syntax.range (decode-of (t .low)) (decode-of (t .word)))
+bounds = exactly (λ t. syntax.range (decode-of (t .low)) (decode-of (t .value)))
 
 -- the position of the token just read
 abbrev pub passed : ℕ → Reading → Type 0
@@ -125,32 +125,47 @@ refusing ws scan s i n = first-refused (noted-in s) (broken n (token-in ws scan 
 
 -- one name less
 abbrev pub released-of : Reading → Reading
-released-of s = record { at = s .at; noted = s .noted; place = s .place; count = s .count - 1; word = s .word; low = s .low }
+released-of s = record { at = s .at; noted = s .noted; place = s .place; count = s .count - 1; value = s .value; low = s .low; number = s .number; fields = s .fields; named = s .named; more = s .more }
 
 abbrev pub moved-of : Reading → Reading
-moved-of s = record { at = s .at + 1; noted = s .noted; place = s .place; count = s .count; word = s .word; low = s .low }
+moved-of s = record { at = s .at + 1; noted = s .noted; place = s .place; count = s .count; value = s .value; low = s .low; number = s .number; fields = s .fields; named = s .named; more = s .more }
 
 pub record Moved (s r : Reading) : Type 0 where
   pub is : r ≡ moved-of s
   pub at : r .at ≡ s .at + 1
   pub count : r .count ≡ s .count
 
--- other words stand beside the place of reading
-abbrev pub carrying : Reading → ℕ → ℕ → Reading
-carrying s w l = record { at = s .at; noted = s .noted; place = s .place; count = s .count; word = w; low = l }
+-- what was read last stands beside the place of reading
+abbrev pub carrying-value : Reading → ℕ → ℕ → Reading
+carrying-value s v l = record { at = s .at; noted = s .noted; place = s .place; count = s .count; value = v; low = l; number = s .number; fields = s .fields; named = s .named; more = s .more }
 
-pub record Carries (s : Reading) (w l : ℕ) (r : Reading) : Type 0 where
-  pub is : r ≡ carrying s w l
+abbrev pub carrying-number : Reading → ℕ → Reading
+carrying-number s n = record { at = s .at; noted = s .noted; place = s .place; count = s .count; value = s .value; low = s .low; number = n; fields = s .fields; named = s .named; more = s .more }
+
+abbrev pub carrying-fields : Reading → ℕ → ℕ → Reading
+carrying-fields s n named = record { at = s .at; noted = s .noted; place = s .place; count = s .count; value = s .value; low = s .low; number = s .number; fields = n; named = named; more = s .more }
+
+abbrev pub carrying-more : Reading → ℕ → Reading
+carrying-more s m = record { at = s .at; noted = s .noted; place = s .place; count = s .count; value = s .value; low = s .low; number = s .number; fields = s .fields; named = s .named; more = m }
+
+-- r is t, which stands where s does
+pub record Carries (s t r : Reading) : Type 0 where
+  pub is : r ≡ t
+  pub here : (ns ws : List ℕ) → state r ns ws ≡ state s ns ws
   pub at : r .at ≡ s .at
   pub count : r .count ≡ s .count
-  pub word : r .word ≡ w
-  pub low : r .low ≡ l
+  pub value : r .value ≡ t .value
+  pub low : r .low ≡ t .low
+  pub number : r .number ≡ t .number
+  pub fields : r .fields ≡ t .fields
+  pub named : r .named ≡ t .named
+  pub more : r .more ≡ t .more
 
 abbrev pub note-of : List ℕ → Scan → Reading → ℕ → Refusal
 note-of ws scan s n = first-of (noted-in s) (refusal n (token-in ws scan (s .at) .start))
 
 abbrev pub noted-of : Reading → Refusal → Reading
-noted-of s c = record { at = s .at; noted = c .number; place = c .place; count = s .count; word = s .word; low = s .low }
+noted-of s c = record { at = s .at; noted = c .number; place = c .place; count = s .count; value = s .value; low = s .low; number = s .number; fields = s .fields; named = s .named; more = s .more }
 
 pub record Noted (ws : List ℕ) (scan : Scan) (s : Reading) (n : ℕ) (r : Reading) : Type 0 where
   pub is : r ≡ noted-of s (note-of ws scan s n)
@@ -164,7 +179,7 @@ pub record Named (t : Token) (r : Bool) : Type 0 where
 
 -- a name is declared: its entry is written behind the others, and its slot is carried on
 abbrev pub declared-of : Reading → Reading
-declared-of s = record { at = s .at; noted = s .noted; place = s .place; count = s .count + 1; word = s .count; low = s .low }
+declared-of s = record { at = s .at; noted = s .noted; place = s .place; count = s .count + 1; value = s .value; low = s .low; number = s .count; fields = s .fields; named = s .named; more = s .more }
 
 abbrev pub entry-of : Token → ℕ → ℕ → Entry
 entry-of t k v = record { start = t .start; len = t .len; kind = k; word = v }
@@ -174,7 +189,7 @@ pub record Declares (i k v : ℕ) (scan : Scan) (s : Reading) (ns ws : List ℕ)
   pub is : r ≡ declared-of s
   pub at : r .at ≡ s .at
   pub count : r .count ≡ s .count + 1
-  pub word : r .word ≡ s .count
+  pub number : r .number ≡ s .count
 
 -- a name in use is passed over: its kind and what the table notes of it are written
 pub record Released (s r : Reading) : Type 0 where

@@ -14,7 +14,7 @@ use Rattle.read_state.specs.Contracts.Reading.{anything}
 use Rattle.read_state.proofs.Steps.{on, off, made, told-as, went-on, so, other, both-hold, first-not, second-not, token, here, returned, carried, advanced, put-in}
 use Rattle.read_state.proofs.Turns.{Turning, turn-first, turn-again, turn-done, turn-refused}
 use Rattle.read_state.proofs.Going.{nowhere, went, goes-on, further}
-use Rattle.read_statements.specs.Contracts.Promises.{once, ends, whatever, zero-in, parts-of}
+use Rattle.read_statements.specs.Contracts.Promises.{once, ends, whatever, none-follows, parts-of}
 use Rattle.read_statements.proofs.Single.{expression}
 use Rattle.read_statements.proofs.Turned.{went-again, went-done}
 use Rattle.read_statements.proofs.Lists.{one-more, assigned-in, declared-in, block-first, if-open, if-shut, arm-inside}
@@ -43,7 +43,7 @@ use Rattle.read_constants.proofs.read_declaration.Reads as read-declaration-rea
 use Rattle.read_expressions.proofs.read_expression.Reads as read-expression-reads
 use Rattle.program.proofs.put_word.Reads as put-word-reads
 use Rattle.program.proofs.token_at.Reads as token-at-reads
-use Rattle.read_state.proofs.carrying.Reads as carrying-reads
+use Rattle.read_state.proofs.carrying_more.Reads as carrying-more-reads
 use Rattle.read_state.proofs.expect.Reads as expect-reads
 use Rattle.read_state.proofs.is_name.Reads as is-name-reads
 use Rattle.read_state.proofs.moved.Reads as moved-reads
@@ -131,7 +131,7 @@ read-statement-below t =
     read-statement-fn.Pre
 
 abbrev arm-end-calls : ℕ → arm-end-lts.Claims
-arm-end-calls t = (token-at-reads.Asked, token-at-reads.Learnt, carrying-reads.Asked, carrying-reads.Learnt, moved-reads.Asked, moved-reads.Learnt, read-block-below t, read-block-fn.Post, read-end-reads.Asked, read-end-reads.Learnt)
+arm-end-calls t = (token-at-reads.Asked, token-at-reads.Learnt, carrying-more-reads.Asked, carrying-more-reads.Learnt, moved-reads.Asked, moved-reads.Learnt, read-block-below t, read-block-fn.Post, read-end-reads.Asked, read-end-reads.Learnt)
 
 abbrev read-arm-calls : ℕ → read-arm-lts.Claims
 read-arm-calls t = (moved-reads.Asked, moved-reads.Learnt, read-expression-reads.Asked, read-expression-reads.Learnt, expect-reads.Asked, expect-reads.Learnt, read-block-below t, read-block-fn.Post, put-word-reads.Asked, put-word-reads.Learnt, arm-end-below t, arm-end-fn.Post)
@@ -153,8 +153,8 @@ arm-end-token-at-requires t c κs =
     let pre = c .before .before .before .before .pre in
     let z = pre .1 .0 in (z .tokens, z .table)
 
-arm-end-carrying-requires : (t : ℕ) → arm-end-lts.Need-carrying-requires (arm-end-calls t) (arm-end-at t) arm-end-fn.Post
-arm-end-carrying-requires t c κs = search needs
+arm-end-carrying-more-requires : (t : ℕ) → arm-end-lts.Need-carrying-more-requires (arm-end-calls t) (arm-end-at t) arm-end-fn.Post
+arm-end-carrying-more-requires t c κs = search needs
 
 arm-end-same-length : (t : ℕ) → arm-end-lts.Need-same-length (arm-end-calls t) (arm-end-at t) arm-end-fn.Post
 arm-end-same-length t c = search needs
@@ -165,11 +165,11 @@ arm-end-returns t c =
     let pre = c .before .before .before .before .before .before .before .before .pre in
     let token-at = c .before .before .before .token-at in
     let if1 = c .before .if1 in
-    let carrying = c .carrying in
+    let carrying-more = c .carrying-more in
     let z = pre .1 .0 in
-    let k = carrying .ensures in
+    let k = carrying-more .ensures in
     record {
-      gives = λ arms _. token _ (token-at .ensures) (so _ _ (eq-eqb _ _ (if1 .taken)) (carried _ k (once (k .word, omega (arith, k .at, token-at .ensures .inside, if1 .taken)))));
+      gives = λ arms _. token _ (token-at .ensures) (so _ _ (eq-eqb _ _ (if1 .taken)) (carried _ k (once (k .more, omega (arith, k .at, token-at .ensures .inside, if1 .taken)))));
       onward = goes-on (omega (arith, k .at)) (omega (arith, k .at, z .here)) (omega (arith, k .count, z .few));
     }
 
@@ -249,7 +249,7 @@ arm-end-returns-3 t c =
     let m = moved .ensures in
     let w = went (read-block′ .ensures .onward) (r .given .1) in
     record {
-      gives = λ arms _. token _ (token-at .ensures) (other _ _ (ne-eqb _ _ (if1 .left)) (so _ _ (eq-eqb _ _ (if2 .taken)) (made {R = zero-in} (λ b. done (choices arms b)) (on _ (on _ (advanced m) refl (λ _ _. read-block′ .ensures .gives)) (r .given .1) (λ b _. made (λ _. b) (read-end .ensures .gives _ _) (λ _ _ p. p))) (λ _ _ p. ends p))));
+      gives = λ arms _. token _ (token-at .ensures) (other _ _ (ne-eqb _ _ (if1 .left)) (so _ _ (eq-eqb _ _ (if2 .taken)) (made {R = none-follows} (λ b. done (choices arms b)) (on _ (on _ (advanced m) refl (λ _ _. read-block′ .ensures .gives)) (r .given .1) (λ b _. made (λ _. b) (read-end .ensures .gives _ _) (λ _ _ p. p))) (λ _ _ p. ends p))));
       onward = further (read-end .ensures .onward) (omega (arith, m .at, w .past)) (w .few);
     }
 
@@ -459,10 +459,10 @@ read-arm-returns-4 t c =
     }
 
 abbrev read-block-Inv-loop : read-block-lts.InvT-loop
-read-block-Inv-loop source names₀ words₀ scan cell loops room here₀ names words here = Turning (read-block (cell-as cell) room loops) (statement-turn (cell-as cell) (parts-of (cell-as cell) room) loops) source scan here₀ names₀ words₀ whatever here names words × (length names ≡ length names₀) × (length words ≡ length words₀) × (here₀ .at ≤ here .at) × (here .at ≤ scan .count) × (here .count ≤ 256)
+read-block-Inv-loop source names₀ words₀ scan cell loops free here₀ names words here = Turning (read-block (cell-as cell) free loops) (statement-turn (cell-as cell) (parts-of (cell-as cell) free) loops) source scan here₀ names₀ words₀ whatever here names words × (length names ≡ length names₀) × (length words ≡ length words₀) × (here₀ .at ≤ here .at) × (here .at ≤ scan .count) × (here .count ≤ 256)
 
 abbrev read-block-μ-loop : read-block-lts.MeasureT-loop
-read-block-μ-loop source names₀ words₀ scan cell loops room here₀ names words here = scan .count - here .at
+read-block-μ-loop source names₀ words₀ scan cell loops free here₀ names words here = scan .count - here .at
 
 read-block-loop-holds : (t : ℕ) → read-block-lts.Need-loop-holds (read-block-calls t) (read-block-at t) read-block-fn.Post read-block-Inv-loop read-block-μ-loop
 read-block-loop-holds t c =
@@ -564,7 +564,7 @@ read-forall-returns t c =
     let args = c .before .before .before .before .before .before .args in
     let if1 = c .before .before .if1 in
     let refuse = c .refuse in
-    let y = refuse .ensures in record { gives = forall-shut _ (args .room) (args .loops) (if1 .taken) y; onward = nowhere y }
+    let y = refuse .ensures in record { gives = forall-shut _ (args .free) (args .loops) (if1 .taken) y; onward = nowhere y }
 
 read-forall-moved-requires : (t : ℕ) → read-forall-lts.Need-moved-requires (read-forall-calls t) (read-forall-at t) read-forall-fn.Post
 read-forall-moved-requires t c κs =
@@ -603,7 +603,7 @@ read-forall-returns-2 t c =
     let loop-head = c .before .before .before .before .before .before .loop-head in
     let enum-told = c .enum-told in
     record {
-      gives = forall-open _ (args .room) (args .loops) (omega (arith, if1 .left)) (here _ (on _ (advanced (moved .ensures)) refl (λ _ _. off _ (loop-head .ensures .gives) (enum-told .given .1))));
+      gives = forall-open _ (args .free) (args .loops) (omega (arith, if1 .left)) (here _ (on _ (advanced (moved .ensures)) refl (λ _ _. off _ (loop-head .ensures .gives) (enum-told .given .1))));
       onward = nowhere (enum-told .given .1);
     }
 
@@ -657,7 +657,7 @@ read-forall-returns-3 t c =
     let read-block′ = c .before .before .before .before .before .before .read-block in
     let enum-told2 = c .enum-told2 in
     record {
-      gives = forall-open _ (args .room) (args .loops) (omega (arith, if1 .left)) (here _ (on _ (advanced (moved .ensures)) refl (λ _ _. on _ (loop-head .ensures .gives) (r .given .1) (λ _ _. here _ (off _ (read-block′ .ensures .gives) (enum-told2 .given .1))))));
+      gives = forall-open _ (args .free) (args .loops) (omega (arith, if1 .left)) (here _ (on _ (advanced (moved .ensures)) refl (λ _ _. on _ (loop-head .ensures .gives) (r .given .1) (λ _ _. here _ (off _ (read-block′ .ensures .gives) (enum-told2 .given .1))))));
       onward = nowhere (enum-told2 .given .1);
     }
 
@@ -710,15 +710,15 @@ read-forall-returns-4 t c =
     let v = went (loop-head .ensures .onward) (r .given .1) in
     let w = went (read-block′ .ensures .onward) (q .given .1) in
     record {
-      gives = forall-open _ (args .room) (args .loops) (omega (arith, if1 .left)) (here _ (on _ (advanced m) refl (λ _ _. on _ (loop-head .ensures .gives) (r .given .1) (λ _ e. here _ (on _ (read-block′ .ensures .gives) (q .given .1) (λ _ _. ended-at _ _ _ (e .0) (loop-end .ensures _ .gives _ tt)))))));
+      gives = forall-open _ (args .free) (args .loops) (omega (arith, if1 .left)) (here _ (on _ (advanced m) refl (λ _ _. on _ (loop-head .ensures .gives) (r .given .1) (λ _ e. here _ (on _ (read-block′ .ensures .gives) (q .given .1) (λ _ _. ended-at _ _ _ (e .0) (loop-end .ensures _ .gives _ tt)))))));
       onward = further (loop-end .ensures (args .source .now) .onward) (omega (arith, m .at, v .past, w .past)) (w .few);
     }
 
 abbrev read-if-Inv-loop : read-if-lts.InvT-loop
-read-if-Inv-loop source names₀ words₀ scan cell loops room i here₀ names words here = Turning (repeat turns (arm-turn (read-expression (cell-as cell) (room - 1)) (read-block (cell-as cell) (room - 1) loops)) []) (arm-turn (read-expression (cell-as cell) (room - 1)) (read-block (cell-as cell) (room - 1) loops)) source scan here₀ names₀ words₀ whatever here names words × (length names ≡ length names₀) × (length words ≡ length words₀) × (here₀ .at ≤ here .at) × (here .at < scan .count) × (here .count ≤ 256)
+read-if-Inv-loop source names₀ words₀ scan cell loops free i here₀ names words here = Turning (repeat turns (arm-turn (read-expression (cell-as cell) (free - 1)) (read-block (cell-as cell) (free - 1) loops)) []) (arm-turn (read-expression (cell-as cell) (free - 1)) (read-block (cell-as cell) (free - 1) loops)) source scan here₀ names₀ words₀ whatever here names words × (length names ≡ length names₀) × (length words ≡ length words₀) × (here₀ .at ≤ here .at) × (here .at < scan .count) × (here .count ≤ 256)
 
 abbrev read-if-μ-loop : read-if-lts.MeasureT-loop
-read-if-μ-loop source names₀ words₀ scan cell loops room i here₀ names words here = scan .count - here .at
+read-if-μ-loop source names₀ words₀ scan cell loops free i here₀ names words here = scan .count - here .at
 
 read-if-refuse-requires : (t : ℕ) → read-if-lts.Need-refuse-requires (read-if-calls t) (read-if-at t) read-if-fn.Post read-if-Inv-loop read-if-μ-loop
 read-if-refuse-requires t c κs =
@@ -733,7 +733,7 @@ read-if-returns t c =
     let args = c .before .before .before .before .before .before .args in
     let if1 = c .before .before .if1 in
     let refuse = c .refuse in
-    let y = refuse .ensures in record { gives = if-shut _ (args .room) (args .loops) (if1 .taken) y; onward = nowhere y }
+    let y = refuse .ensures in record { gives = if-shut _ (args .free) (args .loops) (if1 .taken) y; onward = nowhere y }
 
 read-if-loop-holds : (t : ℕ) → read-if-lts.Need-loop-holds (read-if-calls t) (read-if-at t) read-if-fn.Post read-if-Inv-loop read-if-μ-loop
 read-if-loop-holds t c =
@@ -782,7 +782,7 @@ read-if-returns-2 t c =
     let enum-told = c .enum-told in
     let v = loop .inv in
     record {
-      gives = if-open _ (args .room) (args .loops) (omega (arith, if1 .left)) (here _ (off {R = anything} _ (turn-refused (v .0) (omega (arith, v .4, pre .1 .0 .tokens)) (λ x p. told-as (read-arm .ensures .gives x p) (λ _ _ _. tt)) (enum-told .given .1)) (enum-told .given .1)));
+      gives = if-open _ (args .free) (args .loops) (omega (arith, if1 .left)) (here _ (off {R = anything} _ (turn-refused (v .0) (omega (arith, v .4, pre .1 .0 .tokens)) (λ x p. told-as (read-arm .ensures .gives x p) (λ _ _ _. tt)) (enum-told .given .1)) (enum-told .given .1)));
       onward = nowhere (enum-told .given .1);
     }
 
@@ -826,7 +826,7 @@ read-if-returns-3 t c =
     let v = loop .inv in
     let w = went (read-arm .ensures .onward) (r .given .1) in
     record {
-      gives = if-open _ (args .room) (args .loops) (omega (arith, if1 .left)) (here _ (on {R = anything} _ (turn-done (v .0) (omega (arith, v .4, pre .1 .0 .tokens)) (λ x p. went-done (read-arm .ensures .gives x p) (r .given .1) (λ y q. omega (arith, q .0, if2 .taken)))) refl (λ _ _. here _ (on _ (put-in _ _ _ (put-word .ensures)) refl (λ _ _. returned _ tt)))));
+      gives = if-open _ (args .free) (args .loops) (omega (arith, if1 .left)) (here _ (on {R = anything} _ (turn-done (v .0) (omega (arith, v .4, pre .1 .0 .tokens)) (λ x p. went-done (read-arm .ensures .gives x p) (r .given .1) (λ y q. omega (arith, q .0, if2 .taken)))) refl (λ _ _. here _ (on _ (put-in _ _ _ (put-word .ensures)) refl (λ _ _. returned _ tt)))));
       onward = goes-on (omega (arith, w .past, v .3)) (w .within) (w .few);
     }
 
@@ -912,7 +912,7 @@ read-statement-returns-2 t c =
     let if2 = c .before .before .before .before .before .before .before .if2 in
     let read-declaration = c .before .before .before .before .read-declaration in
     record {
-      gives = λ before _. token _ (token-at .ensures) (other _ _ (sym (is-name .ensures .is) ∙ if1 .left) (so _ _ (eq-eqb _ _ (if2 .taken)) (one-more (λ _ after. before (constant after)) (declared-in (cell-as (args .cell)) (args .room) (read-declaration .ensures)))));
+      gives = λ before _. token _ (token-at .ensures) (other _ _ (sym (is-name .ensures .is) ∙ if1 .left) (so _ _ (eq-eqb _ _ (if2 .taken)) (one-more (λ _ after. before (constant after)) (declared-in (cell-as (args .cell)) (args .free) (read-declaration .ensures)))));
       onward = further (read-declaration .ensures .onward) (omega arith) (omega arith);
     }
 
@@ -1068,7 +1068,7 @@ pub +arm-end+read-arm+read-block+read-forall+read-if+read-statement-spec :
     (arm-end-at t)
     arm-end-fn.Post
     (arm-end-token-at-requires t)
-    (arm-end-carrying-requires t)
+    (arm-end-carrying-more-requires t)
     (arm-end-same-length t)
     (arm-end-returns t)
     (arm-end-moved-requires t)

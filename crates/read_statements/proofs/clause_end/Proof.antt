@@ -38,11 +38,11 @@ returns-3 c =
     let if1 = c .before .before .before .before .if1 in
     let if2 = c .before .before .if2 in
     let if3 = c .before .if3 in
-    let carrying = c .carrying in
+    let carrying-more = c .carrying-more in
     let p = pre in
-    let k = carrying .ensures in
+    let k = carrying-more .ensures in
     record {
-      gives = λ b h. token _ (token-at .ensures) (other _ _ (ne-eqb _ _ (if1 .left)) (other _ _ (ne-eqb _ _ (if2 .left)) (so _ _ (h ∙ if3 .taken) (carried _ k (ends (k .word))))));
+      gives = λ b h. token _ (token-at .ensures) (other _ _ (ne-eqb _ _ (if1 .left)) (other _ _ (ne-eqb _ _ (if2 .left)) (so _ _ (h ∙ if3 .taken) (carried _ k (ends (k .more))))));
       onward = goes-on (omega (arith, k .at)) (omega (arith, k .at, p .here)) (omega (arith, k .count));
     }
 
@@ -72,11 +72,11 @@ returns-5 c =
     let if3 = c .before .before .before .before .before .before .if3 in
     let expect = c .before .before .before .before .expect in
     let r = c .before .before .r in
-    let carrying2 = c .carrying2 in
+    let carrying-more2 = c .carrying-more2 in
     let w = went (expect .ensures .onward) (r .given .1) in
-    let k = carrying2 .ensures in
+    let k = carrying-more2 .ensures in
     record {
-      gives = λ b h. token _ (token-at .ensures) (other _ _ (ne-eqb _ _ (if1 .left)) (other _ _ (ne-eqb _ _ (if2 .left)) (other _ _ (h ∙ if3 .left) (on _ (expect .ensures .gives _ _) (r .given .1) (λ _ _. carried _ k (ends (k .word)))))));
+      gives = λ b h. token _ (token-at .ensures) (other _ _ (ne-eqb _ _ (if1 .left)) (other _ _ (ne-eqb _ _ (if2 .left)) (other _ _ (h ∙ if3 .left) (on _ (expect .ensures .gives _ _) (r .given .1) (λ _ _. carried _ k (ends (k .more)))))));
       onward = goes-on (omega (arith, w .past, k .at)) (omega (arith, w .within, k .at)) (omega (arith, w .few, k .count));
     }
 

@@ -39,12 +39,12 @@ returns-3 c =
     let if1 = c .before .before .before .before .before .if1 in
     let forbid = c .before .before .before .before .forbid in
     let r = c .before .before .r in
-    let carrying = c .carrying in
+    let carrying-number = c .carrying-number in
     let m = moved .ensures in
     let w = went (forbid .ensures .onward) (r .given .1) in
-    let k = carrying .ensures in
+    let k = carrying-number .ensures in
     record {
-      gives = other _ _ (if1 .left) (on _ (on _ (advanced m) refl (λ _ _. forbid .ensures .gives _ _)) (r .given .1) (λ _ _. carried _ k (sym (k .word))));
+      gives = other _ _ (if1 .left) (on _ (on _ (advanced m) refl (λ _ _. forbid .ensures .gives _ _)) (r .given .1) (λ _ _. carried _ k (sym (k .number))));
       onward = goes-on (omega (arith, w .past, k .at, m .at)) (omega (arith, w .within, k .at)) (omega (arith, w .few, k .count, m .count));
     }
 

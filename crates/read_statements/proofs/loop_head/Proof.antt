@@ -63,7 +63,7 @@ returns-3 c =
     let v = went (fresh .ensures .onward) (r .given .1) in
     let w = went (loop-range .ensures .onward) (q .given .1) in
     record {
-      gives = on-told _ (fresh .ensures .gives) (r .given .1) (on _ (loop-range .ensures .gives) (q .given .1) (λ _ _. on _ (declared _ _ _ d) refl (λ _ p. returned _ (p, omega (arith, d .word, v .few, w .few)))));
+      gives = on-told _ (fresh .ensures .gives) (r .given .1) (on _ (loop-range .ensures .gives) (q .given .1) (λ _ _. on _ (declared _ _ _ d) refl (λ _ p. returned _ (p, omega (arith, d .number, v .few, w .few)))));
       onward = goes-on (omega (arith, v .past, w .past, d .at)) (omega (arith, w .within, d .at)) (omega (arith, v .few, w .few, d .count));
     }
 

@@ -55,7 +55,7 @@ returns-3 c =
     let v = went (expect .ensures .onward) (r .given .1) in
     let w = went (read-range .ensures .onward) (q .given .1) in
     record {
-      gives = on _ (expect .ensures .gives _ _) (r .given .1) (λ _ _. on-told _ (read-range .ensures .gives) (q .given .1) (on _ (on _ (put-as _ _ _ (encode-decode (q .given .0 .0 .low) (omega (arith, known-told2 .given))) (put-word .ensures)) refl (λ _ _. put-as _ _ _ (encode-decode (q .given .0 .0 .word) (omega (arith, known-told2 .given))) (put-word2 .ensures))) refl (λ _ _. returned _ tt)));
+      gives = on _ (expect .ensures .gives _ _) (r .given .1) (λ _ _. on-told _ (read-range .ensures .gives) (q .given .1) (on _ (on _ (put-as _ _ _ (encode-decode (q .given .0 .0 .low) (omega (arith, known-told2 .given))) (put-word .ensures)) refl (λ _ _. put-as _ _ _ (encode-decode (q .given .0 .0 .value) (omega (arith, known-told2 .given))) (put-word2 .ensures))) refl (λ _ _. returned _ tt)));
       onward = goes-on (omega (arith, v .past, w .past)) (w .within) (omega (arith, v .few, w .few));
     }
 

@@ -57,11 +57,11 @@ returns-3 c =
     let r = c .before .before .before .before .before .before .r in
     let entry-in = c .before .before .before .entry-in in
     let if1 = c .before .if1 in
-    let carrying = c .carrying in
+    let carrying-number = c .carrying-number in
     let w = went (dot-field .ensures .onward) (r .given .1) in
-    let k = carrying .ensures in
+    let k = carrying-number .ensures in
     record {
-      gives = on-told _ (slot-told (dot-field .ensures .gives)) (r .given .1) (named _ _ (entry-in .ensures) (other _ _ (ne-eqb _ _ (if1 .left)) (carried _ k (sym (k .word)))));
+      gives = on-told _ (slot-told (dot-field .ensures .gives)) (r .given .1) (named _ _ (entry-in .ensures) (other _ _ (ne-eqb _ _ (if1 .left)) (carried _ k (sym (k .number)))));
       onward = goes-on (omega (arith, w .past, k .at)) (omega (arith, w .within, k .at)) (omega (arith, w .few, k .count));
     }
 

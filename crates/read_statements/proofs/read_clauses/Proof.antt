@@ -17,10 +17,10 @@ use Rattle.read_statements.proofs.read_clauses.Statement.{statement}
 use Rattle.read_statements.proofs.read_clauses.Tie as tie
 
 abbrev Inv-loop : tie.InvT-loop
-Inv-loop source names words₀ scan cell room here₀ first₀ words here first = Turning (repeat turns (clause-turn (read-expression (cell-as cell) room)) []) (clause-turn (read-expression (cell-as cell) room)) source scan here₀ names words₀ (is-first first) here names words × (length words ≡ length words₀) × (here₀ .at ≤ here .at) × (here .at ≤ scan .count) × (here .count ≤ here₀ .count)
+Inv-loop source names words₀ scan cell free here₀ first₀ words here first = Turning (repeat turns (clause-turn (read-expression (cell-as cell) free)) []) (clause-turn (read-expression (cell-as cell) free)) source scan here₀ names words₀ (is-first first) here names words × (length words ≡ length words₀) × (here₀ .at ≤ here .at) × (here .at ≤ scan .count) × (here .count ≤ here₀ .count)
 
 abbrev μ-loop : tie.MeasureT-loop
-μ-loop source names words₀ scan cell room here₀ first₀ words here first = scan .count - here .at
+μ-loop source names words₀ scan cell free here₀ first₀ words here first = scan .count - here .at
 
 loop-holds : tie.Need-loop-holds Inv-loop μ-loop
 loop-holds c =

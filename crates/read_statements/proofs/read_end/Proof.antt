@@ -19,11 +19,11 @@ returns-2 : tie.Need-returns-2
 returns-2 c =
     let expect = c .before .before .before .before .expect in
     let r = c .before .before .r in
-    let carrying = c .carrying in
-    let k = carrying .ensures in
+    let carrying-more = c .carrying-more in
+    let k = carrying-more .ensures in
     let w = went (expect .ensures .onward) (r .given .1) in
     record {
-      gives = λ _ _. carried-on (expect .ensures .gives _ _) (r .given .1) k (λ _ _. k .word);
+      gives = λ _ _. carried-on (expect .ensures .gives _ _) (r .given .1) k (λ _ _. k .more);
       onward = goes-on (omega (arith, w .past, k .at)) (omega (arith, w .within, k .at)) (omega (arith, w .few, k .count));
     }
 

@@ -1,5 +1,5 @@
 use Rattle.program.specs.Syntax.{to-field, to-variable}
-use Rattle.read_state.specs.Contracts.Reading.{in-word}
+use Rattle.read_state.specs.Contracts.Reading.{in-number}
 use Rattle.read_state.proofs.Steps.{on, on-told, off, made, so, other, token, refused, carried}
 use Rattle.read_state.proofs.Going.{nowhere, went, goes-on, further}
 use native.Mathlib.Omega.{arith}
@@ -43,7 +43,7 @@ returns-3 c =
     let variable-target = c .before .before .before .before .variable-target in
     let enum-told = c .enum-told in
     record {
-      gives = token _ (token-at .ensures) (other _ _ (ne-eqb _ _ (if1 .left)) (other _ _ (ne-eqb _ _ (if2 .left)) (off {R = in-word} _ (off _ (variable-target .ensures .gives) (enum-told .given .1)) (enum-told .given .1))));
+      gives = token _ (token-at .ensures) (other _ _ (ne-eqb _ _ (if1 .left)) (other _ _ (ne-eqb _ _ (if2 .left)) (off {R = in-number} _ (off _ (variable-target .ensures .gives) (enum-told .given .1)) (enum-told .given .1))));
       onward = nowhere (enum-told .given .1);
     }
 
@@ -65,7 +65,7 @@ returns-4 c =
     let forbid = c .before .before .forbid in
     let enum-told2 = c .enum-told2 in
     record {
-      gives = token _ (token-at .ensures) (other _ _ (ne-eqb _ _ (if1 .left)) (other _ _ (ne-eqb _ _ (if2 .left)) (off {R = in-word} _ (on-told _ (variable-target .ensures .gives) (r .given .1) (off _ (forbid .ensures .gives _ _) (enum-told2 .given .1))) (enum-told2 .given .1))));
+      gives = token _ (token-at .ensures) (other _ _ (ne-eqb _ _ (if1 .left)) (other _ _ (ne-eqb _ _ (if2 .left)) (off {R = in-number} _ (on-told _ (variable-target .ensures .gives) (r .given .1) (off _ (forbid .ensures .gives _ _) (enum-told2 .given .1))) (enum-told2 .given .1))));
       onward = nowhere (enum-told2 .given .1);
     }
 
@@ -79,12 +79,12 @@ returns-5 c =
     let r = c .before .before .before .before .before .before .r in
     let forbid = c .before .before .before .before .forbid in
     let q = c .before .before .q in
-    let carrying = c .carrying in
+    let carrying-number = c .carrying-number in
     let v = went (variable-target .ensures .onward) (r .given .1) in
     let w = went (forbid .ensures .onward) (q .given .1) in
-    let k = carrying .ensures in
+    let k = carrying-number .ensures in
     record {
-      gives = token _ (token-at .ensures) (other _ _ (ne-eqb _ _ (if1 .left)) (other _ _ (ne-eqb _ _ (if2 .left)) (made {R = in-word} to-variable (on-told _ (variable-target .ensures .gives) (r .given .1) (on _ (forbid .ensures .gives _ _) (q .given .1) (λ _ _. carried _ k (sym (k .word))))) (λ a t p. p))));
+      gives = token _ (token-at .ensures) (other _ _ (ne-eqb _ _ (if1 .left)) (other _ _ (ne-eqb _ _ (if2 .left)) (made {R = in-number} to-variable (on-told _ (variable-target .ensures .gives) (r .given .1) (on _ (forbid .ensures .gives _ _) (q .given .1) (λ _ _. carried _ k (sym (k .number))))) (λ a t p. p))));
       onward = goes-on (omega (arith, v .past, w .past, k .at)) (omega (arith, w .within, k .at)) (omega (arith, v .few, w .few, k .count));
     }
 

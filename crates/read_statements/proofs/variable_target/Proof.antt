@@ -49,7 +49,7 @@ returns-2 c =
     let r = c .before .before .before .before .before .before .before .before .before .r in
     let count = c .before .before .before .before .before .before .count-variables .ensures in
     let declare = c .before .before .before .declare in
-    let k = c .carrying .ensures in
+    let k = c .carrying-number .ensures in
     let w = went (fresh .ensures .onward) (r .given .1) in
     let d = declare .ensures in
     record {
@@ -57,7 +57,7 @@ returns-2 c =
           missed-it _ _ _ (find-name .ensures) (enum-told .given .1)
           (on-told _ (fresh .ensures .gives) (r .given .1)
           (stated _ (on _ (declared _ _ _ (rw count at d)) refl
-          (λ _ _. carried _ k (sym (k .word ∙ count))))));
+          (λ _ _. carried _ k (sym (k .number ∙ count))))));
       onward = goes-on (omega (arith, w .past, d .at, k .at)) (omega (arith, w .within, d .at, k .at)) (omega (arith, w .few, d .count, k .count));
     }
 
@@ -77,12 +77,12 @@ returns-3 c =
     let entry-in = c .before .before .before .before .entry-in in
     let if1 = c .before .before .if1 in
     let moved = c .before .moved in
-    let carrying = c .carrying2 in
+    let carrying-number = c .carrying-number2 in
     let p = pre in
     let m = moved .ensures in
-    let k = carrying .ensures in
+    let k = carrying-number .ensures in
     record {
-      gives = found-it _ _ _ (find-name .ensures) (f .given .1) (named _ _ (entry-in .ensures) (so _ _ (eq-eqb _ _ (if1 .taken)) (on _ (advanced m) refl (λ _ _. carried _ k (sym (k .word))))));
+      gives = found-it _ _ _ (find-name .ensures) (f .given .1) (named _ _ (entry-in .ensures) (so _ _ (eq-eqb _ _ (if1 .taken)) (on _ (advanced m) refl (λ _ _. carried _ k (sym (k .number))))));
       onward = goes-on (omega (arith, k .at, m .at)) (omega (arith, k .at, m .at, p .1)) (omega (arith, k .count, m .count, p .0 .few));
     }
 

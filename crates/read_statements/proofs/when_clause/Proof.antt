@@ -40,12 +40,12 @@ returns-2 c =
     let put-word = c .before .before .before .before .before .before .before .put-word in
     let token-at = c .before .before .before .token-at in
     let if1 = c .before .if1 in
-    let carrying = c .carrying in
+    let carrying-more = c .carrying-more in
     let m = moved .ensures in
     let w = went (read-expression .ensures .onward) (r .given .1) in
-    let k = carrying .ensures in
+    let k = carrying-more .ensures in
     record {
-      gives = λ b _. on _ (advanced m) refl (λ _ _. here _ (on _ (expression (read-expression .ensures) .gives) (r .given .1) (λ c _. on _ (put-in _ _ _ (put-word .ensures)) refl (λ _ _. token _ (token-at .ensures) (first-of-two _ _ (eq-eqb _ _ (if1 .taken)) (carried _ k (once (k .word, not-first (b .got) _))))))));
+      gives = λ b _. on _ (advanced m) refl (λ _ _. here _ (on _ (expression (read-expression .ensures) .gives) (r .given .1) (λ c _. on _ (put-in _ _ _ (put-word .ensures)) refl (λ _ _. token _ (token-at .ensures) (first-of-two _ _ (eq-eqb _ _ (if1 .taken)) (carried _ k (once (k .more, not-first (b .got) _))))))));
       onward = goes-on (omega (arith, w .past, k .at, m .at)) (omega (arith, w .within, k .at)) (omega (arith, w .few, k .count, m .count));
     }
 
@@ -58,12 +58,12 @@ returns-3 c =
     let put-word = c .before .before .before .before .before .before .before .put-word in
     let token-at = c .before .before .before .token-at in
     let if1 = c .before .if1 in
-    let carrying2 = c .carrying2 in
+    let carrying-more2 = c .carrying-more2 in
     let m = moved .ensures in
     let w = went (read-expression .ensures .onward) (r .given .1) in
-    let k = carrying2 .ensures in
+    let k = carrying-more2 .ensures in
     record {
-      gives = λ b _. on _ (advanced m) refl (λ _ _. here _ (on _ (expression (read-expression .ensures) .gives) (r .given .1) (λ c _. on _ (put-in _ _ _ (put-word .ensures)) refl (λ _ _. token _ (token-at .ensures) (second-of-two _ _ (ne-eqb _ _ (if1 .left)) (carried _ k (ends (k .word))))))));
+      gives = λ b _. on _ (advanced m) refl (λ _ _. here _ (on _ (expression (read-expression .ensures) .gives) (r .given .1) (λ c _. on _ (put-in _ _ _ (put-word .ensures)) refl (λ _ _. token _ (token-at .ensures) (second-of-two _ _ (ne-eqb _ _ (if1 .left)) (carried _ k (ends (k .more))))))));
       onward = goes-on (omega (arith, w .past, k .at, m .at)) (omega (arith, w .within, k .at)) (omega (arith, w .few, k .count, m .count));
     }
 

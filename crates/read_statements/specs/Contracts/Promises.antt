@@ -5,7 +5,7 @@ use mathlib.Core.List.{List}
 use Prim.Native.Nat.{ℕ, zero, suc, _+_, _<_}
 use lib.ListN.{length}
 use lib.Dec.{eqb}
-use Rattle.value.specs.Limits.{most-names}
+use Rattle.value.specs.Limits.{most-names, most-turns}
 use Rattle.value.specs.Worked.{encode-of}
 use Rattle.token.specs.declared.Token.{Token}
 use Rattle.token.specs.declared.Scan.{Scan}
@@ -41,17 +41,17 @@ whatever x = Unit {0}
 
 -- ---- assignments
 
--- the number of a target, in `word`
+-- the number of a target, in `number`
 abbrev pub target-noted : Target → Reading → Type 0
-target-noted to t = target-number to ≡ t .word
+target-noted to t = target-number to ≡ t .number
 
 -- whether a clause would be the first
 abbrev pub is-first : Bool → List Clause → Type 0
 is-first first got = eqb (length got) 0 ≡ first
 
--- whether a chain of clauses goes on, in `word`: 1 if it does
+-- whether a chain of clauses goes on, in `more`: 1 if it does
 abbrev pub chain-in : Turn (List Clause) (List Clause) → Reading → Type 0
-chain-in = TurnIn (λ got t. (t .word ≡ 1) × is-first false got) (λ t. t .word ≡ 0)
+chain-in = TurnIn (λ got t. (t .more ≡ 1) × is-first false got) (λ t. t .more ≡ 0)
 
 -- what comes before the end of a clause: the clauses before it, the token of its `:=` and its expression
 pub record StatementsBegun : Type 0 where
@@ -60,20 +60,20 @@ pub record StatementsBegun : Type 0 where
   pub expr : Expr
 
 abbrev pub when-behind : Cell → ℕ → ℕ → StatementsBegun → Reader (Turn (List Clause) (List Clause))
-when-behind cell room i b = when-clause (read-expression (cell-as cell) room) (b .got) i (b .token) (b .expr)
+when-behind cell free i b = when-clause (read-expression (cell-as cell) free) (b .got) i (b .token) (b .expr)
 
 abbrev pub end-behind : Cell → ℕ → ℕ → StatementsBegun → Reader (Turn (List Clause) (List Clause))
-end-behind cell room i b = clause-end (read-expression (cell-as cell) room) (b .got) i (b .token) (b .expr)
+end-behind cell free i b = clause-end (read-expression (cell-as cell) free) (b .got) i (b .token) (b .expr)
 
 -- ---- choices
 
--- nothing is said of what is read; `word` is 0
-abbrev pub zero-in : {A : Type 0} → A → Reading → Type 0
-zero-in a t = t .word ≡ 0
+-- nothing is said of what is read; `more` is 0
+abbrev pub none-follows : {A : Type 0} → A → Reading → Type 0
+none-follows a t = t .more ≡ 0
 
--- whether one more arm follows, in `word`: 1 if it does, and then a token stands there
+-- whether one more arm follows, in `more`: 1 if it does, and then a token stands there
 abbrev pub arms-in : Scan → Turn (List Arm) (Block → Block) → Reading → Type 0
-arms-in scan = TurnIn (λ arms t. (t .word ≡ 1) × (t .at < scan .count)) (λ t. t .word ≡ 0)
+arms-in scan = TurnIn (λ arms t. (t .more ≡ 1) × (t .at < scan .count)) (λ t. t .more ≡ 0)
 
 -- ---- loops
 
@@ -81,7 +81,7 @@ arms-in scan = TurnIn (λ arms t. (t .word ≡ 1) × (t .at < scan .count)) (λ 
 unfoldable pub loop-range : ℕ → Reader Range
 loop-range i = do
   expect-or (delimiter .colon) 6
-  r ← read-range 4096
+  r ← read-range most-turns
   put-both i (encode-of (r .low)) (encode-of (r .high))
   return r
 
@@ -93,9 +93,9 @@ loop-head depth = do
   slot ← declare name (name-kind .index) depth
   return (r, slot)
 
--- the slot of a loop's index, in `word`
+-- the slot of a loop's index, in `number`
 abbrev pub index-noted : Range × ℕ → Reading → Type 0
-index-noted h t = (h .1 ≡ t .word) × (t .word < most-names)
+index-noted h t = (h .1 ≡ t .number) × (t .number < most-names)
 
 -- the end of the loop that begins at position i, with its body at position `inner`, and the index in a slot
 unfoldable pub loop-end : ℕ → ℕ → ℕ → (Block → Block) → Reader (Block → Block)
@@ -116,9 +116,9 @@ pub record Exits (s : Reading) (ws : List ℕ) (r : Reading) (ws′ : List ℕ) 
 
 -- what reads the parts of a statement, where so many more may be open
 abbrev pub parts-of : grammar.Cell → ℕ → Parts
-parts-of cell zero = record { room = false; expr = read-expression cell 0; inner-expr = refuse 14; inner = λ _. refuse 14 }
-parts-of cell (suc room) =
-    record { room = true; expr = read-expression cell (suc room); inner-expr = read-expression cell room; inner = read-block cell room }
+parts-of cell zero = record { free = false; expr = read-expression cell 0; inner-expr = refuse 14; inner = λ _. refuse 14 }
+parts-of cell (suc free) =
+    record { free = true; expr = read-expression cell (suc free); inner-expr = read-expression cell free; inner = read-block cell free }
 
 -- whether a list of statements goes on from s: if it ends there, nothing is read
 abbrev pub list-in : Reading → Turn (Block → Block) Block → Reading → Type 0
@@ -126,7 +126,7 @@ list-in s = TurnIn (λ before t. s .at < t .at) (λ t. t .at ≡ s .at)
 
 -- an `if` and a `forall` among so many loops, with what reads their parts
 abbrev pub if-with : Parts → ℕ → Reader (Block → Block)
-if-with parts loops = read-if (parts .room) (parts .inner-expr) (parts .inner loops)
+if-with parts loops = read-if (parts .free) (parts .inner-expr) (parts .inner loops)
 
 abbrev pub forall-with : Parts → ℕ → Reader (Block → Block)
-forall-with parts loops = read-forall (parts .room) loops (parts .inner (loops + 1))
+forall-with parts loops = read-forall (parts .free) loops (parts .inner (loops + 1))

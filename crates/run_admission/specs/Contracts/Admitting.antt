@@ -6,18 +6,20 @@ use Prim.Native.Nat.{ℕ, _+_, _*_, _≤_}
 use lib.ListN.{length}
 use lib.Dec.{eqb, leb}
 use lib.IntN.{ℤ, pos, natAbs}
+use Rattle.value.specs.Limits.{most-along, most-cells}
 use Rattle.value.specs.Choice.{if_then_else_}
 use Rattle.automaton.specs.Shape.{product}
+use Rattle.automaton.specs.Contracts.ShapeLaws.{Shaped}
 use Rattle.program.specs.Syntax.{Program}
-use Rattle.cell_meaning.specs.declared.Rule.{Rule}
 use Rattle.cell_meaning.specs.Contracts.Stands.{rule-table, ranges-in, Holds}
 use Rattle.cell_meaning.specs.Written.{Relative, relatives-in}
 use Rattle.cell_meaning.specs.Contracts.Listing.{Writes}
 use Rattle.cell_meaning.specs.Places.{places}
 use Rattle.program.specs.Refusal.{refusal}
+use Rattle.program.specs.declared.Rule.{Rule}
 use Rattle.run_meaning.specs.Admission.{Request, all-between, good-sizes, good-rooms, good-times, out-of-field, admission}
 use Rattle.run_meaning.specs.Reach.{box}
-use Rattle.run_meaning.specs.Contracts.Fitting.{Shaped, bounds-of, Near, places-of}
+use Rattle.run_meaning.specs.Contracts.Fitting.{bounds-of, Near, places-of}
 use Rattle.run_admission.specs.declared.admitting.Admitted.{Admitted}
 use Rattle.run_admission.specs.declared.Refusal as declared
 
@@ -25,11 +27,11 @@ use Rattle.run_admission.specs.declared.Refusal as declared
 
 -- the product with one size more before it; 0 where that size is not 1 to 4,096, or the product is over 1,048,576
 unfoldable pub times-of : ℕ → ℕ → ℕ
-times-of n total = if leb 1 n && leb n 4096 && leb (n * total) 1048576 then n * total else 0
+times-of n total = if leb 1 n && leb n most-along && leb (n * total) most-cells then n * total else 0
 
 -- the number of cells of a grid with these sizes; 0 where a size is not 1 to 4,096, or there are more than 1,048,576 cells
 unfoldable pub cells-of : List ℕ → ℕ
-cells-of ns = if all-between 1 4096 ns && leb (product ns) 1048576 then product ns else 0
+cells-of ns = if all-between 1 most-along ns && leb (product ns) most-cells then product ns else 0
 
 -- grid and scratch are cells times fields, marks one a cell
 unfoldable pub rooms-of : ℕ → ℕ → ℕ → ℕ → ℕ → Bool
@@ -41,10 +43,10 @@ pub record AdmissionAsked (rule : Rule) (sizes : List ℕ) (entries scratch mark
       → (q : Request) → q .sizes ≡ sizes → length (q .grid) ≡ entries → q .scratch ≡ scratch → q .marks ≡ marks → q .start ≡ start → q .steps ≡ steps
       → number ≡ (if not (good-sizes p (q .sizes)) then 20 else if not (good-rooms p q) then 21 else if not (good-times (q .start) (q .steps)) then 22 else 0)
   -- what is known where it is 0
-  pub shaped : number ≡ 0 → Shaped rule sizes entries
+  pub shaped : number ≡ 0 → Shaped (rule .dims) (rule .fields) most-cells sizes entries
   pub scratch-fits : number ≡ 0 → scratch ≡ entries
   pub marks-fit : number ≡ 0 → marks ≡ product sizes
-  pub each-size : number ≡ 0 → all-between 1 4096 sizes ≡ true
+  pub each-size : number ≡ 0 → all-between 1 most-along sizes ≡ true
   pub start-is : number ≡ 0 → start ≡ pos (natAbs start)
   pub steps-is : number ≡ 0 → steps ≡ pos (natAbs steps)
   pub times : number ≡ 0 → natAbs start + natAbs steps ≤ 2147483647
@@ -70,7 +72,7 @@ pub record Admits (words : List ℕ) (rule : Rule) (sizes : List ℕ) (grid : Li
   pub says : (p : Program) → Holds words rule p → Lists words rule (relatives-in p)
       → refusal (r .number) (r .place) ≡ admission p (request-of sizes grid scratch marks start steps)
   -- what is known where the run is admitted
-  pub shaped : r .number ≡ 0 → Shaped rule sizes (length grid)
+  pub shaped : r .number ≡ 0 → Shaped (rule .dims) (rule .fields) most-cells sizes (length grid)
   pub scratch-fits : r .number ≡ 0 → scratch ≡ length grid
   pub marks-fit : r .number ≡ 0 → marks ≡ product sizes
   pub start-is : r .number ≡ 0 → start ≡ pos (natAbs start)

@@ -156,6 +156,3 @@ holds (counts l manner q field lent r left) =
     same-report (run-source manner (fit l) (l .source) asked) r && same (counts-after manner (fit l) (l .source) asked lent) left
 
 -- the numbers, from n on, of the cases that do not hold
-unfoldable pub failing : ℕ → List Case → List ℕ
-failing n [] = []
-failing n (c ∷ cs) = elim (holds c) [ true ↦ failing (suc n) cs | false ↦ n ∷ failing (suc n) cs ]

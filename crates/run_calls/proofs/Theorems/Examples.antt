@@ -4,9 +4,10 @@ use mathlib.Core.List.{List, [], _∷_, _++_}
 use Prim.Native.Nat.{ℕ}
 use Prim.Native.String.{String}
 use lib.IntN.{ℤ, pos, negsuc}
+use Rattle.value.proofs.Theorems.Truth.{failing}
 use Rattle.token.specs.Bytes.{as-bytes}
 use Rattle.run_meaning.specs.Report.{Manner, Report, quiet, pausing, resuming, refused}
-use Rattle.run_calls.proofs.Theorems.Cases.{Lent, Case, checks, runs, leaves, counts, text, ask, ask-with, report, failing, holds}
+use Rattle.run_calls.proofs.Theorems.Cases.{Lent, Case, checks, runs, leaves, counts, text, ask, ask-with, report, holds}
 
 -- a source of one dimension with an unnamed field of a range
 abbrev pub line : String → String → Lent
@@ -48,7 +49,7 @@ marked-examples =
     ∷ []
 
 -- none fails
-pub all-hold : failing 1 marked-examples ≡ []
+pub all-hold : failing holds 1 marked-examples ≡ []
 unfolding marked-examples failing holds
 all-hold = refl
 
@@ -86,7 +87,7 @@ place-examples =
     ∷ opens "cell := 0 * [0,1] * [0,-2]" (3 ∷ 3 ∷ []) 11
     ∷ []
 
-pub places-hold : failing 1 place-examples ≡ []
+pub places-hold : failing holds 1 place-examples ≡ []
 unfolding place-examples failing holds
 places-hold = refl
 
@@ -119,7 +120,7 @@ list-examples =
     ∷ runs (line "0..1" "") (ask-with (as-bytes "1\n3\n") (1 ∷ []) (pos 2 ∷ []) (pos 0) (pos 2)) (refused 24 0 0 (pos 2 ∷ [])) 0
     ∷ []
 
-pub lists-hold : failing 1 list-examples ≡ []
+pub lists-hold : failing holds 1 list-examples ≡ []
 unfolding list-examples failing holds
 lists-hold = refl
 
@@ -148,7 +149,7 @@ move-examples =
     ∷ moves " x := 0" "1\n[1] = , 0\n" (report 0 0 0 2 6 (pos 3 ∷ pos 1 ∷ pos 3 ∷ pos 1 ∷ pos 2 ∷ pos 1 ∷ [])) 6
     ∷ []
 
-pub moves-hold : failing 1 move-examples ≡ []
+pub moves-hold : failing holds 1 move-examples ≡ []
 unfolding move-examples failing holds
 moves-hold = refl
 
@@ -195,7 +196,7 @@ pause-examples =
     ∷ leaves (line "0..1" "") pausing (ask (2 ∷ []) (pos 0 ∷ pos 2 ∷ []) (pos 0) (pos 1)) (7 ∷ 0 ∷ []) (refused 24 1 0 (pos 0 ∷ pos 2 ∷ [])) (7 ∷ 0 ∷ [])
     ∷ []
 
-pub pauses-hold : failing 1 pause-examples ≡ []
+pub pauses-hold : failing holds 1 pause-examples ≡ []
 unfolding pause-examples failing holds
 pauses-hold = refl
 
@@ -230,6 +231,6 @@ count-examples =
     ∷ counts (line "0..1" "cell := [-1]") (resuming (0 ∷ 0 ∷ 0 ∷ 0 ∷ 0 ∷ [])) (ask (5 ∷ []) (bits first) (pos 0) (pos 2)) 0 lent (report 0 0 0 2 0 (bits first)) (0 ∷ 1 ∷ 1 ∷ 1 ∷ 1 ∷ [])
     ∷ []
 
-pub counts-hold : failing 1 count-examples ≡ []
+pub counts-hold : failing holds 1 count-examples ≡ []
 unfolding count-examples failing holds
 counts-hold = refl

@@ -7,21 +7,22 @@ use Prim.Native.Nat.{ℕ, suc, max, _<_, _≤_}
 use lib.Dec.{eqb, ltb}
 use lib.IntN.{ℤ, natAbs}
 use lib.ListN.{length, getD, set, replicate}
-use Rattle.value.specs.Limits.{most-open}
+use Rattle.value.specs.Limits.{most-open, most-dims}
 use Rattle.value.specs.Choice.{if_then_else_}
 use Rattle.automaton.specs.Shape.{Bound}
 use Rattle.token.specs.Kind.{keyword}
 use Rattle.program.specs.Syntax.{Range}
-use Rattle.cell_meaning.specs.declared.Rule.{Rule}
 use Rattle.cell_meaning.specs.Written.{Relative, Written, written-of}
 use Rattle.cell_meaning.specs.Contracts.Stands.{rule-table}
 use Rattle.cell_meaning.specs.Contracts.Listing.{written-at, written-from, Writes}
 use Rattle.cell_meaning.specs.Places.{own-place, add-relatives}
 use Rattle.run_meaning.specs.declared.Bounds.{Bounds}
 use Rattle.program.specs.Refusal.{Refusal, refusal}
+use Rattle.program.specs.declared.Rule.{Rule}
 use Rattle.run_meaning.specs.Admission.{too-far}
 use Rattle.run_meaning.specs.Reach.{own-only, widen, widened}
-use Rattle.run_meaning.specs.Contracts.Fitting.{Sized, bound-at, bounds-of, places-of}
+use Rattle.program.specs.Contracts.Fitting.{Sized}
+use Rattle.run_meaning.specs.Contracts.Fitting.{bound-at, bounds-of, places-of}
 use Rattle.run_places.specs.Contracts.Vectors.{ends}
 use Rattle.run_indices.specs.declared.Count.{Count}
 use Rattle.run_indices.specs.declared.Survey.{Survey}
@@ -85,13 +86,13 @@ listed-places words rule loops at to = written-from (suc (rule .tokens)) (rule-t
 -- one dimension of a box is widened, and the others stay
 pub record Wider (bounds : Bounds) (dim back ahead : ℕ) (r : Bounds) : Type 0 where
   pub here : bound-at r dim ≡ record { back = max (bound-at bounds dim .back) back; ahead = max (bound-at bounds dim .ahead) ahead }
-  pub others : (k : ℕ) → k < 3 → (k ≡ dim → ⊥) → bound-at r k ≡ bound-at bounds k
+  pub others : (k : ℕ) → k < most-dims → (k ≡ dim → ⊥) → bound-at r k ≡ bound-at bounds k
 
 -- one written index is counted, with the values that two words stand for, in a dimension of a given size
 pub record Counts (s : Count) (size place dim low high : ℕ) (r : Count) : Type 0 where
   pub far : refusal (r .number) (r .place) ≡ (if eqb (s .number) 0 && goes-past size (ends low high) then refusal 23 place else refusal (s .number) (s .place))
   pub here : bound-at (r .bounds) dim ≡ widen (bound-at (s .bounds) dim) (ends low high)
-  pub others : (k : ℕ) → k < 3 → (k ≡ dim → ⊥) → bound-at (r .bounds) k ≡ bound-at (s .bounds) k
+  pub others : (k : ℕ) → k < most-dims → (k ≡ dim → ⊥) → bound-at (r .bounds) k ≡ bound-at (s .bounds) k
 
 -- a word is put into a list, and the others stay
 pub record Opened (words : List ℕ) (depth word : ℕ) (r : List ℕ) : Type 0 where

@@ -5,20 +5,20 @@ use mathlib.Core.Path.{_≡_, sym, subst₂}
 use mathlib.Core.Bool.{Bool, true}
 use mathlib.Core.List.{List}
 use lib.ListN.{length}
+use Rattle.program.specs.declared.Rule.{Rule}
 use Rattle.grammar.specs.Checking.{rooms-fit}
-use Rattle.cell_meaning.specs.declared.Rule.{Rule}
+use Rattle.grammar.specs.Contracts.Traces.{accepted-by, Trace}
 use Rattle.cell_meaning.specs.Written.{relatives-in}
 use Rattle.read_links.proofs.Theorems.Accepted.{written}
 use Rattle.run_calls.proofs.Theorems.AcceptedSources.{accepted-flagged}
-use Rattle.read_source.specs.declared.checking.Outline.{Outline}
-use Rattle.read_source.specs.Contracts.Promises.{Trace, Outlines, accepted-by, Loads, Checks}
+use Rattle.read_source.specs.Contracts.Promises.{RuleIs, Loads, Checks}
 use Rattle.move_profile.proofs.StandingLaws.{linked-by, parsed-by, words-by, rule-by, stood-by, sized}
 use Rattle.run_admission.specs.Contracts.Admitting.{Lists}
 use Rattle.run_loading.specs.Contracts.Loaded.{Accepts}
 
-module _ {source ws ns : List ℕ} {known : Bool} {o : Outline} {n place : ℕ} {ws′ ns′ : List ℕ}
-    (checked : Checks (rooms-fit (length ws) (length ns)) source ws ns n place ws′ ns′) (loaded : Loads source ws ns known o) (sure : known ≡ true) where
-  accepts-by : (t : Trace source) → Outlines source t o → Accepts (rooms-fit (length ws) (length ns)) source ws′ ns′ o
+module _ {source ws ns : List ℕ} {known : Bool} {rule : Rule} {n place : ℕ} {ws′ ns′ : List ℕ}
+    (checked : Checks (rooms-fit (length ws) (length ns)) source ws ns n place ws′ ns′) (loaded : Loads source ws ns known rule) (sure : known ≡ true) where
+  accepts-by : (t : Trace source) → RuleIs source t rule → Accepts (rooms-fit (length ws) (length ns)) source ws′ ns′ rule
   accepts-by t y =
       let linked = linked-by checked loaded sure t in
       record {
@@ -36,5 +36,5 @@ module _ {source ws ns : List ℕ} {known : Bool} {o : Outline} {n place : ℕ} 
       }
 
   -- Its program stands in the memory.
-  pub accepts : Accepts (rooms-fit (length ws) (length ns)) source ws′ ns′ o
+  pub accepts : Accepts (rooms-fit (length ws) (length ns)) source ws′ ns′ rule
   accepts = let g = loaded .given sure in accepts-by (g .0) (g .1)

@@ -5,6 +5,7 @@ use mathlib.Core.List.{List}
 use Prim.Native.Nat.{ℕ, _*_, _<_, _≤_}
 use lib.ListN.{length, getD}
 use lib.IntN.{ℤ, pos}
+use Rattle.value.specs.Limits.{most-cells, most-fields}
 use Rattle.automaton.specs.Step.{marked}
 use Rattle.automaton.specs.Shape.{product, coordinates}
 use Rattle.automaton.specs.Contracts.ShapeLaws.{Positive}
@@ -28,19 +29,19 @@ pub record MarkedUpTo (marks : List ℕ) (from r : ℕ) : Type 0 where
 -- ---- a cell's coordinates
 
 -- what is asked for coordinates, with room for so many
-pub record Placing (sizes : List ℕ) (room : ℕ) : Type 0 where
+pub record PointFits (sizes : List ℕ) (room : ℕ) : Type 0 where
   pub dims : room ≡ length sizes
   pub positive : Positive sizes
 
 -- where there is such a cell, these are its coordinates
-abbrev pub MarkPlaced : List ℕ → ℕ → List ℕ → Type 0
-MarkPlaced sizes cell place = cell < product sizes → place ≡ coordinates sizes cell
+abbrev pub PointSet : List ℕ → ℕ → List ℕ → Type 0
+PointSet sizes cell point = cell < product sizes → point ≡ coordinates sizes cell
 
 -- what is asked for going on from a cell's coordinates
-pub record Moving (sizes : List ℕ) (cell after : ℕ) (place : List ℕ) : Type 0 where
-  pub placing : Placing sizes (length place)
+pub record Moving (sizes : List ℕ) (cell after : ℕ) (point : List ℕ) : Type 0 where
+  pub placing : PointFits sizes (length point)
   pub inside : cell < product sizes
-  pub own : place ≡ coordinates sizes cell
+  pub own : point ≡ coordinates sizes cell
   pub onward : cell < after
   pub small : after < 4294967296
 
@@ -63,8 +64,8 @@ pub record Swapped (a b a′ : List ℤ) (from end : ℕ) : Type 0 where
 pub record Exchanging (a b marks fields : ℕ) : Type 0 where
   pub alike : b ≡ a
   pub entries : marks * fields ≡ a
-  pub few : marks ≤ 1048576
-  pub most : fields ≤ 8
+  pub few : marks ≤ most-cells
+  pub most : fields ≤ most-fields
 
 -- the marked cells have the fields of b; the others stay
 pub record Exchanged (fields : ℕ) (marks : List ℕ) (a b a′ : List ℤ) : Type 0 where

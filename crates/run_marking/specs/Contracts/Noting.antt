@@ -6,12 +6,14 @@ use Prim.Native.Nat.{ℕ, zero, suc, _+_, _-_, _*_, _/_, _%_, _<_, _≤_, min}
 use lib.ListN.{length, getD, set}
 use lib.IntN.{ℤ}
 use lib.Dec.{ltb}
+use Rattle.value.specs.Limits.{most-dims, most-cells}
+use Rattle.value.specs.Contracts.Buffers.{place-words}
 use Rattle.value.specs.Choice.{if_then_else_}
 use Rattle.automaton.specs.Listed.{list-of}
 use Rattle.automaton.specs.Shape.{product, coordinates, Bound, width}
 use Rattle.automaton.specs.Contracts.ShapeLaws.{Positive}
 use Rattle.automaton.specs.Grid.{cell-of, differ}
-use Rattle.run_meaning.specs.Contracts.Fitting.{bound-at}
+use Rattle.run_meaning.specs.Contracts.Fitting.{bound-at, Near}
 use Rattle.run_meaning.specs.declared.Bounds.{Bounds}
 use Rattle.run_place_marks.specs.Contracts.Placing.{cell-from}
 
@@ -71,25 +73,26 @@ opened-by cells fields old new x = cond (differ (cell-of fields old x) (cell-of 
 -- what is asked of a box, by the number of cells
 pub record Boxed (ns firsts counts : List ℕ) (base cells : ℕ) : Type 0 where
   pub some-dims : 0 < length ns
-  pub dims : length ns ≤ 3
+  pub dims : length ns ≤ most-dims
   pub positive : Positive ns
   pub firsts-fit : length ns ≤ length firsts
   pub counts-fit : length ns ≤ length counts
   pub inside : (k : ℕ) → k < length ns → getD firsts k 0 < getD ns k 0
   pub room : (base + 1) * product ns ≤ cells
-  pub few : cells ≤ 1048576
+  pub few : cells ≤ most-cells
 
--- what is asked of the sizes and the reach
-pub record NotesShaped (ns : List ℕ) (bounds : Bounds) : Type 0 where
-  pub some-dims : 0 < length ns
-  pub dims : length ns ≤ 3
-  pub positive : Positive ns
-  pub cells : product ns ≤ 1048576
-  pub near : (k : ℕ) → k < length ns → (bound-at bounds k .back ≤ getD ns k 0) × (bound-at bounds k .ahead ≤ getD ns k 0)
+-- what is asked of the sizes and of the box
+pub record Prepared (sizes : List ℕ) (bounds : Bounds) : Type 0 where
+  pub dims : length sizes ≤ most-dims
+  pub some-dims : 0 < length sizes
+  pub positive : Positive sizes
+  pub cells : product sizes ≤ most-cells
+  -- no index is larger in size than its dimension
+  pub near : Near sizes bounds
 
 -- what is asked of the steps back
 pub record Led (ns steps : List ℕ) (listed : ℕ) : Type 0 where
-  pub size : length steps ≡ 768
+  pub size : length steps ≡ place-words
   pub inside : listed < 257 → (k : ℕ) → k < listed → (d : ℕ) → d < length ns → getD steps (3 * k + d) 0 < getD ns d 0
 
 -- each coordinate is below its size
@@ -98,12 +101,12 @@ pub record NotedBelow (ns at : List ℕ) : Type 0 where
 
 -- the first coordinates that a change at given coordinates opens
 pub record Firsts (ns : List ℕ) (bounds : Bounds) (at firsts : List ℕ) : Type 0 where
-  pub len : length firsts ≡ 3
+  pub len : length firsts ≡ most-dims
   pub each : (k : ℕ) → k < length ns → getD firsts k 0 ≡ opened-from (getD ns k 0) (bound-at bounds k) (getD at k 0)
 
 -- how many coordinates a change opens
 pub record NotedCounts (ns : List ℕ) (bounds : Bounds) (counts : List ℕ) : Type 0 where
-  pub len : length counts ≡ 3
+  pub len : length counts ≡ most-dims
   pub each : (k : ℕ) → k < length ns → getD counts k 0 ≡ opened-count (getD ns k 0) (bound-at bounds k)
 
 -- no cell from a cell on to before r has an odd mark

@@ -7,17 +7,18 @@ use mathlib.Core.Option.{some}
 use Prim.Native.Nat.{ℕ, _*_, _<_, _≤_}
 use lib.ListN.{length, getD}
 use lib.IntN.{ℤ}
+use Rattle.value.specs.Limits.{most-fields}
 use Rattle.automaton.specs.Step.{any-of, changed, touched, marked, marks-of}
 use Rattle.automaton.specs.Shape.{product, width, box-indices, reach-of}
-use Rattle.automaton.specs.Contracts.ShapeLaws.{Positive, Alike}
+use Rattle.automaton.specs.Contracts.ShapeLaws.{Alike}
 use Rattle.automaton.specs.Grid.{cell-of, differ, automaton}
 use Rattle.program.specs.Syntax.{Program}
 use Rattle.cell_meaning.specs.Places.{own-place}
 use Rattle.run_meaning.specs.Reach.{reach-from, reach, running}
-use Rattle.run_meaning.specs.Contracts.Fitting.{bounds-of, Near, places-of}
+use Rattle.run_meaning.specs.Contracts.Fitting.{bounds-of, places-of}
 use Rattle.run_meaning.specs.declared.Bounds.{Bounds}
 use Rattle.run_meaning.specs.declared.Reach.{Reach}
-use Rattle.run_marking.specs.Contracts.Noting.{cells-by, Led}
+use Rattle.run_marking.specs.Contracts.Noting.{cells-by, Prepared, Led}
 
 -- whether some cell at the given relative indices from the cell c changed
 abbrev pub opened : List ℕ → List (List ℤ) → ℕ → List ℤ → List ℤ → ℕ → Bool
@@ -32,20 +33,11 @@ pending-is p sizes old grid c = refl
 abbrev pub indices-of : Reach → ℕ → List (List ℤ)
 indices-of r dims = reach-from (bounds-of (r .bounds) dims) (places-of r dims)
 
--- what is asked of the sizes and of the box
-pub record Prepared (sizes : List ℕ) (bounds : Bounds) : Type 0 where
-  pub dims : length sizes ≤ 3
-  pub some-dims : 0 < length sizes
-  pub positive : Positive sizes
-  pub cells : product sizes ≤ 1048576
-  -- no index is larger in size than its dimension
-  pub near : Near sizes bounds
-
 -- what is asked before cells are marked: the way, the grids and the marks fit the sizes
 pub record Markable (sizes : List ℕ) (bounds : Bounds) (steps : List ℕ) (listed fields : ℕ) (old grid : List ℤ) (marks : List ℕ) : Type 0 where
   pub prepared : Prepared sizes bounds
   pub led : Led sizes steps listed
-  pub few : fields ≤ 8
+  pub few : fields ≤ most-fields
   pub old-fits : length old ≡ product sizes * fields
   pub grid-fits : length grid ≡ product sizes * fields
   pub marks-fit : length marks ≡ product sizes

@@ -4,7 +4,7 @@ use native.Mathlib.Nat.{le-refl, le-trans}
 use native.Mathlib.Omega.{arith}
 use mathlib.Core.Path.{_≡_, refl, sym, ap, ap₂, _∙_, subst}
 use mathlib.Core.Logic.{_⊎_, inl, inr}
-use mathlib.Core.Bool.{Bool, true, false, not, _||_, cond}
+use mathlib.Core.Bool.{Bool, true, false, not, _||_}
 use mathlib.Core.List.{List, [], _∷_, _++_, map, List·Memᴰ, List·Memᴰ·head, List·Memᴰ·tail, List·Memᴰ·cases-cons, List·Memᴰ·not-nil, List·Memᴰ·append-cases, List·Memᴰ·eq-of-singleton, Memᴰ·append-left, Memᴰ·append-right, Memᴰ·cast}
 use mathlib.Core.Option.{Option, none, some}
 use lib.ListN.{length, getD, set, replicate, length-set, length-replicate, List·getD-eq-default}
@@ -12,6 +12,7 @@ use lib.Dec.{eqb, leb, ltb}
 use borrow.Author.Tests.{leb-true, le-leb, eq-eqb, ltb-true, ltb-false, not-true}
 use lib.IntN.{ℤ, pos, negsuc, natAbs, _+ℤ_, _-ℤ_, +ℤ-comm, -ℤ-+ℤ-cancel}
 use lib.Signed.{leZ}
+use Rattle.value.proofs.Theorems.Truth.{or-either, or-second}
 use Rattle.value.specs.Limits.{most-places}
 use Rattle.value.specs.Choice.{if_then_else_}
 use Rattle.value.specs.Worked.{span-of}
@@ -20,7 +21,7 @@ use Rattle.automaton.specs.Listed.{list-of}
 use Rattle.automaton.specs.Contracts.ListedLaws.{length-list-of, getD-list-of, mem-list-of, of-mem-list-of}
 use Rattle.automaton.specs.Step.{Automaton, Blocks}
 use Rattle.automaton.proofs.Theorems.Quiet.{Lawful, QuietAgrees, quiet-agrees}
-use Rattle.automaton.specs.Shape.{product, cell-number, coordinates, Bound, box-indices}
+use Rattle.automaton.specs.Shape.{cell-number, coordinates, Bound, box-indices}
 use Rattle.automaton.specs.Contracts.ShapeLaws.{Inside, number-lt, coordinates-number, Within, AllWithin, mem-box}
 use Rattle.automaton.specs.Grid.{differ}
 use Rattle.automaton.proofs.Theorems.GridLaws.{differ-false}
@@ -256,10 +257,6 @@ kept-entry loops vs h is k u = by (ltb k (length loops)) refl
         List·getD-eq-default (list-of (kept vs is) (length loops)) (pos 0) {n = k} (omega (arith, length-list-of (kept vs is) (length loops)))
         ∙ sym (List·getD-eq-default vs (pos 0) {n = k} (omega (arith, in-length loops vs h)))
 
-or-right-true : (a b : Bool) → b ≡ true → (a || b) ≡ true
-or-right-true true b e = refl
-or-right-true false b e = e
-
 -- the index vector depends on the variables that stand there alone
 offsets-same : (dims : ℕ) (vs ws : List ℤ) (is : List Index) → ((k : ℕ) → uses k is ≡ true → entry vs k ≡ entry ws k) → offsets dims vs is ≡ offsets dims ws is
 unfolding offsets
@@ -267,7 +264,7 @@ offsets-same zero vs ws is h = refl
 offsets-same (suc dims) vs ws [] h = ap (λ (l : List ℤ). pos 0 ∷ l) (offsets-same dims vs ws [] (λ k u. never u))
 offsets-same (suc dims) vs ws (fixed p z ∷ is) h = ap (λ (l : List ℤ). z ∷ l) (offsets-same dims vs ws is h)
 offsets-same (suc dims) vs ws (moving p d ∷ is) h =
-    ap₂ (λ (x : ℤ) (l : List ℤ). x ∷ l) (h d (rw (eq-eqb d d refl) refl)) (offsets-same dims vs ws is (λ k u. h k (or-right-true (eqb d k) (uses k is) u)))
+    ap₂ (λ (x : ℤ) (l : List ℤ). x ∷ l) (h d (rw (eq-eqb d d refl) refl)) (offsets-same dims vs ws is (λ k u. h k (or-second (eqb d k) u)))
 
 -- every index vector that a relative index can take is listed
 vectors-all : (dims : ℕ) (r : Relative) → ReadsIn dims (vectors-of dims r) r
@@ -284,14 +281,10 @@ vectors-all dims r vs inside =
 not-differ : (a b : List ℤ) (t : Bool) → not (differ a b) ≡ true → b ≡ a
 not-differ a b t e = sym (differ-false a b (not-true (differ a b) e))
 
-or-cases : (a b : Bool) → (a || b) ≡ true → (a ≡ true) ⊎ (b ≡ true)
-or-cases true b e = inl refl
-or-cases false b e = inr e
-
 has-place-mem : (ps : List (List ℤ)) (ds : List ℤ) → has-place ps ds ≡ true → List·Memᴰ ds ps
 unfolding has-place
 has-place-mem [] ds e = never e
-has-place-mem (p ∷ ps) ds e = go (or-cases (not (differ p ds)) (has-place ps ds) e) (has-place-mem ps ds)
+has-place-mem (p ∷ ps) ds e = go (or-either (not (differ p ds)) (has-place ps ds) e) (has-place-mem ps ds)
   where
     go : (not (differ p ds) ≡ true) ⊎ (has-place ps ds ≡ true) → (has-place ps ds ≡ true → List·Memᴰ ds ps) → List·Memᴰ ds (p ∷ ps)
     go (inl q) rest = List·Memᴰ·head (not-differ p ds true q)

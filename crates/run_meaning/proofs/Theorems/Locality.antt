@@ -8,19 +8,20 @@ use mathlib.Core.Bool.{Bool, true, false, _||_, cond}
 use mathlib.Core.List.{List, [], _∷_, _++_, List·Memᴰ}
 use mathlib.Core.Option.{Option, none, some}
 use lib.ListN.{length, getD, set, replicate, length-set, length-replicate}
-use borrow.Author.Tests.{leb-true, le-leb}
-use lib.IntN.{ℤ, pos, negsuc, natAbs, _+ℤ_, _-ℤ_, +ℤ-assoc, +ℤ-idr}
+use borrow.Author.Tests.{leb-true}
+use lib.IntN.{ℤ, pos, natAbs, _+ℤ_, _-ℤ_, +ℤ-assoc, +ℤ-idr}
 use lib.Signed.{leZ}
+use Rattle.value.specs.Choice.{if_then_else_}
 use Rattle.value.specs.Worked.{truth, span-of}
 use Rattle.value.proofs.Theorems.Laws.{never, and-both, offset-within}
-use Rattle.automaton.specs.Step.{Blocks, state, Automaton}
+use Rattle.automaton.specs.Step.{Outcome, result, Blocks, Automaton}
 use Rattle.automaton.specs.Grid.{automaton}
 use Rattle.automaton.proofs.Theorems.Quiet.{Lawful, QuietAgrees, quiet-agrees}
 use Rattle.automaton.specs.Contracts.ShapeLaws.{zeros}
 use Rattle.automaton.proofs.Theorems.GridLaws.{Bounded, lawful}
 use Rattle.program.specs.Syntax.{Range, no-range, Index, fixed, moving, Expr, number, time, variable, index, field, element, unary, binary, Target, Clause, Block, empty, assign, select, loop, exit, constant, Program}
-use Rattle.cell_meaning.specs.Operators.{Worth, worth, placed, apply-unary, apply-binary}
-use Rattle.cell_meaning.specs.Evaluation.{Env, with-worth, entry, offset, offsets, element-at, eval, on, Frame, frame, onward, valued, in-field, branch, conditional, assign-first, after-turn, each, exec, outcome-of, evaluate}
+use Rattle.cell_meaning.specs.Operators.{placed, apply-unary, apply-binary}
+use Rattle.cell_meaning.specs.Evaluation.{Env, bind, entry, offset, offsets, element-at, eval, Frame, frame, onward, in-field, store, met, assign-first, each, exec, evaluate}
 use Rattle.cell_meaning.proofs.Theorems.Kept.{evaluate-keeps}
 use Rattle.cell_meaning.specs.Written.{Relative, relative-of, relatives-in-expr, relatives-in-condition, relatives-in-clauses, relatives-in-block, relatives-in}
 use Rattle.cell_meaning.specs.Places.{own-place}
@@ -129,27 +130,24 @@ own-offsets (suc dims) vs = ap (λ (l : List ℤ). pos 0 ∷ l) (own-offsets dim
 
 -- ---- locality
 
-onward-same : {a b : Frame} {k l : Frame → Frame} → a ≡ b → ((g : Frame) → k g ≡ l g) → onward a k ≡ onward b l
+bind-same : {A B : Type 0} {a b : Outcome A} {k l : A → Outcome B} → a ≡ b → ((x : A) → k x ≡ l x) → bind a k ≡ bind b l
+bind-same {A} {B} e h = ap₂ (λ (o : Outcome A) (f : A → Outcome B). bind o f) e (fun-ext h)
+
+onward-same : {a b : Outcome Frame} {k l : Frame → Outcome Frame} → a ≡ b → ((g : Frame) → k g ≡ l g) → onward a k ≡ onward b l
 onward-same e h = ap₂ onward e (fun-ext h)
 
-branch-same : (t : Bool) {f f′ g g′ : Frame → Frame} → ((x : Frame) → f x ≡ f′ x) → ((x : Frame) → g x ≡ g′ x) → (x : Frame) → branch t f g x ≡ branch t f′ g′ x
-branch-same true h k x = h x
-branch-same false h k x = k x
-
-valued-same : {a b : Worth} (fr : Frame) {k l : ℤ → Frame} → a ≡ b → ((z : ℤ) → k z ≡ l z) → valued a fr k ≡ valued b fr l
-valued-same fr e h = ap₂ (λ (w : Worth) (f : ℤ → Frame). valued w fr f) e (fun-ext h)
-
-turned-same : {a b : Frame} {k l : Frame → Frame} → a ≡ b → ((g : Frame) → k g ≡ l g) → after-turn (a .flow) a k ≡ after-turn (b .flow) b l
-turned-same e h = ap₂ (λ (a : Frame) (k : Frame → Frame). after-turn (a .flow) a k) e (fun-ext h)
+if-same : (t : Bool) {a a′ b b′ : Outcome Frame} → a ≡ a′ → b ≡ b′ → (if t then a else b) ≡ (if t then a′ else b′)
+if-same t e h = ap₂ (λ (x y : Outcome Frame). if t then x else y) e h
 
 -- two bodies that do the same for each value that is gone through
-each-same : (body body′ : ℤ → Frame → Frame) (n : ℕ) (v : ℤ) → ((k : ℕ) → k < n → (g : Frame) → body (v +ℤ pos k) g ≡ body′ (v +ℤ pos k) g)
+each-same : (body body′ : ℤ → Frame → Outcome Frame) (n : ℕ) (v : ℤ) → ((k : ℕ) → k < n → (g : Frame) → body (v +ℤ pos k) g ≡ body′ (v +ℤ pos k) g)
     → (fr : Frame) → each body n v fr ≡ each body′ n v fr
 unfolding each
 each-same body body′ zero v h fr = refl
 each-same body body′ (suc n) v h fr =
-    turned-same (subst (λ (z : ℤ). body z fr ≡ body′ z fr) (+ℤ-idr v) (h 0 (omega arith) fr))
-    (each-same body body′ n (v +ℤ pos 1) (λ k l g. subst (λ (z : ℤ). body z g ≡ body′ z g) (shifted k) (h (suc k) (omega arith) g)))
+    bind-same (subst (λ (z : ℤ). body z fr ≡ body′ z fr) (+ℤ-idr v) (h 0 (omega arith) fr))
+    (λ g. ap (λ (o : Outcome Frame). if g .leaving then result (frame false (g .vars) (g .next)) else o)
+    (each-same body body′ n (v +ℤ pos 1) (λ k l g. subst (λ (z : ℤ). body z g ≡ body′ z g) (shifted k) (h (suc k) (omega arith) g)) g))
   where
     shifted : (k : ℕ) → v +ℤ pos (suc k) ≡ (v +ℤ pos 1) +ℤ pos k
     shifted k = let e : suc k ≡ 1 + k = omega arith in ap (λ (m : ℕ). v +ℤ pos m) e ∙ sym (+ℤ-assoc v (pos 1) (pos k))
@@ -172,24 +170,23 @@ module _ (fields : List Range) (dims : ℕ) (dss : List (List ℤ)) (own : List�
       → eval here vars vs e ≡ eval there vars vs e
   unfolding eval relatives-in-expr timed-expr
   eval-same loops vars vs inside (number z) h q = refl
-  eval-same loops vars vs inside time h q = ap (λ (x : ℕ). worth (pos x)) (q refl)
+  eval-same loops vars vs inside time h q = ap (λ (x : ℕ). result (pos x)) (q refl)
   eval-same loops vars vs inside (variable slot) h q = refl
   eval-same loops vars vs inside (index depth) h q = refl
-  eval-same loops vars vs inside (field is f) h q = ap (λ (l : List ℤ). worth (entry l f)) (look-same loops vs inside is h)
-  eval-same loops vars vs inside (element p zs e) h q = ap (λ (w : Worth). with-worth w (element-at p zs)) (eval-same loops vars vs inside e h q)
+  eval-same loops vars vs inside (field is f) h q = ap (λ (l : List ℤ). result (entry l f)) (look-same loops vs inside is h)
+  eval-same loops vars vs inside (element p zs e) h q = ap (λ (w : Outcome ℤ). bind w (element-at p zs)) (eval-same loops vars vs inside e h q)
   eval-same loops vars vs inside (unary op p e) h q =
-      ap (λ (w : Worth). with-worth w (λ a. placed p (apply-unary op a))) (eval-same loops vars vs inside e h q)
+      ap (λ (w : Outcome ℤ). bind w (λ a. placed p (apply-unary op a))) (eval-same loops vars vs inside e h q)
   eval-same loops vars vs inside (binary op p d e) h q =
-      ap₂ (λ (w w′ : Worth). with-worth w (λ a. with-worth w′ (λ b. placed p (apply-binary op a b))))
+      ap₂ (λ (w w′ : Outcome ℤ). bind w (λ a. bind w′ (λ b. placed p (apply-binary op a b))))
       (eval-same loops vars vs inside d (all-left (ReadsIn dims dss) (relatives-in-expr loops d) (relatives-in-expr loops e) h) (or-left (timed-expr d) (timed-expr e) q))
       (eval-same loops vars vs inside e (all-right (ReadsIn dims dss) (relatives-in-expr loops d) (relatives-in-expr loops e) h) (or-right (timed-expr d) (timed-expr e) q))
 
-  conditional-same : (loops : List Range) (vs : List ℤ) → InRanges loops vs → (o : Option Expr) → All (ReadsIn dims dss) (relatives-in-condition loops o)
-      → (timed-condition o ≡ true → t ≡ t′) → {f f′ g g′ : Frame → Frame} → ((x : Frame) → f x ≡ f′ x) → ((x : Frame) → g x ≡ g′ x) → (fr : Frame)
-      → conditional here vs o f g fr ≡ conditional there vs o f′ g′ fr
+  met-same : (loops : List Range) (vars vs : List ℤ) → InRanges loops vs → (o : Option Expr) → All (ReadsIn dims dss) (relatives-in-condition loops o)
+      → (timed-condition o ≡ true → t ≡ t′) → met here vars vs o ≡ met there vars vs o
   unfolding relatives-in-condition timed-condition
-  conditional-same loops vs inside none h q u v fr = u fr
-  conditional-same loops vs inside (some e) h q u v fr = valued-same fr (eval-same loops (fr .vars) vs inside e h q) (λ z. branch-same (truth z) u v fr)
+  met-same loops vars vs inside none h q = refl
+  met-same loops vars vs inside (some e) h q = ap (λ (w : Outcome ℤ). bind w (λ z. result (truth z))) (eval-same loops vars vs inside e h q)
 
   assign-same : (loops : List Range) (vs : List ℤ) → InRanges loops vs → (to : Target) (cs : List Clause) → All (ReadsIn dims dss) (relatives-in-clauses loops cs)
       → (timed-clauses cs ≡ true → t ≡ t′) → (fr : Frame) → assign-first here vs to cs fr ≡ assign-first there vs to cs fr
@@ -201,10 +198,11 @@ module _ (fields : List Range) (dims : ℕ) (dss : List (List ℤ)) (own : List�
       let w₃ = relatives-in-clauses loops cs in
       let h′ = all-right (ReadsIn dims dss) w₁ (w₂ ++ w₃) h in
       let q′ = or-right (timed-expr (c .expr)) (timed-condition (c .condition) || timed-clauses cs) q in
-      conditional-same loops vs inside (c .condition) (all-left (ReadsIn dims dss) w₂ w₃ h′) (or-left (timed-condition (c .condition)) (timed-clauses cs) q′)
-      (λ g. valued-same g (eval-same loops (g .vars) vs inside (c .expr) (all-left (ReadsIn dims dss) w₁ (w₂ ++ w₃) h) (or-left (timed-expr (c .expr)) (timed-condition (c .condition) || timed-clauses cs) q)) (λ z. refl))
-      (assign-same loops vs inside to cs (all-right (ReadsIn dims dss) w₂ w₃ h′) (or-right (timed-condition (c .condition)) (timed-clauses cs) q′))
-      fr
+      bind-same (met-same loops (fr .vars) vs inside (c .condition) (all-left (ReadsIn dims dss) w₂ w₃ h′) (or-left (timed-condition (c .condition)) (timed-clauses cs) q′))
+      (λ t. if-same t
+      (ap (λ (w : Outcome ℤ). bind w (store fields to (c .place) fr))
+      (eval-same loops (fr .vars) vs inside (c .expr) (all-left (ReadsIn dims dss) w₁ (w₂ ++ w₃) h) (or-left (timed-expr (c .expr)) (timed-condition (c .condition) || timed-clauses cs) q)))
+      (assign-same loops vs inside to cs (all-right (ReadsIn dims dss) w₂ w₃ h′) (or-right (timed-condition (c .condition)) (timed-clauses cs) q′) fr))
 
   pub exec-same : (loops : List Range) (vs : List ℤ) → InRanges loops vs → (b : Block) → All (ReadsIn dims dss) (relatives-in-block loops b)
       → (timed b ≡ true → t ≡ t′) → (fr : Frame) → exec here vs b fr ≡ exec there vs b fr
@@ -225,9 +223,11 @@ module _ (fields : List Range) (dims : ℕ) (dss : List (List ℤ)) (own : List�
       let q₂ = or-right (timed-expr c) (timed d || (timed e || timed rest)) q in
       let q₃ = or-right (timed d) (timed e || timed rest) q₂ in
       onward-same
-      (valued-same fr (eval-same loops (fr .vars) vs inside c (all-left (ReadsIn dims dss) w₁ (w₂ ++ (w₃ ++ w₄)) h) (or-left (timed-expr c) (timed d || (timed e || timed rest)) q))
-      (λ z. branch-same (truth z) (exec-same loops vs inside d (all-left (ReadsIn dims dss) w₂ (w₃ ++ w₄) h₂) (or-left (timed d) (timed e || timed rest) q₂))
-      (exec-same loops vs inside e (all-left (ReadsIn dims dss) w₃ w₄ h₃) (or-left (timed e) (timed rest) q₃)) fr))
+      (bind-same
+      (ap (λ (w : Outcome ℤ). bind w (λ z. result (truth z)))
+      (eval-same loops (fr .vars) vs inside c (all-left (ReadsIn dims dss) w₁ (w₂ ++ (w₃ ++ w₄)) h) (or-left (timed-expr c) (timed d || (timed e || timed rest)) q)))
+      (λ t. if-same t (exec-same loops vs inside d (all-left (ReadsIn dims dss) w₂ (w₃ ++ w₄) h₂) (or-left (timed d) (timed e || timed rest) q₂) fr)
+      (exec-same loops vs inside e (all-left (ReadsIn dims dss) w₃ w₄ h₃) (or-left (timed e) (timed rest) q₃) fr)))
       (exec-same loops vs inside rest (all-right (ReadsIn dims dss) w₃ w₄ h₃) (or-right (timed e) (timed rest) q₃))
   exec-same loops vs inside (loop r d rest) h q fr =
       let w₁ = relatives-in-block (loops ++ (r ∷ [])) d in
@@ -243,7 +243,7 @@ module _ (fields : List Range) (dims : ℕ) (dss : List (List ℤ)) (own : List�
 
 -- The next fields lie in the fields' ranges, if the old ones do.
 pub evaluate-in-ranges : (p : Program) (look : List ℤ → List ℤ) (t : ℕ) (a : List ℤ) → InRanges (p .fields) (look (offsets (p .dims) [] []))
-    → evaluate p look t ≡ state a → InRanges (p .fields) a
+    → evaluate p look t ≡ result a → InRanges (p .fields) a
 evaluate-in-ranges p = evaluate-keeps (InRanges (p .fields)) p (λ next f z e h. in-set (p .fields) next f z e h)
 
 -- What a cell's evaluation gives depends on the fields at the index vectors of a reach alone, and on the time only where `time` stands in the program.
@@ -251,9 +251,9 @@ pub evaluate-local : (p : Program) (dss : List (List ℤ)) → Covers p dss → 
     → ((ds : List ℤ) → List·Memᴰ ds dss → look ds ≡ look′ ds) → evaluate p look t ≡ evaluate p look′ t′
 unfolding evaluate relatives-in
 evaluate-local p dss covers look look′ t t′ q agree =
-    ap (λ (fr : Frame). outcome-of (fr .flow) (fr .next))
+    ap (λ (o : Outcome Frame). bind o (λ end. result (end .next)))
     (exec-same (p .fields) (p .dims) dss (covers .own) t t′ look look′ agree [] [] tt (p .body) (covers .reads) q _
-    ∙ ap (λ (l : List ℤ). exec (record { dims = p .dims; fields = p .fields; time = t′; look = look′ }) [] (p .body) (frame on (replicate (p .slots) (pos 0)) l))
+    ∙ ap (λ (l : List ℤ). exec (record { dims = p .dims; fields = p .fields; time = t′; look = look′ }) [] (p .body) (frame false (replicate (p .slots) (pos 0)) l))
     (agree _ (covers .own)))
 
 -- ---- property 3

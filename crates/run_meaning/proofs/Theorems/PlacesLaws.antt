@@ -10,9 +10,10 @@ use lib.ListN.{length, getD, length-append, List·getD-eq-default}
 use lib.Dec.{eqb, leb, ltb}
 use borrow.Author.Tests.{eq-eqb, leb-false, ltb-true, ltb-false, le-leb}
 use lib.IntN.{ℤ, pos, negsuc, _+ℤ_}
+use Rattle.automaton.proofs.Theorems.GridLaws.{differ-self}
+use Rattle.value.proofs.Theorems.Truth.{or-second}
 use Rattle.value.specs.Limits.{most-places}
 use Rattle.value.specs.Choice.{if_then_else_}
-use Rattle.value.specs.Number.{eqZ}
 use Rattle.value.proofs.Theorems.Laws.{never}
 use Rattle.automaton.specs.Listed.{list-of}
 use Rattle.automaton.specs.Contracts.ListedLaws.{length-list-of, getD-list-of, mem-list-of, of-mem-list-of}
@@ -42,14 +43,6 @@ distinct-more (y ∷ xs) x h n = (λ m. go (List·Memᴰ·append-cases xs m), di
     go (inl m) = h .0 m
     go (inr m) = n (List·Memᴰ·head (sym (List·Memᴰ·eq-of-singleton m)))
 
-eqZ-same : (z : ℤ) → eqZ z z ≡ true
-eqZ-same (pos n) = eq-eqb n n refl
-eqZ-same (negsuc n) = eq-eqb n n refl
-
-differ-same : (a : List ℤ) → differ a a ≡ false
-differ-same [] = refl
-differ-same (x ∷ xs) = rw (eqZ-same x) (differ-same xs)
-
 -- what is not found is not in the list
 pub not-place : (ps : List (List ℤ)) (ds : List ℤ) → has-place ps ds ≡ false → List·Memᴰ ds ps → ⊥
 unfolding has-place
@@ -58,7 +51,7 @@ not-place (p ∷ ps) ds e m = go (not (differ p ds)) refl (List·Memᴰ·cases-c
   where
     go : (t : Bool) → not (differ p ds) ≡ t → (ds ≡ p) ⊎ List·Memᴰ ds ps → (t || has-place ps ds) ≡ false → (has-place ps ds ≡ false → List·Memᴰ ds ps → ⊥) → ⊥
     go true q m e rest = never (sym e)
-    go false q (inl s) e rest = never (sym q ∙ ap (λ (x : List ℤ). not (differ p x)) s ∙ ap not (differ-same p))
+    go false q (inl s) e rest = never (sym q ∙ ap (λ (x : List ℤ). not (differ p x)) s ∙ ap not (differ-self p))
     go false q (inr s) e rest = rest e s
 
 -- a list of places, if there is one: each once, and at most 256
@@ -278,15 +271,11 @@ le-self : (z : ℤ) → in-field (record { low = z; high = z }) z ≡ true
 le-self (pos n) = simp (le-leb n n (omega arith))
 le-self (negsuc n) = simp (le-leb n n (omega arith))
 
-or-true-right : (a b : Bool) → b ≡ true → (a || b) ≡ true
-or-true-right true b e = refl
-or-true-right false b e = e
-
 used-taken : (loops : List Range) (vs : List ℤ) (is : List Index) → ((k : ℕ) → uses k is ≡ true → in-field (getD loops k no-range) (entry vs k) ≡ true) → Taken loops vs is
 used-taken loops vs [] h = tt
 used-taken loops vs (fixed p z ∷ is) h = (le-self z, used-taken loops vs is h)
 used-taken loops vs (moving p d ∷ is) h =
-    (h d (rw (eq-eqb d d refl) refl), used-taken loops vs is (λ k u. h k (or-true-right (eqb d k) (uses k is) u)))
+    (h d (rw (eq-eqb d d refl) refl), used-taken loops vs is (λ k u. h k (or-second (eqb d k) u)))
 
 taken-values : (loops : List Range) (vs : List ℤ) (is : List Index) → InRanges (used-ranges loops is) vs → Taken loops vs is
 taken-values loops vs is h =

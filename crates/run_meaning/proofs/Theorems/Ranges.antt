@@ -13,7 +13,7 @@ use borrow.Author.Tests.{eqb-true, eq-eqb}
 use Rattle.value.specs.Choice.{if_then_else_}
 use Rattle.value.proofs.Theorems.Laws.{never, and-both}
 use Rattle.automaton.specs.Contracts.ListedLaws.{length-list-of, getD-list-of}
-use Rattle.automaton.specs.Step.{Outcome, state, fault, Fault, no-fault, fault-at, Blocks, Step, Quiet, marks-of, touched, open-in, state-or, marked, grid-after, step-of, quiet-outcome, quiet-step, run-of, quiet-run}
+use Rattle.automaton.specs.Step.{Outcome, result, fault, Fault, no-fault, fault-at, Blocks, Step, Quiet, marks-of, touched, open-in, state-or, marked, grid-after, step-of, quiet-outcome, quiet-step, run-of, quiet-run}
 use Rattle.automaton.proofs.Theorems.Quiet.{run-go, run-stop, quiet-then, quiet-run-from}
 use Rattle.automaton.specs.Shape.{product, neighbour}
 use Rattle.automaton.specs.Contracts.ShapeLaws.{alike-length, neighbour-lt}
@@ -110,18 +110,18 @@ module _ (p : Program) (sizes : List ℕ) where
 
   -- ---- a step, under any marks or none
 
-  after-keeps : (stop : Fault) (g : List ℤ) (f : ℕ → Outcome (List ℤ)) → FieldsInRange p sizes g → ((c : ℕ) (a : List ℤ) → c < product sizes → f c ≡ state a → InRanges (p .fields) a)
+  after-keeps : (stop : Fault) (g : List ℤ) (f : ℕ → Outcome (List ℤ)) → FieldsInRange p sizes g → ((c : ℕ) (a : List ℤ) → c < product sizes → f c ≡ result a → InRanges (p .fields) a)
       → FieldsInRange p sizes (grid-after (running p sizes) stop g f)
   unfolding running automaton
   after-keeps no-fault g f h next = grid-in-range (λ c. state-or (cell-of (length (p .fields)) g c) (f c)) (λ c l. by c l (f c) refl)
     where
       by : (c : ℕ) → c < product sizes → (o : Outcome (List ℤ)) → f c ≡ o → InRanges (p .fields) (state-or (cell-of (length (p .fields)) g c) o)
-      by c l (state a) e = next c a l e
+      by c l (result a) e = next c a l e
       by c l (fault k q) e = cell-in-ranges g h c l
   after-keeps (fault-at c k q) g f h next = h
 
   module _ (dims : length sizes ≡ p .dims) where
-    next-in-ranges : (g : List ℤ) (t c : ℕ) (a : List ℤ) → FieldsInRange p sizes g → c < product sizes → running p sizes .next g t c ≡ state a → InRanges (p .fields) a
+    next-in-ranges : (g : List ℤ) (t c : ℕ) (a : List ℤ) → FieldsInRange p sizes g → c < product sizes → running p sizes .next g t c ≡ result a → InRanges (p .fields) a
     unfolding running automaton
     next-in-ranges g t c a h l e =
         evaluate-in-ranges p (λ ds. cell-of (length (p .fields)) g (neighbour sizes c ds)) t a
@@ -136,7 +136,7 @@ module _ (p : Program) (sizes : List ℕ) where
     unfolding quiet-step quiet-outcome running automaton
     quiet-step-keeps marks g t h = after-keeps (quiet-step (running p sizes) marks g t .fault) g _ h (λ c a l e. by c a l (marked marks c) e)
       where
-        by : (c : ℕ) (a : List ℤ) → c < product sizes → (b : Bool) → cond b (running p sizes .next g t c) (state (cell-of (length (p .fields)) g c)) ≡ state a → InRanges (p .fields) a
+        by : (c : ℕ) (a : List ℤ) → c < product sizes → (b : Bool) → cond b (running p sizes .next g t c) (result (cell-of (length (p .fields)) g c)) ≡ result a → InRanges (p .fields) a
         by c a l true e = next-in-ranges g t c a h l e
         by c a l false e = let z : cell-of (length (p .fields)) g c ≡ a = cc in subst (InRanges (p .fields)) z (cell-in-ranges g h c l)
 

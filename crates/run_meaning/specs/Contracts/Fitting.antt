@@ -1,4 +1,4 @@
--- What is asked of the numbers with which a rule runs. Nothing is asked of what the table holds.
+-- The fields of a program that stands in a table, and what a reach record holds.
 use mathlib.Core.Path.{_≡_, ap, _∙_}
 use mathlib.Core.List.{List, [], _∷_}
 use mathlib.Core.Option.{Option, none, some}
@@ -11,36 +11,18 @@ use Rattle.value.specs.Choice.{if_then_else_}
 use Rattle.value.specs.Worked.{decode-of}
 use Rattle.automaton.specs.Listed.{list-of}
 use Rattle.automaton.specs.Contracts.ListedLaws.{length-list-of}
-use Rattle.automaton.specs.Shape.{product, Bound}
-use Rattle.automaton.specs.Contracts.ShapeLaws.{Positive}
+use Rattle.automaton.specs.Shape.{Bound}
 use Rattle.program.specs.Syntax.{Program}
-use Rattle.cell_meaning.specs.declared.Rule.{Rule}
+use Rattle.program.specs.declared.Rule.{Rule}
 use Rattle.cell_meaning.specs.Contracts.Stands.{Holds}
 use Rattle.cell_meaning.specs.Places.{own-place}
 use Rattle.run_meaning.specs.Reach.{own-only}
 use Rattle.run_meaning.specs.declared.Bounds.{Bounds}
 use Rattle.run_meaning.specs.declared.Reach.{Reach}
 
--- the numbers of a rule, by the length of its word table
-pub record Sized (words : ℕ) (rule : Rule) : Type 0 where
-  pub table : 4 * rule .tokens ≤ words
-  pub tokens : rule .tokens ≤ 4096
-  pub base : rule .base ≤ 4096
-  pub body : rule .body ≤ rule .tokens
-  pub slots : rule .slots ≤ 256
-  pub fields : rule .fields ≤ 8
-  pub dims : rule .dims ≤ 3
-
 -- a program that stands in a table has as many fields as its rule says
 pub held-fields : {words : List ℕ} {rule : Rule} (p : Program) → Holds words rule p → length (p .fields) ≡ rule .fields
 held-fields {words} {rule} p h = ap length (h .fields) ∙ length-list-of _ (rule .fields)
-
--- a grid of given sizes for a rule, by its number of entries
-pub record Shaped (rule : Rule) (sizes : List ℕ) (lent : ℕ) : Type 0 where
-  pub dims : length sizes ≡ rule .dims
-  pub positive : Positive sizes
-  pub cells : product sizes ≤ 1048576
-  pub entries : product sizes * rule .fields ≡ lent
 
 -- ---- the reach record
 

@@ -4,6 +4,8 @@ use mathlib.Core.List.{List}
 use Prim.Native.Nat.{ℕ, zero, suc, _+_, _*_, _%_, _<_, _≤_}
 use lib.ListN.{length, getD, set}
 use lib.IntN.{ℤ, pos, negℤ}
+use Rattle.value.specs.Limits.{most-dims, most-cells}
+use Rattle.value.specs.Contracts.Buffers.{place-words}
 use Rattle.value.specs.Number.{modZ}
 use Rattle.automaton.specs.Listed.{list-of}
 use Rattle.automaton.specs.Shape.{product, cell-number, coordinates}
@@ -20,11 +22,11 @@ cell-from sizes at steps from = cell-number sizes (step-from sizes at steps from
 
 -- what is asked of coordinates and a step: each is below its size
 pub record StepPlaced (sizes at steps : List ℕ) (from : ℕ) : Type 0 where
-  pub dims : length sizes ≤ 3
+  pub dims : length sizes ≤ most-dims
   pub room : from + length sizes ≤ length steps
-  pub small : length steps ≤ 768
+  pub small : length steps ≤ place-words
   pub positive : Positive sizes
-  pub cells : product sizes ≤ 1048576
+  pub cells : product sizes ≤ most-cells
   pub inside : (k : ℕ) → k < length sizes → getD at k 0 < getD sizes k 0
   pub steps-inside : (k : ℕ) → k < length sizes → getD steps (from + k) 0 < getD sizes k 0
 
@@ -43,7 +45,7 @@ pub record Back (sizes steps : List ℕ) (from : ℕ) (ds : List ℤ) : Type 0 w
 
 -- the coordinates of the cell x
 pub record StepCoordinates (sizes : List ℕ) (x : ℕ) (at : List ℕ) : Type 0 where
-  pub len : length at ≡ 3
+  pub len : length at ≡ most-dims
   pub each : (k : ℕ) → k < length sizes → getD at k 0 ≡ getD (coordinates sizes x) k 0
 
 -- the steps back by the places of a list, from one number up to another; the steps before them stay

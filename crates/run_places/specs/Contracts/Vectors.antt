@@ -13,7 +13,7 @@ use Rattle.value.specs.Number.{in-range}
 use Rattle.value.specs.Worked.{decode-of, span-of}
 use Rattle.automaton.specs.Listed.{list-of}
 use Rattle.program.specs.Syntax.{Range, range, Index, fixed, moving}
-use Rattle.cell_meaning.specs.declared.Rule.{Rule}
+use Rattle.program.specs.declared.Rule.{Rule}
 use Rattle.cell_meaning.specs.Contracts.Stands.{rule-table, indices-in}
 use Rattle.cell_meaning.specs.Written.{Relative}
 use Rattle.cell_meaning.specs.Places.{uses, used-ranges, choice-count, vectors-of}
@@ -58,7 +58,7 @@ pub record SetPlace (dims k : ℕ) (place : List ℤ) (list list′ : List ℕ) 
 
 -- the first places of a list, if there are not more than 256
 pub record SetPlaces (dims count : ℕ) (place : ℕ → List ℤ) (list : List ℕ) : Type 0 where
-  pub each : count ≤ 256 → (e : ℕ) → e < count → place-at list dims e ≡ place e
+  pub each : count ≤ most-places → (e : ℕ) → e < count → place-at list dims e ≡ place e
 
 -- the index vectors that a relative index can take; none, if there are too many
 unfoldable pub index-places : ℕ → Relative → Option (List (List ℤ))

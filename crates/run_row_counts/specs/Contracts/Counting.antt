@@ -5,6 +5,7 @@ use mathlib.Core.List.{List}
 use Prim.Native.Nat.{ℕ, _+_, _*_, _≤_, _<_}
 use lib.ListN.{length, getD, drop}
 use lib.IntN.{ℤ, pos}
+use Rattle.value.specs.Limits.{most-cells}
 use Rattle.value.specs.Number.{eqZ}
 use Rattle.automaton.specs.Step.{marked}
 use Rattle.automaton.specs.Shape.{product}
@@ -31,14 +32,14 @@ pub record Divisible (sizes : List ℕ) (cells : ℕ) : Type 0 where
 pub record RowCountable (entries from cells fields field : ℕ) : Type 0 where
   pub within : (from + cells) * fields ≤ entries
   pub some-cells : 0 < cells
-  pub few : cells ≤ 1048576
+  pub few : cells ≤ most-cells
   pub a-field : field < fields
 
 -- what `fill_counts` asks: a grid of these sizes, a field of it, and as many counts as rows
 pub record Countable (sizes : List ℕ) (fields field entries rows : ℕ) : Type 0 where
   pub some-dims : 0 < length sizes
   pub positive : Positive sizes
-  pub few : product sizes ≤ 1048576
+  pub few : product sizes ≤ most-cells
   pub entries-are : product sizes * fields ≡ entries
   pub a-field : field < fields
   pub rows-are : rows ≡ getD sizes 0 0
@@ -48,14 +49,14 @@ pub record CellCountable (old grid : List ℤ) (at row : ℕ) (counts : List ℕ
   pub alike : length old ≡ length grid
   pub an-entry : at < length grid
   pub a-row : row < length counts
-  pub few : getD counts row 0 ≤ 1048576
+  pub few : getD counts row 0 ≤ most-cells
   pub has : zero-bit old at ≤ getD counts row 0
 
 -- what `row_from` asks
 pub record NotBefore (row cells cell : ℕ) : Type 0 where
   pub some-cells : 0 < cells
-  pub few : cells ≤ 1048576
-  pub small : cell ≤ 1048576
+  pub few : cells ≤ most-cells
+  pub small : cell ≤ most-cells
   pub onward : row * cells ≤ cell
 
 -- what `move_counts` asks: the counts are those of the grid before the step; `old` has the fields that the marked cells had there,

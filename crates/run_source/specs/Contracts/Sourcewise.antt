@@ -6,17 +6,20 @@ use Prim.Native.Nat.{ℕ, _+_, _<_, _≤_}
 use lib.ListN.{length, getD, replicate}
 use lib.Dec.{eqb, ltb}
 use lib.IntN.{pos, natAbs}
+use Rattle.value.specs.Limits.{most-cells}
 use Rattle.automaton.specs.Shape.{product}
 use Rattle.token.specs.Lexeme.{is-built-in}
+use Rattle.automaton.specs.Contracts.ShapeLaws.{Shaped}
+use Rattle.program.specs.declared.Rule.{Rule}
 use Rattle.grammar.specs.Source.{Accepted}
 use Rattle.grammar.specs.Checking.{read-source, accepted, words-after}
 use Rattle.grammar.specs.Contracts.Flat.{names-after}
 use Rattle.move_meaning.specs.Profile.{profile-flag}
-use Rattle.cell_meaning.specs.declared.Rule.{Rule}
 use Rattle.run_meaning.specs.declared.Reach.{Reach}
 use Rattle.run_meaning.specs.Report.{Manner, refused}
-use Rattle.run_meaning.specs.Contracts.Fitting.{Sized, Shaped, Near}
-use Rattle.list_reader.specs.Contracts.Places.{Dimensions}
+use Rattle.program.specs.Contracts.Fitting.{Sized}
+use Rattle.run_meaning.specs.Contracts.Fitting.{Near}
+use Rattle.list_reader.specs.Contracts.Points.{Dimensions}
 use Rattle.run_calls.specs.Running.{Asked, admitted}
 use Rattle.run_calls.specs.Services.{run-begins, run-source}
 use Rattle.run_calls.specs.Calls.{flat-names, Memory, Lent}
@@ -49,14 +52,14 @@ counts-right true field rows fields sizes = ltb field fields && eqb rows (getD s
 counts-right false field rows fields sizes = true
 
 -- a run begins: the source is accepted, and its program stands in the table with this reach; the run is admitted
-pub record RunBegun (fit : Bool) (source : List ℕ) (q : Asked) (words : List ℕ) (rule : Rule) (r : Reach) (timed : Bool) : Type 0 where
+pub record RunBegun (fit : Bool) (source : List ℕ) (q : Asked) (words : List ℕ) (rule : Rule) (r : Reach) : Type 0 where
   pub read : Accepted
   pub is : read-source fit source ≡ accepted read
   pub admits : admitted (read .program) (profile-flag source read) q .number ≡ 0
-  pub runs : Runs words rule r timed (read .program)
+  pub runs : Runs words rule r (rule .timed) (read .program)
   pub rule-fits : Sized (length words) rule
   pub some-dims : 0 < rule .dims
-  pub shaped : Shaped rule (q .request .sizes) (length (q .request .grid))
+  pub shaped : Shaped (rule .dims) (rule .fields) most-cells (q .request .sizes) (length (q .request .grid))
   pub scratch-fits : q .request .scratch ≡ length (q .request .grid)
   pub marks-fit : q .request .marks ≡ product (q .request .sizes)
   pub near : Near (q .request .sizes) (r .bounds)
@@ -72,7 +75,7 @@ pub record RunOpens (fit : Bool) (source ws ns : List ℕ) (q : Asked) (r : Open
   pub names : ns′ ≡ names-after fit source ns
   pub closed : r .begun ≡ false → run-begins source q (read-source fit source) ≡ false
   pub refuses : r .begun ≡ false → (manner : Manner) → run-source manner fit source q ≡ refused (r .number) (r .place) (r .line) (q .request .grid)
-  pub opened : r .begun ≡ true → RunBegun fit source q ws′ (r .rule) (r .reach) (r .timed)
+  pub opened : r .begun ≡ true → RunBegun fit source q ws′ (r .rule) (r .reach)
 
 -- ---- the whole run
 

@@ -4,27 +4,29 @@ use mathlib.Core.List.{List}
 use Prim.Native.Nat.{ℕ, _+_, _*_, _<_, _≤_}
 use lib.ListN.{length, getD, drop}
 use lib.IntN.{ℤ}
+use Rattle.value.specs.Contracts.Buffers.{most-room}
 use Rattle.automaton.specs.Step as automaton
-use Rattle.automaton.specs.Step.{no-fault, state, first-fault}
+use Rattle.automaton.specs.Step.{no-fault, result, first-fault}
 use Rattle.automaton.specs.Shape.{product}
+use Rattle.automaton.specs.Contracts.ShapeLaws.{Shaped}
 use Rattle.automaton.specs.Grid.{cell-of}
 use Rattle.automaton.specs.Bands.{reached, band-step}
 use Rattle.program.specs.Syntax.{Program}
-use Rattle.cell_meaning.specs.declared.Rule.{Rule}
+use Rattle.program.specs.declared.Rule.{Rule}
 use Rattle.cell_meaning.specs.Evaluation.{evaluate}
 use Rattle.cell_meaning.specs.Contracts.Leaves.{Leaves}
 use Rattle.cell_meaning.specs.Contracts.Stands.{Holds}
-use Rattle.run_meaning.specs.Contracts.Fitting.{Sized}
+use Rattle.program.specs.Contracts.Fitting.{Sized}
 use Rattle.run_step.specs.declared.Step.{Step}
 use Rattle.run_step.specs.Contracts.Stepping.{fault-in, count-in}
-use Rattle.run_step.specs.Contracts.Turns.{Roomed, given}
+use Rattle.run_step.specs.Contracts.Turns.{given}
 
 -- ---- cells in rising order
 
 -- what is asked: so many cells from a cell on are in the grid, and there is room for their next fields
 pub record CellsReady (leaves words : List ℕ) (rule : Rule) (sizes : List ℕ) (from cells : ℕ) (grid : List ℤ) (lent time count : ℕ) : Type 0 where
   pub rule-fits : Sized (length words) rule
-  pub roomed : Roomed rule sizes (length grid)
+  pub roomed : Shaped (rule .dims) (rule .fields) most-room sizes (length grid)
   pub inside : from + cells ≤ product sizes
   pub next-fits : cells * rule .fields ≡ lent
   pub small : time < 2147483648
@@ -37,14 +39,14 @@ pub record CellsStepped (words : List ℕ) (rule : Rule) (sizes : List ℕ) (fro
   pub count-is : count-in r ≡ count + reached cells (fault-in r)
   pub counted : count-in r ≤ count + cells
   pub next : fault-in r ≡ no-fault → (p : Program) → Holds words rule p → (i : ℕ) → i < cells
-      → given p (rule .fields) sizes grid time (from + i) ≡ state (cell-of (rule .fields) next′ i)
+      → given p (rule .fields) sizes grid time (from + i) ≡ result (cell-of (rule .fields) next′ i)
 
 -- ---- the rows of a band
 
 -- what is asked: `row` is the number of cells of a row; the band's own rows are in the room, behind `before` others, and there is room for their next fields
 pub record RowsReady (leaves words : List ℕ) (rule : Rule) (sizes : List ℕ) (row before own : ℕ) (room : List ℤ) (lent time count : ℕ) : Type 0 where
   pub rule-fits : Sized (length words) rule
-  pub roomed : Roomed rule sizes (length room)
+  pub roomed : Shaped (rule .dims) (rule .fields) most-room sizes (length room)
   pub some-dims : 0 < length sizes
   pub row-is : row ≡ product (drop 1 sizes)
   pub inside : before + own ≤ getD sizes 0 0

@@ -5,15 +5,17 @@ use mathlib.Core.List.{List}
 use Prim.Native.Nat.{ℕ, _+_, _<_, _≤_}
 use lib.ListN.{length}
 use lib.IntN.{ℤ}
+use Rattle.value.specs.Limits.{most-cells}
 use Rattle.automaton.specs.Step.{Fault, no-fault, fault-at, marked, quiet-step}
 use Rattle.automaton.specs.Shape.{product}
 use Rattle.automaton.specs.Grid.{cell-of}
+use Rattle.automaton.specs.Contracts.ShapeLaws.{Shaped}
 use Rattle.program.specs.Syntax.{Program}
-use Rattle.cell_meaning.specs.declared.Rule.{Rule}
+use Rattle.program.specs.declared.Rule.{Rule}
 use Rattle.cell_meaning.specs.Contracts.Leaves.{Leaves}
 use Rattle.cell_meaning.specs.Contracts.Stands.{Holds}
 use Rattle.run_meaning.specs.Reach.{running}
-use Rattle.run_meaning.specs.Contracts.Fitting.{Sized, Shaped}
+use Rattle.program.specs.Contracts.Fitting.{Sized}
 use Rattle.run_step.specs.declared.Step.{Step}
 use Rattle.run_step.specs.declared.Step.the-variants as Gives
 
@@ -30,7 +32,7 @@ count-in (Gives.Fault cell number place count) = count
 -- what a step asks of its numbers; nothing is asked of what the word table holds, but the leaf table must be its own
 pub record StepReady (leaves words : List ℕ) (rule : Rule) (sizes : List ℕ) (grid scratch : List ℤ) (marks : List ℕ) (time count : ℕ) : Type 0 where
   pub rule-fits : Sized (length words) rule
-  pub shaped : Shaped rule sizes (length grid)
+  pub shaped : Shaped (rule .dims) (rule .fields) most-cells sizes (length grid)
   pub scratch-fits : length scratch ≡ length grid
   pub marks-fit : length marks ≡ product sizes
   pub small : time < 2147483648

@@ -5,18 +5,19 @@ use mathlib.Core.List.{List}
 use Prim.Native.Nat.{ℕ, _+_, _*_, _<_, _≤_}
 use lib.ListN.{length}
 use lib.IntN.{ℤ}
+use Rattle.value.specs.Contracts.Buffers.{most-room}
 use Rattle.automaton.specs.Step as Step
-use Rattle.automaton.specs.Step.{no-fault, state, marked, quiet-step}
+use Rattle.automaton.specs.Step.{no-fault, result, marked, quiet-step}
 use Rattle.automaton.specs.Shape.{product, coordinates, neighbour}
-use Rattle.automaton.specs.Contracts.ShapeLaws.{Positive}
+use Rattle.automaton.specs.Contracts.ShapeLaws.{Shaped}
 use Rattle.automaton.specs.Grid.{cell-of}
 use Rattle.program.specs.Syntax.{Program}
-use Rattle.cell_meaning.specs.declared.Rule.{Rule}
+use Rattle.program.specs.declared.Rule.{Rule}
 use Rattle.cell_meaning.specs.Evaluation.{evaluate}
 use Rattle.cell_meaning.specs.Contracts.Leaves.{Leaves}
 use Rattle.cell_meaning.specs.Contracts.Stands.{Holds}
 use Rattle.run_meaning.specs.Reach.{running}
-use Rattle.run_meaning.specs.Contracts.Fitting.{Sized}
+use Rattle.program.specs.Contracts.Fitting.{Sized}
 use Rattle.run_step.specs.declared.Evaluation.{Evaluation}
 use Rattle.run_step.specs.declared.Evaluation.the-variants as Gave
 use Rattle.run_step.specs.declared.Step as Told
@@ -26,7 +27,7 @@ use Rattle.run_step.specs.Contracts.Stepping.{fault-in, count-in}
 
 -- the outcome of a cell whose next fields are `next`
 abbrev pub outcome-in : Evaluation → List ℤ → Step.Outcome (List ℤ)
-outcome-in (Gave.Done count) next = Step.state next
+outcome-in (Gave.Done count) next = Step.result next
 outcome-in (Gave.Fault number place count) next = Step.fault number place
 
 -- the count that an evaluation returns
@@ -43,20 +44,13 @@ pub record CellsCounted (words : List ℕ) (rule : Rule) (sizes : List ℕ) (cel
   pub says : (p : Program) → Holds words rule p → outcome-in r next ≡ given p (rule .fields) sizes grid time cell
   pub count-is : count-after r ≡ count + 1
 
--- a grid, or the rows that a band is lent with its borders, up to three times a grid's, by the number of entries
-pub record Roomed (rule : Rule) (sizes : List ℕ) (lent : ℕ) : Type 0 where
-  pub dims : length sizes ≡ rule .dims
-  pub positive : Positive sizes
-  pub cells : product sizes ≤ 4194304
-  pub entries : product sizes * rule .fields ≡ lent
-
 -- what is asked of a cell's turn, beside its mark: it is evaluated into the part of the cell `to`
-pub record Turning (leaves words : List ℕ) (rule : Rule) (sizes place : List ℕ) (cell to : ℕ) (grid : List ℤ) (lent time count : ℕ) : Type 0 where
+pub record Turning (leaves words : List ℕ) (rule : Rule) (sizes point : List ℕ) (cell to : ℕ) (grid : List ℤ) (lent time count : ℕ) : Type 0 where
   pub rule-fits : Sized (length words) rule
-  pub roomed : Roomed rule sizes (length grid)
+  pub roomed : Shaped (rule .dims) (rule .fields) most-room sizes (length grid)
   pub part-fits : to * rule .fields + rule .fields ≤ lent
   pub inside : cell < product sizes
-  pub own : place ≡ coordinates sizes cell
+  pub own : point ≡ coordinates sizes cell
   pub small : time < 2147483648
   pub countable : count < 18446744073709551615
   pub noted : Leaves leaves words sizes (rule .tokens) (rule .fields) (rule .slots)
@@ -75,7 +69,7 @@ pub record FilledFor (Held : Program → Type 0) (rule : Rule) (sizes : List ℕ
   pub count-is : (p : Program) → Held p → count-in r ≡ count + quiet-step (running p sizes) marks grid time .count
   pub counted : count-in r ≤ count + product sizes
   pub next : fault-in r ≡ no-fault → (p : Program) → Held p → (c : ℕ) → c < product sizes → marked marks c ≡ true
-      → given p (rule .fields) sizes grid time c ≡ state (cell-of (rule .fields) scratch′ c)
+      → given p (rule .fields) sizes grid time c ≡ result (cell-of (rule .fields) scratch′ c)
   pub kept : (c : ℕ) → c < product sizes → marked marks c ≡ false → cell-of (rule .fields) scratch′ c ≡ cell-of (rule .fields) scratch c
 
 -- the same of every program that stands in the table

@@ -6,11 +6,12 @@ use Prim.Native.Nat.{ℕ, _≤_, _<_}
 use lib.ListN.{length}
 use lib.Dec.{eqb}
 use lib.IntN.{ℤ}
+use Rattle.value.specs.Limits.{most-fields}
 use Rattle.token.specs.Contracts.Promises.{Sorts}
 use Rattle.run_meaning.specs.declared.Bounds.{Bounds}
 use Rattle.list_reader.specs.declared.setting.Due.{Due}
 use Rattle.list_reader.specs.declared.setting.Due.the-variants.{Nothing, At}
-use Rattle.list_reader.specs.Contracts.Places.{Dimensions}
+use Rattle.list_reader.specs.Contracts.Points.{Dimensions}
 use Rattle.list_reader.specs.Contracts.Settings.{NextTime, SetsLines}
 use Rattle.run_marking.specs.Contracts.Opened.{Markable, MarksChanged}
 use Rattle.run_steps.specs.declared.blocks.Next.{Next}
@@ -36,7 +37,7 @@ pub record Settable (text kinds sizes : List ℕ) (bounds : Bounds) (backs : Lis
   pub dimensions : Dimensions sizes
   pub scratch-fits : length scratch ≡ length grid
   pub markable : (old new : List ℤ) → length old ≡ length grid → length new ≡ length grid → Markable sizes bounds backs listed fields old new marks
-  pub few-fields : fields ≤ 8
+  pub few-fields : fields ≤ most-fields
   pub few-entries : length grid ≤ 8388608
 
 -- a block that is due is set, and the list's next one follows it: the cells that it opens are marked beside the others, unless all are open. Else all stays

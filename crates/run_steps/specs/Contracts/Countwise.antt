@@ -7,7 +7,7 @@ use lib.ListN.{getD}
 use lib.IntN.{ℤ}
 use Rattle.automaton.specs.Rows.{row-counts}
 use Rattle.program.specs.Syntax.{Program}
-use Rattle.cell_meaning.specs.declared.Rule.{Rule}
+use Rattle.program.specs.declared.Rule.{Rule}
 use Rattle.run_meaning.specs.declared.Reach.{Reach}
 use Rattle.run_steps.specs.Contracts.Stepwise.{Runs}
 

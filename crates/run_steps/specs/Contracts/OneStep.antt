@@ -5,16 +5,18 @@ use mathlib.Core.List.{List}
 use Prim.Native.Nat.{ℕ, _≤_}
 use lib.ListN.{length, getD, drop}
 use lib.IntN.{ℤ}
+use Rattle.value.specs.Contracts.Buffers.{most-room}
 use Rattle.automaton.specs.Shape.{product, Bound}
+use Rattle.automaton.specs.Contracts.ShapeLaws.{Shaped}
 use Rattle.program.specs.Syntax.{Program}
-use Rattle.cell_meaning.specs.declared.Rule.{Rule}
+use Rattle.program.specs.declared.Rule.{Rule}
 use Rattle.cell_meaning.specs.Contracts.Stands.{Holds}
 use Rattle.run_meaning.specs.declared.Reach.{Reach}
 use Rattle.band_meaning.specs.Edge.{edge}
 use Rattle.band_meaning.specs.Bounds.{bound}
 use Rattle.band_meaning.specs.Plans.{plan-right}
 use Rattle.run_step.specs.Contracts.Stepping.{StepReady}
-use Rattle.run_step.specs.Contracts.Turns.{Roomed}
+use Rattle.run_step.specs.Contracts.Turns.{}
 use Rattle.band_step.specs.Contracts.Bandwise.{Bordered, Grounds, PlanRuns, AllMarked}
 use Rattle.run_steps.specs.declared.Bands.{Bands}
 use Rattle.run_steps.specs.Contracts.Stepwise.{Runs}
@@ -42,7 +44,7 @@ pub record Bandable (words : List ℕ) (rule : Rule) (sizes shape : List ℕ) (b
   pub all : all-open ≡ true
   pub row-is : bands .row ≡ product (drop 1 sizes)
   pub near : bands .before ≤ getD sizes 0 0
-  pub roomed : Roomed rule shape lent
+  pub roomed : Shaped (rule .dims) (rule .fields) most-room shape lent
   pub alike : drop 1 shape ≡ drop 1 sizes
   pub right : plan-right (getD sizes 0 0) (border-in bands) (getD shape 0 0) plan ≡ true
   pub borders : (p : Program) → Runs words rule r all-open p → edge p ≡ border-in bands

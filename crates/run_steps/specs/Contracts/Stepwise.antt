@@ -6,12 +6,14 @@ use mathlib.Core.Option.{none}
 use Prim.Native.Nat.{ℕ, _+_, _*_, _<_, _≤_}
 use lib.ListN.{length, getD, replicate}
 use lib.IntN.{ℤ}
+use Rattle.value.specs.Limits.{most-cells}
 use Rattle.automaton.specs.Step.{Blocks, Quiet, every-cell, marks-of, marked, open-in, quiet-run}
 use Rattle.automaton.specs.Shape.{product}
 use Rattle.automaton.specs.Grid.{cell-of}
 use Rattle.automaton.proofs.Theorems.Going.{Going}
+use Rattle.automaton.specs.Contracts.ShapeLaws.{Shaped}
 use Rattle.program.specs.Syntax.{Program}
-use Rattle.cell_meaning.specs.declared.Rule.{Rule}
+use Rattle.program.specs.declared.Rule.{Rule}
 use Rattle.cell_meaning.specs.Contracts.Stands.{Holds}
 use Rattle.cell_meaning.specs.Places.{places}
 use Rattle.run_meaning.specs.declared.Bounds.{Bounds}
@@ -20,12 +22,13 @@ use Rattle.run_meaning.specs.Reach.{box, running}
 use Rattle.run_meaning.specs.Report as report
 use Rattle.run_meaning.specs.Report.{ended}
 use Rattle.run_meaning.proofs.Theorems.Locality.{Flagged}
-use Rattle.run_meaning.specs.Contracts.Fitting.{Sized, Shaped, bounds-of, Near, places-of}
+use Rattle.program.specs.Contracts.Fitting.{Sized}
+use Rattle.run_meaning.specs.Contracts.Fitting.{bounds-of, Near, places-of}
 use Rattle.list_meaning.specs.Lines.{said}
 use Rattle.list_meaning.specs.ListChecking.{Limits}
 use Rattle.list_meaning.specs.Setting.{set-block}
 use Rattle.list_meaning.specs.Contracts.Passing.{LinePasses}
-use Rattle.list_reader.specs.Contracts.Places.{Dimensions}
+use Rattle.list_reader.specs.Contracts.Points.{Dimensions}
 use Rattle.run_marking.specs.Contracts.Opened.{opened, Ways, Sound}
 use Rattle.run_steps.specs.declared.Report.{Report}
 use Rattle.run_steps.specs.Told.{told}
@@ -41,7 +44,7 @@ pub record Listed (sizes text : List ℕ) (start : ℕ) : Type 0 where
 pub record Begins (words : List ℕ) (rule : Rule) (sizes : List ℕ) (r : Reach) (grid scratch : List ℤ) (marks text : List ℕ) (start steps : ℕ) : Type 0 where
   pub rule-fits : Sized (length words) rule
   pub some-dims : 0 < rule .dims
-  pub shaped : Shaped rule sizes (length grid)
+  pub shaped : Shaped (rule .dims) (rule .fields) most-cells sizes (length grid)
   pub scratch-fits : length scratch ≡ length grid
   pub marks-fit : length marks ≡ product sizes
   pub near : Near sizes (r .bounds)
@@ -101,7 +104,7 @@ pub record Standing (rule : Rule) (sizes : List ℕ) (all-open : Bool) (grid scr
 -- `done` steps are done without a fault, and `count` cells counted
 pub record Halfway (rule : Rule) (sizes : List ℕ) (all-open : Bool) (entries steps done count : ℕ) (grid scratch : List ℤ) (marks : List ℕ) : Type 0 where
   pub few-steps : done ≤ steps
-  pub few-cells : count ≤ done * 1048576
+  pub few-cells : count ≤ done * most-cells
   pub grid-size : length grid ≡ entries
   pub scratch-size : length scratch ≡ entries
   pub marks-size : length marks ≡ product sizes

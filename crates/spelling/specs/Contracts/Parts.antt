@@ -4,6 +4,7 @@ use mathlib.Core.Bool.{true, false}
 use mathlib.Core.List.{List, [], _∷_}
 use Prim.Native.Nat.{ℕ, _+_, _≤_}
 use lib.ListN.{length, take, drop}
+use Rattle.value.specs.Limits.{most-bytes}
 use Rattle.value.specs.Choice.{if_then_else_}
 use Rattle.token.specs.Lexeme.{is-built-in}
 use Rattle.spelling.specs.declared.Part.{Part}
@@ -25,5 +26,5 @@ told-entries t = t .stands ∷ t .start ∷ t .len ∷ []
 pub record IsPart (source : List ℕ) (number place : ℕ) (p : Part) : Type 0 where
   pub is : p ≡ part-at source number place
   pub within : p .listed ≡ false → p .start + p .len ≤ length source
-  pub few : p .start + p .len ≤ 65535
+  pub few : p .start + p .len ≤ most-bytes
   pub in-list : p .listed ≡ true → p .start + p .len ≤ 16

@@ -27,8 +27,8 @@ survey-requires c κs =
     let s = o .before .before .before .before .before .before in
     (is (s .load .ensures .0) (s .load .ensures .1) (o .if1 .left) .sized, known-sizes (s .load .ensures .0) (s .load .ensures .1) (o .if1 .left) (c .before .before .right-sizes .ensures) (c .before .if2 .left) .many)
 
-shared-slice-read-t20 : tie.Need-shared-slice-read-t20
-shared-slice-read-t20 c =
+shared-slice-read-t19 : tie.Need-shared-slice-read-t19
+shared-slice-read-t19 c =
     let o = c .before .before .before .before .before in
     let p = o .before in
     let q = p .before .before in
@@ -42,7 +42,7 @@ returns-3 c =
     let q = p .before in
     let v = q .before .before in
     let s = v .before .before .before .before .before .before in
-    opens (s .load .ensures .0) (s .load .ensures .1) (v .if1 .left) (q .right-sizes .ensures) (p .if2 .left) (o .survey .ensures) (c .before .border-rows .ensures) refl refl
+    opens (s .load .ensures .0) (s .load .ensures .1) (v .if1 .left) (q .right-sizes .ensures) (p .if2 .left) (o .survey .ensures) (c .before .border-rows .ensures) refl
 
 pub open-rows-spec : {M : Type 1} → statement M
 open-rows-spec =
@@ -60,7 +60,7 @@ open-rows-spec =
     returns-2
     survey-requires
     (λ c κs. search needs)
-    shared-slice-read-t20
+    shared-slice-read-t19
     (λ c. search needs)
     (λ c. search needs)
     returns-3)

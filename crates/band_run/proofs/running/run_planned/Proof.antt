@@ -78,7 +78,7 @@ returns-3 c =
           read-times (s .fits .start) (s .fits .steps)
           (planned-done l e (o .before .before .before .before .tried-length .ensures) (o .open-run .ensures) (t .if1 .left) (u .before .before .before .border-rows .ensures) (u .before .plan-accepted .ensures) (u .if2 .left)
           (run-done (l .run) e (opened-full l e (o .before .before .before .before .tried-length .ensures) (o .open-run .ensures) (t .if1 .left)) Full (t .if1 .left) (length (r .run-admitted .last .1 .1 .1 .1 .1 .1 .1 .0)) refl refl (r .run-admitted .ensures .0) (c .before .before .before .before .before .clear-numbers .ensures)
-          (omega (arith, c .before .before .before .before .before .clear-numbers .kept, r .run-admitted .kept .1 .1 .1 .1 .1 .1 .1 .0)) (omega (arith, r .run-admitted .kept .1 .1 .1 .1 .1 .1 .1 .1 .0)) (c .before .before .clear-marks .ensures) (r .run-admitted .ensures .1 .0))
+          (omega (arith, c .before .before .before .before .before .clear-numbers .kept, r .run-admitted .kept .1 .1 .1 .1 .1 .1 .1 .0)) (omega (arith, r .run-admitted .kept .1 .1 .1 .1 .1 .1 .1 .1 .0)) (c .before .before .set-marks .ensures) (r .run-admitted .ensures .1 .0))
           (r .run-admitted .ensures .1 .1));
     }
 

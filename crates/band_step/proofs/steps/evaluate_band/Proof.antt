@@ -38,7 +38,7 @@ add-end : tie.Need-add-end
 add-end c = let a = part-inside (c .before .before .before .before .before .before .before .pre .0) (c .before .before .before .before .before .before .before .pre .1) {own = c .before .before .before .before .before .before .before .args .last + 1 - c .before .before .before .before .before .before .before .args .first} (omega arith) in search needs
 
 mul-step-rows : tie.Need-mul-step-rows
-mul-step-rows c = let a = part-inside (c .before .before .before .before .before .before .before .before .pre .0) (c .before .before .before .before .before .before .before .before .pre .1) {own = c .before .before .before .before .before .before .before .before .args .last + 1 - c .before .before .before .before .before .before .before .before .args .first} (omega arith) in search needs
+mul-step-rows c = let a = part-inside (c .before .before .before .before .before .before .before .before .pre .0) (c .before .before .before .before .before .before .before .before .pre .1) {own = c .before .before .before .before .before .before .before .before .args .last + 1 - c .before .before .before .before .before .before .before .before .args .first} (omega arith) in search (c .before .before .before .before .before .before .before .before .good .1 .1 .1 .1 .1 .1 .1 .1 .1 .1 .1 .0, needs)
 
 part-step-rows-end : tie.Need-part-step-rows-end
 part-step-rows-end c = part-inside (c .before .before .before .before .before .before .before .before .pre .0) (c .before .before .before .before .before .before .before .before .pre .1) {own = c .before .before .before .before .before .before .before .before .args .last + 1 - c .before .before .before .before .before .before .before .before .args .first} (omega arith)

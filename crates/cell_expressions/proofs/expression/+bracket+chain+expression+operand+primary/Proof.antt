@@ -135,10 +135,10 @@ bracket-returns-3 t c =
     bracket-open _ _ _ _ _ _ _ expression-ensures (c .before .before .before .inner .given .1) (c .before .word-at .ensures) (c .if1 .left)
 
 abbrev chain-Inv-loop : chain-lts.InvT-loop
-chain-Inv-loop leaves words sizes place grid vars index site depth at level n past left₀ here₀ left here = Chain (site-table words sizes site) (env-of words sizes grid site) (take (site .slots) vars) (take depth index) (site .tokens) at level left here
+chain-Inv-loop leaves words sizes point grid vars index site depth at level n past left₀ here₀ left here = Chain (site-table words sizes site) (env-of words sizes grid site) (take (site .slots) vars) (take depth index) (site .tokens) at level left here
 
 abbrev chain-μ-loop : chain-lts.MeasureT-loop
-chain-μ-loop leaves words sizes place grid vars index site depth at level n past left₀ here₀ left here = site .tokens - here
+chain-μ-loop leaves words sizes point grid vars index site depth at level n past left₀ here₀ left here = site .tokens - here
 
 chain-operand-requires : (t : ℕ) → chain-lts.Need-operand-requires (chain-calls t) (chain-at t) chain.Post chain-Inv-loop chain-μ-loop
 chain-operand-requires t c κs =

@@ -11,11 +11,11 @@ use Rattle.cell_expressions.proofs.expression.quick.Statement.{statemen
 use Rattle.cell_expressions.proofs.expression.quick.Tie as tie
 
 abbrev Inv-loop : tie.InvT-loop
-Inv-loop leaves words sizes place grid vars index site depth at level n left₀ op₀ own₀ last₀ here₀ left op own last here =
+Inv-loop leaves words sizes point grid vars index site depth at level n left₀ op₀ own₀ last₀ here₀ left op own last here =
     Underway (site-table words sizes site) (env-of words sizes grid site) (take (site .slots) vars) (take depth index) (site .tokens) at level left op own last here
 
 abbrev μ-loop : tie.MeasureT-loop
-μ-loop leaves words sizes place grid vars index site depth at level n left₀ op₀ own₀ last₀ here₀ left op own last here =
+μ-loop leaves words sizes point grid vars index site depth at level n left₀ op₀ own₀ last₀ here₀ left op own last here =
     site .tokens - here
 
 loop-holds : tie.Need-loop-holds Inv-loop μ-loop

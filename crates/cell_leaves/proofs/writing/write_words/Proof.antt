@@ -1,40 +1,15 @@
-use native.Mathlib.Omega.{arith}
-use lib.ListN.{length-set}
-use Rattle.cell_leaves.proofs.WritingLaws.{noted}
+use mathlib.Core.Path.{sym, subst}
 use borrow.Author.Needs.{needs}
+use Rattle.cell_leaves.specs.Contracts.Filling.{LeavesNoted}
+use Rattle.cell_leaves.proofs.WritingLaws.{noted}
 use Rattle.cell_leaves.proofs.writing.write_words.Statement.{statement}
 use Rattle.cell_leaves.proofs.writing.write_words.Tie as tie
 
-slice-write-leaves-2 : tie.Need-slice-write-leaves-2
-slice-write-leaves-2 c = simp length-set (omega arith)
-
-slice-write-leaves-3 : tie.Need-slice-write-leaves-3
-slice-write-leaves-3 c = simp length-set (omega arith)
-
-slice-write-leaves-4 : tie.Need-slice-write-leaves-4
-slice-write-leaves-4 c = simp length-set (omega arith)
-
 returns : tie.Need-returns
-returns c = noted (c .args .leaf) _ _ (c .pre)
+returns c =
+    let s = c .before .before .before .before .before in
+    let a = s .args in
+    subst (LeavesNoted (a .leaf) (a .p) (a .leaves .now)) (sym (c .before .before .put-four .ensures)) (noted (a .leaf) (a .p) (a .leaves .now) (s .pre))
 
 pub write-words-spec : {M : Type 1} → statement M
-write-words-spec =
-    tie.close
-    (tie.spec
-    (λ c. search needs)
-    (λ c. search needs)
-    (λ c. search needs)
-    (λ c. search needs)
-    (λ c. search needs)
-    (λ c. search needs)
-    slice-write-leaves-2
-    (λ c. search needs)
-    (λ c. search needs)
-    (λ c. search needs)
-    slice-write-leaves-3
-    (λ c. search needs)
-    (λ c. search needs)
-    (λ c. search needs)
-    slice-write-leaves-4
-    (λ c. search needs)
-    returns)
+write-words-spec = tie.close (tie.spec (λ c. search needs) (λ c κs. search needs) (λ c. search needs) returns)

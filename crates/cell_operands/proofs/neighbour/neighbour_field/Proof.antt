@@ -14,7 +14,7 @@ neighbour-number-requires : tie.Need-neighbour-number-requires
 neighbour-number-requires c κs =
     let pre = c .before .before .before .pre in
     let r = (pre .0) in
-    (r .table, r .tokens, r .loops, omega (arith, pre .1), r .dims, r .cells, ready-inside r)
+    (r .table, r .tokens, r .loops, omega (arith, pre .1), r .dims, r .shaped .cells, ready-inside r)
 
 field-of-requires : tie.Need-field-of-requires
 field-of-requires c κs =
@@ -22,9 +22,9 @@ field-of-requires c κs =
     let args = c .before .before .before .before .before .args in
     let r = (pre .0) in
     let l : (c .before .neighbour-number .result) < product (args .sizes .now) = rw (c .before .neighbour-number .ensures)
-    (total-small (site-table (args .words .now) (args .sizes .now) (args .site)) (take (args .depth) (args .index .now)) (args .sizes .now) (args .place .now) (ready-inside r) ((args .at) + 1))
+    (total-small (site-table (args .words .now) (args .sizes .now) (args .site)) (take (args .depth) (args .index .now)) (args .sizes .now) (args .point .now) (ready-inside r) ((args .at) + 1))
     in
-    cell-room _ _ _ _ l (r .entries)
+    cell-room _ _ _ _ l (r .shaped .entries)
 
 returns : tie.Need-returns
 returns c =

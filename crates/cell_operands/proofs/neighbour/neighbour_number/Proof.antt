@@ -10,10 +10,10 @@ use Rattle.cell_operands.proofs.neighbour.neighbour_number.Statement.{s
 use Rattle.cell_operands.proofs.neighbour.neighbour_number.Tie as tie
 
 abbrev Inv-loop : tie.InvT-loop
-Inv-loop words n sizes place index depth at dims number₀ here₀ k₀ number here k = Steps (table-of words n (length sizes)) (take depth index) sizes place at number here k × (dims ≡ length sizes)
+Inv-loop words n sizes point index depth at dims number₀ here₀ k₀ number here k = Steps (table-of words n (length sizes)) (take depth index) sizes point at number here k × (dims ≡ length sizes)
 
 abbrev μ-loop : tie.MeasureT-loop
-μ-loop words n sizes place index depth at dims number₀ here₀ k₀ number here k = length sizes - k
+μ-loop words n sizes point index depth at dims number₀ here₀ k₀ number here k = length sizes - k
 
 loop-holds : tie.Need-loop-holds Inv-loop μ-loop
 loop-holds c = (steps-start _ _ _ _ _, refl)
@@ -22,13 +22,13 @@ shared-slice-read-own : tie.Need-shared-slice-read-own Inv-loop μ-loop
 shared-slice-read-own c =
     let args = c .before .before .before .before .before .before .before .args in
     let pre = c .before .before .before .before .before .before .before .pre in
-    omega (arith, inside-length (args .sizes .now) (args .place .now) (pre .6))
+    omega (arith, inside-length (args .sizes .now) (args .point .now) (pre .6))
 
 wrapped-requires : tie.Need-wrapped-requires Inv-loop μ-loop
 wrapped-requires c κs =
     let args = c .before .before .before .before .before .before .before .before .args in
     let pre = c .before .before .before .before .before .before .before .before .pre in
-    inside-at (args .sizes .now) (args .place .now) (pre .6) _ (c .before .before .before .loop-test .taken)
+    inside-at (args .sizes .now) (args .point .now) (pre .6) _ (c .before .before .before .loop-test .taken)
 
 cast-number : tie.Need-cast-number Inv-loop μ-loop
 cast-number c =

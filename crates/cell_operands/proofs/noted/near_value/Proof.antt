@@ -11,7 +11,7 @@ noted-number-requires c κs =
     let pre = c .before .before .before .before .pre in
     let args = c .before .before .before .before .args in
     let r = (pre .0) in
-    (omega (arith, r .tokens, pre .1), r .dims, r .cells, ready-inside r, near-offsets r (args .vars .now) (args .index .now) _ (pre .1) (pre .2))
+    (omega (arith, r .tokens, pre .1), r .dims, r .shaped .cells, ready-inside r, near-offsets r (args .vars .now) (args .index .now) _ (pre .1) (pre .2))
 
 entry-of-requires : tie.Need-entry-of-requires
 entry-of-requires c κs =

@@ -11,11 +11,11 @@ use Rattle.cell_operands.proofs.noted.noted_number.Statement.{statement
 use Rattle.cell_operands.proofs.noted.noted_number.Tie as tie
 
 abbrev Inv-loop : tie.InvT-loop
-Inv-loop leaves words n sizes place index depth at dims number₀ k₀ number k =
-    Walk (table-of words n (length sizes)) (take depth index) sizes place (leaf-word leaves at) at number k × (dims ≡ length sizes) × (k ≤ dims)
+Inv-loop leaves words n sizes point index depth at dims number₀ k₀ number k =
+    Walk (table-of words n (length sizes)) (take depth index) sizes point (leaf-word leaves at) at number k × (dims ≡ length sizes) × (k ≤ dims)
 
 abbrev μ-loop : tie.MeasureT-loop
-μ-loop leaves words n sizes place index depth at dims number₀ k₀ number k = length sizes - k
+μ-loop leaves words n sizes point index depth at dims number₀ k₀ number k = length sizes - k
 
 -- src/noted.rt:47:5
 loop-holds : tie.Need-loop-holds Inv-loop μ-loop
@@ -30,7 +30,7 @@ cast-size c = record { fits = omega (arith, (c .shared-slice-known4 .given) (c .
 -- src/noted.rt:49:19
 -- src/noted.rt:49:19
 shared-slice-read-own : tie.Need-shared-slice-read-own Inv-loop μ-loop
-shared-slice-read-own c = omega (arith, inside-length (c .before .before .before .before .before .before .before .args .sizes .now) (c .before .before .before .before .before .before .before .args .place .now) (c .before .before .before .before .before .before .before .pre .3))
+shared-slice-read-own c = omega (arith, inside-length (c .before .before .before .before .before .before .before .args .sizes .now) (c .before .before .before .before .before .before .before .args .point .now) (c .before .before .before .before .before .before .before .pre .3))
 
 -- src/noted.rt:49:19
 cast-own : tie.Need-cast-own Inv-loop μ-loop
@@ -46,7 +46,7 @@ moved-requires c κs =
     let u = v .before in
     let t = u .before in
     let s = t .before .before .before .before in
-    (inside-at (s .args .sizes .now) (s .args .place .now) (s .pre .3) _ (u .loop-test .taken), offset-small _ _ _ _ _ _ (s .pre .3) (t .loop .inv .0) (u .loop-test .taken) (c .leaf-word .ensures), omega (arith, (v .shared-slice-known4 .given) (t .loop .k)))
+    (inside-at (s .args .sizes .now) (s .args .point .now) (s .pre .3) _ (u .loop-test .taken), offset-small _ _ _ _ _ _ (s .pre .3) (t .loop .inv .0) (u .loop-test .taken) (c .leaf-word .ensures), omega (arith, (v .shared-slice-known4 .given) (t .loop .k)))
 
 -- src/noted.rt:51:18
 mul-number : tie.Need-mul-number Inv-loop μ-loop

@@ -28,7 +28,7 @@ returns-2 c =
 field-of-requires : tie.Need-field-of-requires
 field-of-requires c κs =
     let pre = c .before .before .before .before .before .before .before .before .pre in
-    cell-room _ _ _ _ (pre .0 .cell) (pre .0 .entries)
+    cell-room _ _ _ _ (pre .0 .cell) (pre .0 .shaped .entries)
 
 returns-3 : tie.Need-returns-3
 returns-3 c =

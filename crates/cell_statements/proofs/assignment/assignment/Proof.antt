@@ -10,10 +10,10 @@ use Rattle.cell_statements.proofs.assignment.assignment.Statement.{stat
 use Rattle.cell_statements.proofs.assignment.assignment.Tie as tie
 
 abbrev Inv-loop : tie.InvT-loop
-Inv-loop leaves words sizes place grid vars₀ index next₀ site depth at n here₀ vars next here = Tried (site-table words sizes site) (env-of words sizes grid site) (take depth index) at (take (site .slots) vars) next here × (vars ≡ vars₀) × (next ≡ next₀) × (length next ≡ length next₀)
+Inv-loop leaves words sizes point grid vars₀ index next₀ site depth at n here₀ vars next here = Tried (site-table words sizes site) (env-of words sizes grid site) (take depth index) at (take (site .slots) vars) next here × (vars ≡ vars₀) × (next ≡ next₀) × (length next ≡ length next₀)
 
 abbrev μ-loop : tie.MeasureT-loop
-μ-loop leaves words sizes place grid vars₀ index next₀ site depth at n here₀ vars next here = site .tokens - here
+μ-loop leaves words sizes point grid vars₀ index next₀ site depth at n here₀ vars next here = site .tokens - here
 
 loop-holds : tie.Need-loop-holds Inv-loop μ-loop
 loop-holds c = (tried-start _ _ _ _ _ _ (c .clause-of .ensures), refl, refl, refl)

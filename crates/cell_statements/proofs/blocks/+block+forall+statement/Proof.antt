@@ -59,10 +59,10 @@ statement-below t =
     and 8 statement-kinds.ps (falls 8 statement-kinds.ps _<_ μ-statement t) statement′.Pre
 
 abbrev block-Inv-loop : block-lts.InvT-loop
-block-Inv-loop leaves words sizes place grid vars₀ index₀ next₀ site depth at n ends₀ top₀ here₀ vars index next ends top here = Progress (site-table words sizes site) (env-of words sizes grid site) depth at (take (site .slots) vars₀) next₀ index₀ here ends top (take (site .slots) vars) next index × (at ≤ here) × (here ≤ site .tokens) × (length next ≡ length next₀) × Stack at (site .tokens) ends top
+block-Inv-loop leaves words sizes point grid vars₀ index₀ next₀ site depth at n ends₀ top₀ here₀ vars index next ends top here = Progress (site-table words sizes site) (env-of words sizes grid site) depth at (take (site .slots) vars₀) next₀ index₀ here ends top (take (site .slots) vars) next index × (at ≤ here) × (here ≤ site .tokens) × (length next ≡ length next₀) × Stack at (site .tokens) ends top
 
 abbrev block-μ-loop : block-lts.MeasureT-loop
-block-μ-loop leaves words sizes place grid vars₀ index₀ next₀ site depth at n ends₀ top₀ here₀ vars index next ends top here = weight (site .tokens) here ends top
+block-μ-loop leaves words sizes point grid vars₀ index₀ next₀ site depth at n ends₀ top₀ here₀ vars index next ends top here = weight (site .tokens) here ends top
 
 abbrev block-calls : ℕ → block-lts.Claims
 block-calls t = (word-at-reads.Asked, word-at-reads.Learnt, link-at-reads.Asked, link-at-reads.Learnt, choose-reads.Asked, choose-reads.Learnt, block-below t, block.Post, begins-reads.Asked, begins-reads.Learnt, statement-below t, statement′.Post)
@@ -340,10 +340,10 @@ block-loop-again-5 t c =
     )
 
 abbrev forall-Inv-loop : forall-lts.InvT-loop
-forall-Inv-loop leaves words sizes place grid vars₀ index₀ next₀ site depth at n low high body count k₀ vars index next k = Turns (site-table words sizes site) (env-of words sizes grid site) depth at body (low .n) count (take (site .slots) vars₀) next₀ index₀ k (take (site .slots) vars) next index × (at < body) × (body ≤ site .tokens) × (count ≡ span-of (low .n) (high .n)) × (length next ≡ length next₀)
+forall-Inv-loop leaves words sizes point grid vars₀ index₀ next₀ site depth at n low high body count k₀ vars index next k = Turns (site-table words sizes site) (env-of words sizes grid site) depth at body (low .n) count (take (site .slots) vars₀) next₀ index₀ k (take (site .slots) vars) next index × (at < body) × (body ≤ site .tokens) × (count ≡ span-of (low .n) (high .n)) × (length next ≡ length next₀)
 
 abbrev forall-μ-loop : forall-lts.MeasureT-loop
-forall-μ-loop leaves words sizes place grid vars₀ index₀ next₀ site depth at n low high body count k₀ vars index next k = count - k
+forall-μ-loop leaves words sizes point grid vars₀ index₀ next₀ site depth at n low high body count k₀ vars index next k = count - k
 
 forall-returns : (t : ℕ) → forall-lts.Need-returns (forall-calls t) (forall-at t) forall.Post forall-Inv-loop forall-μ-loop
 forall-returns t c = loop-deep _ _ _ _ _ _ _ (c .if1 .taken)

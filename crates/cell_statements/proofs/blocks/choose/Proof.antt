@@ -10,11 +10,11 @@ use Rattle.cell_statements.proofs.blocks.choose.Statement.{statement}
 use Rattle.cell_statements.proofs.blocks.choose.Tie as tie
 
 abbrev Inv-loop : tie.InvT-loop
-Inv-loop leaves words sizes place grid vars index site depth at n arm₀ arm =
+Inv-loop leaves words sizes point grid vars index site depth at n arm₀ arm =
     Arms (site-table words sizes site) (env-of words sizes grid site) (take depth index) depth (site .tokens) at (take (site .slots) vars) arm
 
 abbrev μ-loop : tie.MeasureT-loop
-μ-loop leaves words sizes place grid vars index site depth at n arm₀ arm = site .tokens - arm
+μ-loop leaves words sizes point grid vars index site depth at n arm₀ arm = site .tokens - arm
 
 loop-holds : tie.Need-loop-holds Inv-loop μ-loop
 loop-holds c = arms-start _ _ _ _ _ _ _ (c .before .before .before .pre .1)

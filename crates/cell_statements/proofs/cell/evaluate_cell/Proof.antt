@@ -7,12 +7,12 @@ use Rattle.cell_statements.proofs.cell.evaluate_cell.Tie as tie
 copy-fields-requires : tie.Need-copy-fields-requires
 copy-fields-requires c κs =
     let s = c .before .before .before .before .before .before .before .before in
-    rw (s .pre .lent) at (cell-room _ _ _ _ (s .pre .inside) (s .pre .entries))
+    rw (s .pre .lent) at (cell-room _ _ _ _ (s .pre .inside) (s .pre .shaped .entries))
 
 block-requires : tie.Need-block-requires
 block-requires c κs =
     let s = c .before .before .before .before .before .before .before .before .before .before .before .before .before in
-    (ready (s .pre), s .pre .body)
+    (ready (s .pre), s .pre .rule-fits .body)
 
 returns : tie.Need-returns
 returns c =

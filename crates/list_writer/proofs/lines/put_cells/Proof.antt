@@ -12,10 +12,10 @@ use Rattle.list_writer.proofs.lines.put_cells.Statement.{statement}
 use Rattle.list_writer.proofs.lines.put_cells.Tie as tie
 
 abbrev Inv-loop : tie.InvT-loop
-Inv-loop room₀ at place₀ sizes fields flag earlier later cells here₀ c₀ room place here c = Puts room₀ at (cells-text sizes fields (some flag) earlier later c 0) room here × (c ≤ cells) × (here ≤ at + 1000 * c) × (length room ≡ length room₀) × (length place ≡ length place₀)
+Inv-loop room₀ at point₀ sizes fields flag earlier later cells here₀ c₀ room point here c = Puts room₀ at (cells-text sizes fields (some flag) earlier later c 0) room here × (c ≤ cells) × (here ≤ at + 1000 * c) × (length room ≡ length room₀) × (length point ≡ length point₀)
 
 abbrev μ-loop : tie.MeasureT-loop
-μ-loop room₀ at place₀ sizes fields flag earlier later cells here₀ c₀ room place here c = cells - c
+μ-loop room₀ at point₀ sizes fields flag earlier later cells here₀ c₀ room point here c = cells - c
 
 loop-holds : tie.Need-loop-holds Inv-loop μ-loop
 loop-holds c = (cells-start (c .before .before .before .args .sizes .now) (c .before .before .before .args .fields) (some (c .before .before .before .args .flag)) (c .before .before .before .args .earlier .now) (c .before .before .before .args .later .now) _ _, omega arith, omega arith, refl, refl)

@@ -42,7 +42,7 @@ returns-2 c =
     let q = p .before .before in
     let r = q .before in
     let s = r .before .before .before .before in
-    changed-put (s .pre .0) (s .pre .2) (some (s .args .flag)) (r .differs .ensures) (q .if1 .left) (p .set-place .ensures) (o .put-line .ensures)
+    changed-put (s .pre .0) (s .pre .2) (some (s .args .flag)) (r .differs .ensures) (q .if1 .left) (p .set-point .ensures) (o .put-line .ensures)
 
 pub put-changed-spec : {M : Type 1} → statement M
 put-changed-spec =

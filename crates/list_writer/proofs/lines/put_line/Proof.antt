@@ -10,17 +10,17 @@ use Rattle.list_writer.proofs.lines.put_line.Tie as tie
 put-between-requires : tie.Need-put-between-requires
 put-between-requires c κs =
     let s = c .before .before .before .before .before .before .before .before .before .before .before in
-    omega (arith, numbers-length (s .args .place .now) (s .pre .0))
+    omega (arith, numbers-length (s .args .point .now) (s .pre .0))
 
 put-values-requires : tie.Need-put-values-requires
 put-values-requires c κs =
     let s = c .before .before .before .before .before .before .before .before .before .before .before .before .before .before .before in
-    (s .pre .1, omega (arith, numbers-length (s .args .place .now) (s .pre .0)))
+    (s .pre .1, omega (arith, numbers-length (s .args .point .now) (s .pre .0)))
 
 put-byte-requires-2 : tie.Need-put-byte-requires-2
 put-byte-requires-2 c κs =
     let s = c .before .before .before .before .before .before .before .before .before .before .before .before .before .before .before .before .before .before .before in
-    omega (arith, numbers-length (s .args .place .now) (s .pre .0), values-length (some (s .args .flag)) (s .args .values .now) (s .pre .1))
+    omega (arith, numbers-length (s .args .point .now) (s .pre .0), values-length (some (s .args .flag)) (s .args .values .now) (s .pre .1))
 
 returns : tie.Need-returns
 returns c =
@@ -30,7 +30,7 @@ returns c =
     let r = q .before .before .before .before in
     let t = r .before .before .before .before in
     let s = t .before .before .before .before in
-    line-put (s .args .place .now) (shown (some (s .args .flag)) (s .args .values .now)) (t .put-byte .ensures) (r .put-numbers .ensures) (q .put-between .ensures) (p .put-values .ensures) (o .put-byte2 .ensures)
+    line-put (s .args .point .now) (shown (some (s .args .flag)) (s .args .values .now)) (t .put-byte .ensures) (r .put-numbers .ensures) (q .put-between .ensures) (p .put-values .ensures) (o .put-byte2 .ensures)
 
 pub put-line-spec : {M : Type 1} → statement M
 put-line-spec =

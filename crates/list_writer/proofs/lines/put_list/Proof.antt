@@ -3,7 +3,7 @@ use native.Mathlib.Omega.{arith}
 use mathlib.Core.Path.{refl, sym}
 use Rattle.tool_reply_line.proofs.Lines.{digits-length}
 use Rattle.list_writer.proofs.PrintingLaws.{number-put}
-use Rattle.list_writer.proofs.LineLaws.{place-fits, text-put}
+use Rattle.list_writer.proofs.LineLaws.{point-fits, text-put}
 use borrow.Author.Needs.{needs}
 use Rattle.list_writer.proofs.lines.put_list.Statement.{statement}
 use Rattle.list_writer.proofs.lines.put_list.Tie as tie
@@ -15,14 +15,14 @@ put-byte-requires c κs =
     omega (arith, number-put (s .fits .time .fits) (o .put-digits .ensures) .end, digits-length 9 (s .args .time))
 
 slice-aggregate-put-cells : tie.Need-slice-aggregate-put-cells
-slice-aggregate-put-cells c = sym (place-fits (c .before .before .before .before .before .before .before .before .before .before .before .before .pre .0) _ refl)
+slice-aggregate-put-cells c = sym (point-fits (c .before .before .before .before .before .before .before .before .before .before .before .before .pre .0) _ refl)
 
 put-cells-requires : tie.Need-put-cells-requires
 put-cells-requires c κs =
     let o = c .before .before .before .before in
     let p = o .before .before .before .before in
     let s = p .before .before .before .before in
-    (s .pre .0, place-fits (s .pre .0) _ refl, s .pre .1, omega (arith, number-put (s .fits .time .fits) (p .put-digits .ensures) .end, o .put-byte .ensures .end, digits-length 9 (s .args .time)))
+    (s .pre .0, point-fits (s .pre .0) _ refl, s .pre .1, omega (arith, number-put (s .fits .time .fits) (p .put-digits .ensures) .end, o .put-byte .ensures .end, digits-length 9 (s .args .time)))
 
 returns : tie.Need-returns
 returns c =

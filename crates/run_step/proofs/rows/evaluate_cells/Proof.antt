@@ -3,27 +3,27 @@ use mathlib.Core.Path.{_≡_, refl}
 use lib.ListN.{length}
 use native.Mathlib.Omega.{arith}
 use borrow.Author.Needs.{needs}
-use Rattle.run_marked_cells.specs.Contracts.Marked.{MarkPlaced}
+use Rattle.run_marked_cells.specs.Contracts.Marked.{PointSet}
 use Rattle.run_step.proofs.RowLaws.{Rowing, placed-at, rowing-start, rowing-asks, rowing-moves, rowing-turn, rowing-stop, rowing-done}
 use Rattle.run_step.proofs.rows.evaluate_cells.Statement.{statement}
 use Rattle.run_step.proofs.rows.evaluate_cells.Tie as tie
 
 abbrev Inv-loop : tie.InvT-loop
-Inv-loop leaves words rule sizes place₀ from cells grid next₀ vars₀ index₀ time count total₀ i₀ place next vars index total i =
-    Rowing words rule sizes from grid time count i total next × (i ≤ cells) × (length next ≡ length next₀) × (length place ≡ length sizes) × MarkPlaced sizes (from + i) place
+Inv-loop leaves words rule sizes point₀ from cells grid next₀ vars₀ index₀ time count total₀ i₀ point next vars index total i =
+    Rowing words rule sizes from grid time count i total next × (i ≤ cells) × (length next ≡ length next₀) × (length point ≡ length sizes) × PointSet sizes (from + i) point
 
 abbrev μ-loop : tie.MeasureT-loop
-μ-loop leaves words rule sizes place₀ from cells grid next₀ vars₀ index₀ time count total₀ i₀ place next vars index total i =
+μ-loop leaves words rule sizes point₀ from cells grid next₀ vars₀ index₀ time count total₀ i₀ point next vars index total i =
     cells - i
 
-cast-set-place : tie.Need-cast-set-place Inv-loop μ-loop
-cast-set-place c = let a = c .before .before .before .pre .0 .inside in let b = c .before .before .before .pre .0 .roomed .cells in search needs
+cast-set-point : tie.Need-cast-set-point Inv-loop μ-loop
+cast-set-point c = let a = c .before .before .before .pre .0 .inside in let b = c .before .before .before .pre .0 .roomed .cells in search needs
 
-set-place-requires : tie.Need-set-place-requires Inv-loop μ-loop
-set-place-requires c κs = record { dims = c .before .before .before .before .pre .1; positive = c .before .before .before .before .pre .0 .roomed .positive }
+set-point-requires : tie.Need-set-point-requires Inv-loop μ-loop
+set-point-requires c κs = record { dims = c .before .before .before .before .pre .1; positive = c .before .before .before .before .pre .0 .roomed .positive }
 
 loop-holds : tie.Need-loop-holds Inv-loop μ-loop
-loop-holds c = (rowing-start _ _ _ _ _ _ _ _, search needs, refl, search needs, placed-at (c .before .before .before .before .before .before .before .args .sizes .now) _ _ _ (c .before .before .set-place .ensures) (omega arith))
+loop-holds c = (rowing-start _ _ _ _ _ _ _ _, search needs, refl, search needs, placed-at (c .before .before .before .before .before .before .before .args .sizes .now) _ _ _ (c .before .before .set-point .ensures) (omega arith))
 
 add-evaluate-into : tie.Need-add-evaluate-into Inv-loop μ-loop
 add-evaluate-into c = let a = c .before .before .before .before .before .before .before .before .before .before .pre .0 .inside in let b = c .before .before .before .before .before .before .before .before .before .before .pre .0 .roomed .cells in search needs
@@ -37,17 +37,17 @@ cast-t33 c = let a = c .before .before .before .before .before .before .before .
 returns : tie.Need-returns Inv-loop μ-loop
 returns c = rowing-stop _ _ _ _ _ _ _ (c .before .before .before .before .before .before .before .before .before .before .loop .i) (c .before .before .before .before .before .before .before .before .before .before .loop .total) (c .before .before .before .before .before .before .before .before .before .before .loop .next) _ (c .before .before .before .before .before .before .before .before .before .before .loop .inv .0) (c .before .before .before .before .evaluate-into .ensures) (c .before .turn2 .given .1) (c .before .before .before .before .before .before .before .before .before .loop-test .taken)
 
-add-move-place : tie.Need-add-move-place Inv-loop μ-loop
-add-move-place c = let a = c .before .before .before .before .before .before .before .before .before .before .before .before .before .before .before .before .before .before .pre .0 .inside in let b = c .before .before .before .before .before .before .before .before .before .before .before .before .before .before .before .before .before .before .pre .0 .roomed .cells in search needs
+add-move-point : tie.Need-add-move-point Inv-loop μ-loop
+add-move-point c = let a = c .before .before .before .before .before .before .before .before .before .before .before .before .before .before .before .before .before .before .pre .0 .inside in let b = c .before .before .before .before .before .before .before .before .before .before .before .before .before .before .before .before .before .before .pre .0 .roomed .cells in search needs
 
-add-move-place-2 : tie.Need-add-move-place-2 Inv-loop μ-loop
-add-move-place-2 c = let a = c .before .before .before .before .before .before .before .before .before .before .before .before .before .before .before .before .before .before .pre .0 .inside in let b = c .before .before .before .before .before .before .before .before .before .before .before .before .before .before .before .before .before .before .pre .0 .roomed .cells in search needs
+add-move-point-2 : tie.Need-add-move-point-2 Inv-loop μ-loop
+add-move-point-2 c = let a = c .before .before .before .before .before .before .before .before .before .before .before .before .before .before .before .before .before .before .pre .0 .inside in let b = c .before .before .before .before .before .before .before .before .before .before .before .before .before .before .before .before .before .before .pre .0 .roomed .cells in search needs
 
-add-move-place-3 : tie.Need-add-move-place-3 Inv-loop μ-loop
-add-move-place-3 c = let a = c .before .before .before .before .before .before .before .before .before .before .before .before .before .before .before .before .before .before .pre .0 .inside in let b = c .before .before .before .before .before .before .before .before .before .before .before .before .before .before .before .before .before .before .pre .0 .roomed .cells in search needs
+add-move-point-3 : tie.Need-add-move-point-3 Inv-loop μ-loop
+add-move-point-3 c = let a = c .before .before .before .before .before .before .before .before .before .before .before .before .before .before .before .before .before .before .pre .0 .inside in let b = c .before .before .before .before .before .before .before .before .before .before .before .before .before .before .before .before .before .before .pre .0 .roomed .cells in search needs
 
-move-place-requires : tie.Need-move-place-requires Inv-loop μ-loop
-move-place-requires c κs = rowing-moves _ _ _ _ _ _ _ (c .before .before .before .before .before .before .before .before .before .before .before .before .before .before .before .before .before .before .before .pre .0) (c .before .before .before .before .before .before .before .before .before .before .before .loop .i) (c .before .before .before .before .before .before .before .before .before .before .before .loop .inv .3) (c .before .before .before .before .before .before .before .before .before .before .before .loop .inv .4) (c .before .before .before .before .before .before .before .before .before .before .loop-test .taken)
+move-point-requires : tie.Need-move-point-requires Inv-loop μ-loop
+move-point-requires c κs = rowing-moves _ _ _ _ _ _ _ (c .before .before .before .before .before .before .before .before .before .before .before .before .before .before .before .before .before .before .before .pre .0) (c .before .before .before .before .before .before .before .before .before .before .before .loop .i) (c .before .before .before .before .before .before .before .before .before .before .before .loop .inv .3) (c .before .before .before .before .before .before .before .before .before .before .before .loop .inv .4) (c .before .before .before .before .before .before .before .before .before .before .loop-test .taken)
 
 add-i : tie.Need-add-i Inv-loop μ-loop
 add-i c = let a = c .before .before .before .before .before .before .before .before .before .before .before .before .before .before .before .before .before .before .before .before .before .before .pre .0 .inside in let b = c .before .before .before .before .before .before .before .before .before .before .before .before .before .before .before .before .before .before .before .before .before .before .pre .0 .roomed .cells in search needs
@@ -56,7 +56,7 @@ loop-less : tie.Need-loop-less Inv-loop μ-loop
 loop-less c = omega arith
 
 loop-again : tie.Need-loop-again Inv-loop μ-loop
-loop-again c = (rowing-turn _ _ _ _ _ _ _ (c .before .before .before .before .before .before .before .before .before .before .before .before .before .before .loop .i) (c .before .before .before .before .before .before .before .before .before .before .before .before .before .before .loop .total) (c .before .before .before .before .before .before .before .before .before .before .before .before .before .before .loop .next) _ (c .before .before .before .before .before .before .before .before .before .before .before .before .before .before .loop .inv .0) (c .before .before .before .before .before .before .before .before .evaluate-into .ensures) (c .before .before .before .before .before .turn .given .1), omega arith, search needs, search needs, placed-at (c .before .before .before .before .before .before .before .before .before .before .before .before .before .before .before .before .before .before .before .before .before .before .args .sizes .now) (c .before .before .before .before .before .before .before .before .before .before .before .before .before .before .before .before .before .before .before .before .before .before .args .from + c .before .before .before .before .before .before .before .before .before .before .before .before .before .before .loop .i + 1) (c .before .before .before .before .before .before .before .before .before .before .before .before .before .before .before .before .before .before .before .before .before .before .args .from + (c .before .before .before .before .before .before .before .before .before .before .before .before .before .before .loop .i + 1)) _ (c .before .before .move-place .ensures) (omega arith))
+loop-again c = (rowing-turn _ _ _ _ _ _ _ (c .before .before .before .before .before .before .before .before .before .before .before .before .before .before .loop .i) (c .before .before .before .before .before .before .before .before .before .before .before .before .before .before .loop .total) (c .before .before .before .before .before .before .before .before .before .before .before .before .before .before .loop .next) _ (c .before .before .before .before .before .before .before .before .before .before .before .before .before .before .loop .inv .0) (c .before .before .before .before .before .before .before .before .evaluate-into .ensures) (c .before .before .before .before .before .turn .given .1), omega arith, search needs, search needs, placed-at (c .before .before .before .before .before .before .before .before .before .before .before .before .before .before .before .before .before .before .before .before .before .before .args .sizes .now) (c .before .before .before .before .before .before .before .before .before .before .before .before .before .before .before .before .before .before .before .before .before .before .args .from + c .before .before .before .before .before .before .before .before .before .before .before .before .before .before .loop .i + 1) (c .before .before .before .before .before .before .before .before .before .before .before .before .before .before .before .before .before .before .before .before .before .before .args .from + (c .before .before .before .before .before .before .before .before .before .before .before .before .before .before .loop .i + 1)) _ (c .before .before .move-point .ensures) (omega arith))
 
 same-length-4 : tie.Need-same-length-4 Inv-loop μ-loop
 same-length-4 c = c .before .loop .inv .2
@@ -70,8 +70,8 @@ evaluate-cells-spec =
     (tie.spec
     Inv-loop
     μ-loop
-    cast-set-place
-    set-place-requires
+    cast-set-point
+    set-point-requires
     loop-holds
     add-evaluate-into
     evaluate-into-requires
@@ -81,10 +81,10 @@ evaluate-cells-spec =
     (λ c. search needs)
     (λ c. search needs)
     returns
-    add-move-place
-    add-move-place-2
-    add-move-place-3
-    move-place-requires
+    add-move-point
+    add-move-point-2
+    add-move-point-3
+    move-point-requires
     add-i
     loop-less
     loop-again

@@ -1,11 +1,11 @@
 use mathlib.Core.Path.{refl, sym}
-use Rattle.run_step.proofs.RowLaws.{rows-small, rows-ask, rows-place, rows-stepped}
+use Rattle.run_step.proofs.RowLaws.{rows-small, rows-ask, rows-point, rows-stepped}
 use borrow.Author.Needs.{needs}
 use Rattle.run_step.proofs.rows.step_rows.Statement.{statement}
 use Rattle.run_step.proofs.rows.step_rows.Tie as tie
 
 slice-aggregate-evaluate-cells : tie.Need-slice-aggregate-evaluate-cells
-slice-aggregate-evaluate-cells c = sym (rows-place (c .before .before .before .pre) _ refl)
+slice-aggregate-evaluate-cells c = sym (rows-point (c .before .before .before .pre) _ refl)
 
 mul-evaluate-cells : tie.Need-mul-evaluate-cells
 mul-evaluate-cells c = let a = rows-small (c .before .before .before .pre) in search needs
@@ -14,7 +14,7 @@ mul-evaluate-cells-2 : tie.Need-mul-evaluate-cells-2
 mul-evaluate-cells-2 c = let a = rows-small (c .before .before .before .pre) in search needs
 
 evaluate-cells-requires : tie.Need-evaluate-cells-requires
-evaluate-cells-requires c κs = (rows-ask (c .before .before .before .before .before .before .pre), rows-place (c .before .before .before .before .before .before .pre) _ refl)
+evaluate-cells-requires c κs = (rows-ask (c .before .before .before .before .before .before .pre), rows-point (c .before .before .before .before .before .before .pre) _ refl)
 
 returns : tie.Need-returns
 returns c = rows-stepped (c .before .before .before .before .before .before .before .before .before .pre) (search needs) (c .before .before .evaluate-cells .ensures)

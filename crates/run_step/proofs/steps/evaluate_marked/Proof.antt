@@ -5,7 +5,7 @@ use lib.ListN.{length}
 use native.Mathlib.Omega.{arith}
 use borrow.Author.Needs.{needs}
 use Rattle.automaton.specs.Step.{marked}
-use Rattle.run_marked_cells.specs.Contracts.Marked.{MarkPlaced}
+use Rattle.run_marked_cells.specs.Contracts.Marked.{PointSet}
 use Rattle.cell_meaning.specs.Contracts.Stands.{Holds}
 use Rattle.run_step.proofs.StepLaws.{cell-small, moving}
 use Rattle.run_step.proofs.FillLaws.{Filling, fill-start, turning, fill-skip, fill-turn, fill-stop, fill-done}
@@ -13,31 +13,31 @@ use Rattle.run_step.proofs.steps.evaluate_marked.Statement.{statement}
 use Rattle.run_step.proofs.steps.evaluate_marked.Tie as tie
 
 abbrev Inv-loop : tie.InvT-loop
-Inv-loop leaves words rule sizes place₀ old new₀ marks vars₀ index₀ time count total₀ cell₀ place new vars index total cell =
+Inv-loop leaves words rule sizes point₀ old new₀ marks vars₀ index₀ time count total₀ cell₀ point new vars index total cell =
     Filling sizes old marks time (Holds words rule) rule new₀ count cell total new × (cell ≤ length marks) × (cell < length marks → marked marks cell ≡ true)
-    × (length new ≡ length new₀) × (length place ≡ length sizes) × MarkPlaced sizes cell place
+    × (length new ≡ length new₀) × (length point ≡ length sizes) × PointSet sizes cell point
 
 abbrev μ-loop : tie.MeasureT-loop
-μ-loop leaves words rule sizes place₀ old new₀ marks vars₀ index₀ time count total₀ cell₀ place new vars index total cell =
+μ-loop leaves words rule sizes point₀ old new₀ marks vars₀ index₀ time count total₀ cell₀ point new vars index total cell =
     length marks - cell
 
 next-marked-requires : tie.Need-next-marked-requires Inv-loop μ-loop
 next-marked-requires c κs = omega arith
 
-cast-set-place : tie.Need-cast-set-place Inv-loop μ-loop
-cast-set-place c =
+cast-set-point : tie.Need-cast-set-point Inv-loop μ-loop
+cast-set-point c =
     let s = cell-small (c .before .before .before .before .before .pre .0) (c .next-marked .ensures .within) in
     search needs
 
-set-place-requires : tie.Need-set-place-requires Inv-loop μ-loop
-set-place-requires c κs =
+set-point-requires : tie.Need-set-point-requires Inv-loop μ-loop
+set-point-requires c κs =
     let p = c .before .before .before .before .before .before .pre in
     record { dims = p .1; positive = p .0 .shaped .positive }
 
 loop-holds : tie.Need-loop-holds Inv-loop μ-loop
 loop-holds c =
     let n = c .before .before .before .before .next-marked .ensures in
-    (fill-skip _ _ _ _ (λ p h. h) 0 _ _ _ (fill-start _ _ _ _ _ _ _ _) n, n .within, n .found, refl, search needs, c .before .before .set-place .ensures)
+    (fill-skip _ _ _ _ (λ p h. h) 0 _ _ _ (fill-start _ _ _ _ _ _ _ _) n, n .within, n .found, refl, search needs, c .before .before .set-point .ensures)
 
 evaluate-open-requires : tie.Need-evaluate-open-requires Inv-loop μ-loop
 evaluate-open-requires c κs =
@@ -62,8 +62,8 @@ returns c =
 next-marked-requires-2 : tie.Need-next-marked-requires-2 Inv-loop μ-loop
 next-marked-requires-2 c κs = omega arith
 
-move-place-requires : tie.Need-move-place-requires Inv-loop μ-loop
-move-place-requires c κs =
+move-point-requires : tie.Need-move-point-requires Inv-loop μ-loop
+move-point-requires c κs =
     let l = c .before .before .before .before .before .before .before .before .before .before .before .before .loop in
     moving (c .before .before .before .before .before .before .before .before .before .before .before .before .before .before .before .before .before .before .before .before .before .before .pre .0) (l .inv .4) (l .inv .5) (c .before .before .before .before .before .before .before .before .before .before .before .loop-test .taken) (c .before .next-marked2 .ensures)
 
@@ -77,7 +77,7 @@ loop-again c =
     let t = c .before .before .before .before .before .before .before .before .before .before .before .before .before .before .loop-test .taken in
     let e = c .before .before .before .before .before .before .before .before .before .evaluate-open .ensures in
     let f = fill-turn _ _ _ _ (λ p h. h) (l .cell) (l .total) (l .new) _ (l .inv .0) (l .inv .2 t) e (c .before .before .before .before .before .before .turn .given .1) in
-    (fill-skip _ _ _ _ (λ p h. h) _ _ _ _ f n, n .within, n .found, search needs, search needs, c .before .before .move-place .ensures)
+    (fill-skip _ _ _ _ (λ p h. h) _ _ _ _ f n, n .within, n .found, search needs, search needs, c .before .before .move-point .ensures)
 
 same-length-4 : tie.Need-same-length-4 Inv-loop μ-loop
 same-length-4 c = c .before .loop .inv .3
@@ -95,8 +95,8 @@ evaluate-marked-spec =
     Inv-loop
     μ-loop
     next-marked-requires
-    cast-set-place
-    set-place-requires
+    cast-set-point
+    set-point-requires
     loop-holds
     evaluate-open-requires
     (λ c. search needs)
@@ -107,7 +107,7 @@ evaluate-marked-spec =
     returns
     (λ c. search needs)
     next-marked-requires-2
-    move-place-requires
+    move-point-requires
     loop-less
     loop-again
     (λ c. search needs)

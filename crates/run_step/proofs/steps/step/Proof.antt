@@ -1,16 +1,16 @@
 use mathlib.Core.Path.{refl, sym}
 use borrow.Author.Needs.{needs}
-use Rattle.run_step.proofs.StepLaws.{place-room, exchanging, stepped-done, stepped-fault}
+use Rattle.run_step.proofs.StepLaws.{point-room, exchanging, stepped-done, stepped-fault}
 use Rattle.run_step.proofs.steps.step.Statement.{statement}
 use Rattle.run_step.proofs.steps.step.Tie as tie
 
 slice-aggregate-evaluate-marked : tie.Need-slice-aggregate-evaluate-marked
-slice-aggregate-evaluate-marked c = sym (place-room (c .before .before .before .before .pre) _ refl)
+slice-aggregate-evaluate-marked c = sym (point-room (c .before .before .before .before .pre) _ refl)
 
 evaluate-marked-requires : tie.Need-evaluate-marked-requires
 evaluate-marked-requires c κs =
     let p = c .before .before .before .before .before .before .before .before .pre in
-    (p, place-room p _ refl)
+    (p, point-room p _ refl)
 
 exchange-marked-requires : tie.Need-exchange-marked-requires
 exchange-marked-requires c κs =

@@ -1,15 +1,15 @@
 use Prim.Native.Nat.{_-_}
 use native.Mathlib.Omega.{arith}
 use borrow.Author.Needs.{needs}
-use Rattle.run_marked_cells.proofs.PlaceLaws.{Carried, carry-start, carry-below, carry-more, carry-stop, carry-end}
-use Rattle.run_marked_cells.proofs.places.advance.Statement.{statement}
-use Rattle.run_marked_cells.proofs.places.advance.Tie as tie
+use Rattle.run_marked_cells.proofs.PointLaws.{Carried, carry-start, carry-below, carry-more, carry-stop, carry-end}
+use Rattle.run_marked_cells.proofs.points.advance.Statement.{statement}
+use Rattle.run_marked_cells.proofs.points.advance.Tie as tie
 
 abbrev Inv-loop : tie.InvT-loop
-Inv-loop sizes place₀ k₀ place k = Carried sizes place₀ k place
+Inv-loop sizes point₀ k₀ point k = Carried sizes point₀ k point
 
 abbrev μ-loop : tie.MeasureT-loop
-μ-loop sizes place₀ k₀ place k = k
+μ-loop sizes point₀ k₀ point k = k
 
 loop-holds : tie.Need-loop-holds Inv-loop μ-loop
 loop-holds c = carry-start _ _ (c .pre)

@@ -3,14 +3,14 @@ use native.Mathlib.Omega.{arith}
 use lib.ListN.{length, length-set}
 use borrow.Author.Needs.{needs}
 use Rattle.run_marked_cells.proofs.RoomLaws.{Same, same-start, same-more, same-all}
-use Rattle.run_marked_cells.proofs.rooms.mark_all.Statement.{statement}
-use Rattle.run_marked_cells.proofs.rooms.mark_all.Tie as tie
+use Rattle.run_marked_cells.proofs.rooms.set_marks.Statement.{statement}
+use Rattle.run_marked_cells.proofs.rooms.set_marks.Tie as tie
 
 abbrev Inv-loop : tie.InvT-loop
-Inv-loop marks₀ i₀ marks i = Same 1 marks₀ i marks × (i ≤ length marks)
+Inv-loop marks₀ value i₀ marks i = Same value marks₀ i marks × (i ≤ length marks)
 
 abbrev μ-loop : tie.MeasureT-loop
-μ-loop marks₀ i₀ marks i = length marks - i
+μ-loop marks₀ value i₀ marks i = length marks - i
 
 loop-holds : tie.Need-loop-holds Inv-loop μ-loop
 loop-holds c = (same-start _ _, search needs)
@@ -27,8 +27,8 @@ same-length c = c .before .loop .inv .0 .size
 returns : tie.Need-returns Inv-loop μ-loop
 returns c = same-all _ _ _ _ (c .before .loop .inv .0) (c .loop-test .left) (c .before .loop .inv .1)
 
-pub mark-all-spec : {M : Type 1} → statement M
-mark-all-spec =
+pub set-marks-spec : {M : Type 1} → statement M
+set-marks-spec =
     tie.close
     (tie.spec
     Inv-loop

@@ -1,0 +1,2 @@
+-- What promises of several crates cite.
+pub mod Buffers
