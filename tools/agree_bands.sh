@@ -6,10 +6,10 @@
 #     tools/agree_bands.sh SEED COUNT [plans|planners|band_calls|runs]
 #
 # COUNT cases of each kind, or of the kind named: plan checks, each with a question for the border rows; planner calls; band calls; runs under a plan.
-# Needs `rt staticlib cellang` to have been run.
+# Needs `tools/archive.py` to have been run.
 set -euo pipefail
 cd "$(dirname "$0")/.."
-[ -f target/staticlib/libcellang.a ] || { echo 'the static library is missing: run `rt staticlib cellang` first' >&2 && exit 1; }
+[ -f target/staticlib/libcellang.a ] || { echo 'the static library is missing: run `tools/archive.py` first' >&2 && exit 1; }
 export CELLANG_SEED=${1:-1} CELLANG_CASES=${2:-200000}
 for kind in ${3:-plans planners band_calls runs}; do
     cargo test --quiet --release --offline --manifest-path bindings/rust/Cargo.toml --test bands_compared -- --exact "$kind" --nocapture |

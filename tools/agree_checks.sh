@@ -5,7 +5,7 @@
 #     tools/agree_checks.sh SEED COUNT [checks|near]
 #
 # `near` has sources that are in the profile, or one or two changes away from it.
-# Needs `rt check vectors` to have been run, which leaves the program in target/bin.
+# Needs `rt run </dev/null` in crates/vectors, or `rt ci`, to have been run, which leaves the program in crates/vectors/out.
 set -eu
 cd "$(dirname "$0")/.."
 seed=${1:-1}
@@ -16,10 +16,11 @@ checks) said='checks agreed' ;;
 near) said='checks of sources near the profile agreed' ;;
 *) echo "no such kind: $kind" >&2 && exit 2 ;;
 esac
-[ -x target/bin/vectors ] || { echo 'target/bin/vectors is missing: run `rt check vectors` first' >&2 && exit 1; }
+vectors=crates/vectors/out/vectors
+[ -x "$vectors" ] || { echo "$vectors is missing: run \`rt run </dev/null\` in crates/vectors first" >&2 && exit 1; }
 cargo build --quiet --release --offline --manifest-path reference/Cargo.toml
 reference=reference/target/release/reference
-same=$(cmp <("$reference" stream "$kind" "$seed" "$count" | target/bin/vectors) \
+same=$(cmp <("$reference" stream "$kind" "$seed" "$count" | "$vectors") \
   <("$reference" stream "$kind" "$seed" "$count" --replies) && echo yes)
 [ "$same" = yes ]
 echo "$count $said (seed $seed)"

@@ -7,18 +7,19 @@
 # COUNT cases of each kind, or of the kind named: runs, of which half have a list; runs whose list is at a limit or damaged in most cases; writings;
 # chains of calls that resume one another, each chain with the run at once that it has to equal; runs that are resumed with any marks; runs in every
 # manner that count the zeros of their rows; runs in every manner, and writings, of rules that move a pixel once, few of them near such a rule.
-# Needs `rt check vectors` to have been run, which leaves the program in target/bin.
+# Needs `rt run </dev/null` in crates/vectors, or `rt ci`, to have been run, which leaves the program in crates/vectors/out.
 set -euo pipefail
 cd "$(dirname "$0")/.."
 seed=${1:-1}
 count=${2:-100000}
-[ -x target/bin/vectors ] || { echo 'target/bin/vectors is missing: run `rt check vectors` first' >&2 && exit 1; }
+vectors=crates/vectors/out/vectors
+[ -x "$vectors" ] || { echo "$vectors is missing: run \`rt run </dev/null\` in crates/vectors first" >&2 && exit 1; }
 cargo build --quiet --release --offline --manifest-path reference/Cargo.toml
 reference=reference/target/release/reference
 work=$(mktemp -d)
 trap 'rm -r "$work"' EXIT
 for kind in ${3:-runs lists writings chains resumed counted moving shown}; do
-    "$reference" stream "$kind" "$seed" "$count" | target/bin/vectors >"$work/proved"
+    "$reference" stream "$kind" "$seed" "$count" | "$vectors" >"$work/proved"
     "$reference" stream "$kind" "$seed" "$count" --replies >"$work/second"
     cmp "$work/proved" "$work/second"
     lines=$(wc -l <"$work/proved")

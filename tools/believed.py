@@ -27,7 +27,7 @@ TOKEN = re.compile(
     "(?:\\.|[^"\\])*"                               # a string
   | (?:--(?=\s|$)|//)[^\n]*                         # a comment
   | \.[^\s(){}\[\],;."]+                            # a field
-  | [^\s(){}\[\],;."]+(?:\.[^\s(){}\[\],;."]+)*     # a name, perhaps with its module's in front
+  | [^\s(){}\[\],;."]+(?:\.[^\s(){}\[\],;."]+)*     # a name, perhaps with its module's in front, or with fields behind it
 """,
     re.VERBOSE,
 )
@@ -140,15 +140,15 @@ class Source:
     def origin(self, name):
         """The declaration that a name means here, or the module that it comes from with its name there; None for a name that is neither."""
         if "." in name:
-            module, last = name.rsplit(".", 1)
-            return (self.modules[module], last) if module in self.modules else None
+            module, last = name.split(".")[:2]
+            return (self.modules[module], last) if module in self.modules else self.origin(module)
         for found in (self.own, self.imports):
             if name in found:
                 return found[name]
         for found in (self.own, self.imports):
             for full in found:
-                # an operator such as if_then_else_, known by its first word
-                if "_" in full and name == full.strip("_").split("_")[0]:
+                # an operator such as if◌then◌else◌, known by its first word
+                if "◌" in full and name == full.strip("◌").split("◌")[0]:
                     return found[full]
         return None
 
@@ -169,6 +169,16 @@ def read_use(line, imports, modules):
 # ---- the text of a .rt file
 
 
+def up_to_semicolon(lines, k):
+    """The lines from k up to the one that ends in a semicolon, as one."""
+    taken = []
+    for line in lines[k:]:
+        taken.append(line.strip())
+        if line.rstrip().endswith(";"):
+            break
+    return " ".join(taken)
+
+
 class Code:
     """A .rt file: its public functions (contract and signature), its public types, and where its other names come from."""
 
@@ -182,10 +192,13 @@ class Code:
         lines = text.split("\n")
         for k, line in enumerate(lines):
             if line.startswith("ghost use "):
-                read_use(line, self.imports, self.modules)
+                read_use(up_to_semicolon(lines, k), self.imports, self.modules)
             elif re.match(r"(pub )?use ", line):
-                words = line.split("use ", 1)[1].rstrip("; ").split("::")
-                (self.passed if line.startswith("pub") else self.uses)[words[-1]] = words
+                found = re.match(r"(.*?)(?:::)?\{(.*)\}$|(.*)$", up_to_semicolon(lines, k).split("use ", 1)[1].rstrip("; "))
+                for name in (found.group(2) or "").split(",") if found.group(2) else [None]:
+                    if name is None or name.strip():
+                        words = found.group(3).split("::") if name is None else [*found.group(1).split("::"), *name.strip().split("::")]
+                        (self.passed if line.startswith("pub") else self.uses)[words[-1]] = words
             elif re.match(r'pub (extern "C" )?fn ', line):
                 self.read_function(lines, k)
             elif re.match(r"pub (struct|enum) ", line):
@@ -193,9 +206,14 @@ class Code:
 
     def read_function(self, lines, k):
         name = re.search(r"fn (\w+)", lines[k]).group(1)
-        contract, signature = [], []
+        contract, signature, open_ = [], [], 0
         for line in lines[k:]:
-            (contract if re.match(r"\s+(ensures|requires)\b", line) else signature).append(line)
+            # a clause goes on until its braces are closed
+            if open_ or re.match(r"\s+(ensures|requires)\b", line):
+                contract.append(line)
+                open_ += line.count("{") - line.count("}")
+                continue
+            signature.append(line)
             if line.endswith("{") and not line.startswith("    "):
                 break
         self.functions[name] = (contract, "\n".join(signature))
@@ -217,7 +235,8 @@ class Library:
         self.root, self.sources, self.codes = root, {}, {}
         self.reached, self.types, self.outside, self.missing = {}, {}, set(), set()
         crates = os.path.join(root, "crates")
-        for crate in sorted(os.listdir(crates)):
+        self.names = sorted(os.listdir(crates))
+        for crate in self.names:
             for folder, _, files in os.walk(os.path.join(crates, crate)):
                 for name in sorted(files):
                     self.load(crate, os.path.join(folder, name))
@@ -247,11 +266,11 @@ class Library:
 
     def imported(self, source, module, name):
         """The declaration that an imported name means; None for a type of the code, and for a name of the toolchain's library."""
-        found = re.match(r"Rattle·(\w+?)(?:·specs)?\.(.*)$", module)
-        if not found:
+        found = re.match(r"Rattle\.(\w+)\.(.*)$", module)
+        if not found or found.group(1) not in self.names:
             self.outside.add((module, name))
         elif ".declared." in module:
-            self.reach_type(found.group(1), module.removesuffix(".the-variants").split(".")[-1])
+            self.reach_type(found.group(1), module.removesuffix(".TheVariants").split(".")[-1])
         elif found.groups() in self.sources and name in self.sources[found.groups()].own:
             return self.sources[found.groups()].own[name]
         else:
@@ -298,7 +317,7 @@ class Library:
         """Reaches what the contract of a function leads to; its lines."""
         contract, signature = code.functions[name]
         parameters = set(re.findall(r"(\w+)\s*:", signature))
-        self.reach(code, [n for n in names_in(contract) if n not in parameters])
+        self.reach(code, [n for n in names_in(contract) if n.split(".")[0] not in parameters])
         self.reach_types(code, signature.replace('"C"', ""))
         return contract
 

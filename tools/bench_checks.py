@@ -3,7 +3,7 @@
 
     bench_checks.py [TIMES]
 
-Needs `rt check vectors` to have been run, which leaves the program in target/bin. Each program reads the same stream of
+Needs `rt run </dev/null` in crates/vectors, or `rt ci`, to have been run, which leaves the program in crates/vectors/out. Each program reads the same stream of
 one source TIMES times over (default 400) and writes a line for each; the best of five runs counts, divided by TIMES. Reading the stream
 and writing the lines are part of it for both.
 """
@@ -14,7 +14,7 @@ import sys
 import time
 
 ROOT = os.path.dirname(os.path.dirname(os.path.abspath(__file__)))
-CHECKER = [os.path.join(ROOT, "target/bin/vectors")]
+CHECKER = [os.path.join(ROOT, "crates/vectors/out/vectors")]
 REFERENCE = [os.path.join(ROOT, "reference/target/release/reference"), "answer"]
 
 

@@ -6,6 +6,6 @@
 # The best of TIMES runs counts (default 3).
 set -e
 cd "$(dirname "$0")/.."
-rt staticlib cellang >&2
+tools/archive.py >&2
 cargo build --release --offline --quiet --manifest-path bench/Cargo.toml
 exec bench/target/release/bench "$@"

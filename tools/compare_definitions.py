@@ -10,9 +10,10 @@ A case is one line of JSON, as `reference cases` writes it:
 A run may also have "values", the bytes of its value list, and "words", "names", "scratch" and "marks", the lengths of the buffers, where they are
 not the right ones.
 
-It copies the crates into target/definitions, adds to crate run_calls a module with lists of N cases and for each list the claim that no
-case fails, and checks it. A list that is refused, for a failing case or for the step limit, is checked again case by case. It prints
-the failing cases' numbers (from 0), how many cases there were and the time; its exit status is 0 only if all hold.
+It copies the crates into a folder among the temporary files, adds to crate run_calls a module with lists of N cases and for each list the claim that no
+case fails, and checks it (`rt check`, which begins with what checks of the same files on this machine kept). A list that is refused, for a failing case or
+for the step limit, is checked again case by case. It prints the failing cases' numbers (from 0), how many cases there were and the time; its exit status
+is 0 only if all hold.
 """
 import json
 import os
@@ -20,22 +21,18 @@ import re
 import shutil
 import subprocess
 import sys
+import tempfile
 import time
 
 ROOT = os.path.dirname(os.path.dirname(os.path.abspath(__file__)))
-SCRATCH = os.path.join(ROOT, "target/definitions")
 
 HEADER = """-- Cases that another program wrote.
-use mathlib.Core.Path.{_≡_, refl}
-use mathlib.Core.Bool.{Bool, true}
-use mathlib.Core.List.{List, [], _∷_}
 use mathlib.Core.Option.{none}
-use Prim.Native.Nat.{ℕ}
-use lib.IntN.{ℤ, pos, negsuc}
-use Rattle·run_meaning.specs.Report.{Report}
-use Rattle·run_calls·specs.specs.Running.{Asked}
-use Rattle·value.proofs.Theorems.Truth.{failing}
-use Rattle·run_calls·proofs.proofs.Theorems.Cases.{Lent, Case, checks, runs, holds}
+use Rattle.std.specs.Prelude.{◌≡◌, refl, Bool, true, List, [], ◌∷◌, ℕ, ℤ, pos, negsuc}
+use Rattle.run_meaning.specs.Report.{Report}
+use Rattle.run_calls.specs.Running.{Asked}
+use Rattle.value.proofs.Theorems.Truth.{failing}
+use Rattle.run_calls.proofs.Theorems.Cases.{Lent, Case, checks, runs, holds}
 
 abbrev lent : List ℕ → ℕ → ℕ → Lent
 lent source words names = record { source = source; words = words; names = names }
@@ -93,31 +90,30 @@ def singles(cases, which):
     return "\n".join(out)
 
 
-def check(text):
+def check(scratch, text):
     """The numbers of the claims that are refused, and the seconds that it took."""
-    with open(os.path.join(SCRATCH, "crates/run_calls/proofs/Theorems/Claims.antt"), "w") as f:
+    crate = os.path.join(scratch, "crates/run_calls")
+    with open(os.path.join(crate, "proofs/Theorems/Claims.antt"), "w") as f:
         f.write(text)
     begun = time.time()
-    r = subprocess.run(["rt", "dev", "run_calls"], cwd=SCRATCH, stdout=subprocess.PIPE, stderr=subprocess.STDOUT, text=True)
+    r = subprocess.run(["rt", "check"], cwd=crate, stdout=subprocess.PIPE, stderr=subprocess.STDOUT, text=True)
     refused = sorted({int(n) for n in re.findall(r"`claim(\d+)`", r.stdout)})
     if r.returncode != 0 and not refused:
         sys.exit("the check failed otherwise:\n" + r.stdout[-3000:])
     return refused, time.time() - begun
 
 
-def prepare():
-    shutil.rmtree(os.path.join(SCRATCH, "crates"), ignore_errors=True)
-    os.makedirs(SCRATCH, exist_ok=True)
+def prepare(scratch):
     listed = ["value", "automaton", "token", "names", "program", "grammar", "cell_meaning", "read_links", "run_meaning", "move_meaning", "list_meaning", "run_calls"]
     lines = [l for l in open(os.path.join(ROOT, "crates.txt")) if l.split(":")[0] in listed]
-    with open(os.path.join(SCRATCH, "crates.txt"), "w") as f:
+    with open(os.path.join(scratch, "crates.txt"), "w") as f:
         f.writelines(lines)
     for name in listed:
-        shutil.copytree(os.path.join(ROOT, "crates", name), os.path.join(SCRATCH, "crates", name))
-    lib = os.path.join(SCRATCH, "crates/run_calls/proofs/Theorems.antt")
+        shutil.copytree(os.path.join(ROOT, "crates", name), os.path.join(scratch, "crates", name), ignore=shutil.ignore_patterns("out"))
+    lib = os.path.join(scratch, "crates/run_calls/proofs/Theorems.antt")
     text = re.sub(r"(pub )?mod Examples\n", "", open(lib).read()) + "pub mod Claims\n"
     open(lib, "w").write(text)
-    os.remove(os.path.join(SCRATCH, "crates/run_calls/proofs/Theorems/Examples.antt"))
+    os.remove(os.path.join(scratch, "crates/run_calls/proofs/Theorems/Examples.antt"))
 
 
 def main():
@@ -125,13 +121,14 @@ def main():
         sys.exit("usage: compare_definitions.py CASES [--chunk N], where CASES is a file that `reference cases` wrote")
     chunk = int(sys.argv[sys.argv.index("--chunk") + 1]) if "--chunk" in sys.argv else 50
     cases = [json.loads(line) for line in open(sys.argv[1]) if line.strip()]
-    prepare()
-    refused, seconds = check(lists(cases, chunk))
-    failing = []
-    if refused:
-        which = [i for k in refused for i in range(k, min(k + chunk, len(cases)))]
-        failing, again = check(singles(cases, which))
-        seconds += again
+    with tempfile.TemporaryDirectory() as scratch:
+        prepare(scratch)
+        refused, seconds = check(scratch, lists(cases, chunk))
+        failing = []
+        if refused:
+            which = [i for k in refused for i in range(k, min(k + chunk, len(cases)))]
+            failing, again = check(scratch, singles(cases, which))
+            seconds += again
     print("cases %d, failing %s, %.1f s" % (len(cases), failing, seconds))
     sys.exit(1 if failing else 0)
 

@@ -10,13 +10,12 @@ sys.path.insert(0, os.path.dirname(os.path.abspath(__file__)))
 from believed import count, lines_left, lines_reached  # noqa: E402
 
 BASE = """-- Definitions of the base.
-use mathlib.Core.Bool.{Bool, true, false}
-use Prim.Native.Nat.{ℕ, zero, suc, _+_}
+use Rattle.std.specs.Prelude.{Bool, true, false, ℕ, zero, suc, ◌+◌, ◌≡◌}
 
-infix 2 if_then_else_
-abbrev pub if_then_else_ : {A : Type 0} → Bool → A → A → A
-if true then a else b = a
-if false then a else b = b
+infix 2 when◌then◌else◌
+abbrev pub when◌then◌else◌ : {A : Type 0} → Bool → A → A → A
+when true then a else b = a
+when false then a else b = b
 
 -- how a step ends
 pub data Ending : Type 0 where
@@ -31,8 +30,8 @@ pub record Grid : Type 0 where
 abbrev pub size : ℕ → ℕ
 size n = n
 
-pub size-is : (n : ℕ) → size n ≡ n
-size-is n = refl
+pub size_is : (n : ℕ) → size n ≡ n
+size_is n = refl
 
 module _ (limit : Grid) where
   abbrev pub small : ℕ → ℕ
@@ -42,7 +41,7 @@ module _ (limit : Grid) where
   unused n = n
 
   unfoldable pub helper : ℕ → ℕ
-  helper zero = limit .size
+  helper zero = limit.size
   helper (suc n) = helper n
 
 unfoldable mutual
@@ -55,38 +54,39 @@ unfoldable mutual
   odd (suc n) = even n
 """
 
-TOP = """use Prim.Native.Nat.{ℕ}
-use mathlib.Core.Path.{_≡_}
-use Rattle·base.specs.Base.{if_then_else_, Grid, even, size as length-of}
-use Rattle·base.specs.Base as base
-use Rattle·top·specs.specs.declared.inner.Told.{Told}
+TOP = """use Rattle.std.specs.Prelude.{ℕ, ◌≡◌}
+use Rattle.base.specs.Base.{when◌then◌else◌, Grid, even, size as length_of}
+use Rattle.base.specs.Base as base
+use Rattle.top.specs.declared.inner.Told.{Told}
 
 -- a field has the name of a definition, and this comment that of another: other
 abbrev pub first : Grid → ℕ
-first g = g .size
+first g = g.size
 
 abbrev pub chosen : ℕ → ℕ
-chosen n = if even n then base.small n else n
+chosen n = when even n then base.small n else n
 
 abbrev pub other : ℕ → ℕ
-other n = length-of n
+other n = length_of n
 
 -- a bound name that is also a definition's counts as used
 abbrev pub shared : ℕ → ℕ
 shared other = other
 
 pub record Promise (n : ℕ) (r : Told) : Type 0 where
-  pub is : (g : Grid) → r .number ≡ first g
+  pub is : (g : Grid) → r.number ≡ first g
 """
 
 LIBRARY = """mod inner;
 mod hidden;
 
-pub use inner::call;
-pub use other::queries::asked;
+pub use inner::{
+    call,
+};
+pub use other::queries::{Answer, asked};
 """
 
-INNER = """ghost use Rattle·top·specs.specs.Top.{Promise, chosen};
+INNER = """ghost use Rattle.top.specs.Top.{Promise, chosen};
 
 // What is told.
 pub struct Told {
@@ -95,32 +95,32 @@ pub struct Told {
 }
 
 pub fn call(chosen: u32) -> Told
-    ensures { λ r. ⌜ Promise chosen r ⌝ }
+    ensures { Promise chosen result }
 {
     Told { number: chosen }
 }
 
 fn private(n: u32) -> u32
-    ensures { λ r. ⌜ r ≡ chosen n ⌝ }
+    ensures { result ≡ chosen n }
 {
     n
 }
 """
 
-HIDDEN = """ghost use Rattle·top·specs.specs.Top.{chosen};
+HIDDEN = """ghost use Rattle.top.specs.Top.{chosen};
 
 pub fn within(n: u32) -> u32
-    requires { ⌜ n < 9 ⌝ }
-    ensures { λ r. ⌜ r ≡ chosen n ⌝ }
+    requires { n < 9 }
+    ensures { result ≡ chosen n }
 {
     n
 }
 """
 
-QUERIES = """ghost use Rattle·base.specs.Base.{done};
+QUERIES = """ghost use Rattle.base.specs.Base.{done};
 
 pub fn asked(n: u32) -> bool
-    ensures { λ r. ⌜ r ≡ done ⌝ }
+    ensures { result ≡ done }
 {
     n == 0
 }
@@ -177,18 +177,18 @@ class Believed(unittest.TestCase):
         # the conditional by its first word; a definition with the one that it is mutual with; one by its module's name, with the module's parameter
         self.assertEqual(
             names_reached(library),
-            ["Ending", "Grid", "Promise", "chosen", "even", "first", "helper", "if_then_else_", "odd", "small"],
+            ["Ending", "Grid", "Promise", "chosen", "even", "first", "helper", "odd", "small", "when◌then◌else◌"],
         )
 
     def test_lines_around_definitions(self):
-        # infix and if_then_else_ 4, Ending 3, Grid 3, module 1, small 2, helper 3, mutual 1, even 3, odd 3; first 2, chosen 2, Promise 2
+        # infix and when◌then◌else◌ 4, Ending 3, Grid 3, module 1, small 2, helper 3, mutual 1, even 3, odd 3; first 2, chosen 2, Promise 2
         self.assertEqual(self.lines(self.reached(inner=True)[0]), {"Base.antt": 23, "Top.antt": 6})
 
     def test_lines_left(self):
         library, _ = self.reached(inner=True)
         by = lines_reached(library)
         base = next(s for s in by if s.path.endswith("Base.antt"))
-        # the theorem size-is; size and unused
+        # the theorem size_is; size and unused
         self.assertEqual(lines_left(base, by[base], library), (2, 4))
 
     def test_shared_name(self):
@@ -200,7 +200,7 @@ class Believed(unittest.TestCase):
     def test_name_that_is_not_there(self):
         library, _ = self.reached()
         source = library.sources["top", "specs.Top"]
-        source.imports["gone"] = ("Rattle·base.specs.Base", "gone")
+        source.imports["gone"] = ("Rattle.base.specs.Base", "gone")
         library.reach(source, ["gone"])
         self.assertEqual(len(library.missing), 1)
 

@@ -32,7 +32,9 @@ class Edits(unittest.TestCase):
         self.assertEqual([name for name in edits() if names[name] != 1], [])
 
     def test_each_that_is_named_is_there(self):
-        known = set(edits()) | set(re.findall(r"\w+", text_of("crates.txt") + text_of("crates/*/src/**/*.rt")))
+        # (definitions and theorems have such names too)
+        files = ["crates.txt", "crates/*/src/**/*.rt", "crates/*/specs/**/*.antt", "crates/*/proofs/**/*.antt"]
+        known = set(edits()) | set(re.findall(r"\w+", "\n".join(text_of(pattern) for pattern in files)))
         self.assertEqual([name for name in sorted(named()) if "_" in name and name not in known], [])
 
 

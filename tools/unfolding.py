@@ -32,13 +32,13 @@ def modules():
 
 
 def main():
-    uses, opened = [], ["same-report"]
+    uses, opened = [], ["same_report"]
     for crate, module, names in modules():
-        path = "Rattle·run_calls·specs.specs" if crate == "run_calls" else "Rattle·%s.specs" % crate
-        uses.append("use %s.%s" % (path, module))
+        # (an import that nothing needs is one that `rt tidy` drops)
+        uses += ["use Rattle.%s.specs.%s" % (crate, module)] if names else []
         opened += ["%s.%s" % (module, name) for name in names]
     text = open(CASES).read()
-    text = re.sub(r"(?:^use Rattle·\S+\.\w+\n)+", "\n".join(uses) + "\n", text, count=1, flags=re.M)
+    text = re.sub(r"(?:^use Rattle\.[\w.]+\n)+", "\n".join(uses) + "\n", text, count=1, flags=re.M)
     line = textwrap.fill("unfolding " + " ".join(opened), 125, subsequent_indent="    ", break_long_words=False, break_on_hyphens=False)
     text = re.sub(r"^unfolding [^\n]*(?:\n    [^\n]*)*(?=\nholds)", lambda _: line, text, flags=re.M)
     open(CASES, "w").write(text)

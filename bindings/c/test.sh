@@ -4,7 +4,7 @@ set -eu
 cd "$(dirname "$0")/../.."
 library=target/staticlib/libcellang.a
 if [ ! -f "$library" ]; then
-    echo "$library is missing: run \`rt staticlib cellang\` first" >&2
+    echo "$library is missing: run \`tools/archive.py\` first" >&2
     exit 1
 fi
 folder=$(mktemp -d)

@@ -1,4 +1,4 @@
-//! Links the static library that `rt staticlib cellang` writes.
+//! Links the static library that `tools/archive.py` writes.
 
 use std::env;
 use std::path::PathBuf;
@@ -20,7 +20,7 @@ fn main() {
     let library = folder.join("libcellang.a");
     println!("cargo::rerun-if-changed={}", library.display());
     if !library.is_file() {
-        println!("cargo::error=target/staticlib/libcellang.a is missing: run `rt staticlib cellang` first");
+        println!("cargo::error=target/staticlib/libcellang.a is missing: run `tools/archive.py` first");
         return;
     }
     println!("cargo::rustc-link-search=native={}", folder.display());

@@ -14,7 +14,7 @@ use lib.Signed.{mag}
 use mir.Syntax.{w32}
 use mir.Val.{to_z, of_z}
 use mir.Facts.{to_z-of_z}
-use Rattle.value.specs.Choice.{if◌then◌else◌}
+use Rattle.std.specs.Prelude.{if◌then◌else◌}
 use Rattle.value.specs.Number.{eq_z}
 use Rattle.api_comparison.specs.Differences.{Difference, difference, differences, triples, comparable, compared, first_written, compared_room}
 use Rattle.api_comparison.specs.Promises.Comparing.{next_total, next_room, ComparesEntry}
@@ -24,7 +24,7 @@ use Rattle.api_comparison.specs.Promises.Public.{Compares}
 
 -- what the machine reads of a 32-bit number
 pub read_back : (z : ℤ) → mag z < 2 ^ 31 → to_z w32 (of_z w32 z) ≡ z
-read_back z h = to_z-of_z (record { sfits = h })
+read_back z h = to_z-of_z {w = w32} (record { sfits = h })
 
 pub three_stored : (room : List ℤ) (at e : ℕ) (a b : ℤ) → e < 2147483647 → mag a < 2 ^ 31 → mag b < 2 ^ 31
     → set (set (set room at (to_z w32 e)) (at + 1) (to_z w32 (of_z w32 a))) (at + 2) (to_z w32 (of_z w32 b)) ≡ sets room at (pos e ∷ a ∷ b ∷ [])

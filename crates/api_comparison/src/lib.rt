@@ -1,3 +1,5 @@
+#![tactic(auto)]
+
 // Two grids compared, without a source: the entries in which they differ, in rising order.
 ghost use Rattle.std.specs.Prelude.{◌≡◌, [], ◌∷◌, ◌+◌, ◌*◌, ◌<◌, ◌≤◌, length, pos};
 ghost use Rattle.std.proofs.lemmas.List.Edits.{sets};
@@ -14,6 +16,7 @@ pub struct Comparison {
 }
 
 // Whether grids and a room of these lengths can be compared. 3k could be over the greatest usize, so the room is divided.
+#[tactic(auto, unfolding(crate::specs::Differences::comparable))]
 fn can_compare(left: usize, right: usize, k: usize, room: usize) -> bool
     ensures { result ≡ comparable left right k room }
 {

@@ -1,3 +1,5 @@
+#![tactic(auto)]
+
 // Entries of a slice that a caller lends for a call's numbers.
 ghost use Rattle.std.specs.Prelude.{◌≡◌, [], ◌∷◌, set};
 ghost use Rattle.api_entries.specs.Over.{over};

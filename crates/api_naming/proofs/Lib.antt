@@ -1,2 +1,1 @@
 -- The laws by which the functions are proved.
-mod RanRow

@@ -1,3 +1,5 @@
+#![tactic(auto)]
+
 // The public calls for programs: they pass the row of records by value, and it is passed on by reference.
 ghost use Rattle.std.specs.Prelude.{◌≡◌, length};
 ghost use Rattle.value.specs.Limits.{most_names};

@@ -1,4 +1,3 @@
 -- The laws by which the functions are proved, by topic.
 pub mod RowLaws
 pub mod LookupLaws
-pub mod NameRow

@@ -9,7 +9,7 @@ use lib.Dec.{eqb, ltb}
 use lib.ListN.{get_or}
 use borrow.Author.Tests.{eq-eqb, ne_eqb, eqb-true, eqb-false, ltb-true, ltb-false}
 use Rattle.value.specs.Limits.{most_names}
-use Rattle.value.specs.Choice.{if◌then◌else◌}
+use Rattle.std.specs.Prelude.{if◌then◌else◌}
 use Rattle.value.specs.Worked.{encode_of}
 use Rattle.api_records.specs.declared.Name.{Name}
 use Rattle.api_records.specs.Rows.{no_name, counted_on, count_below, record_count, is_at, is_field_record, FindsFirst}

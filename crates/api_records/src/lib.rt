@@ -1,3 +1,5 @@
+#![tactic(auto)]
+
 // The names of a source as a row of records: made of the flat words of a name list, stored, and looked up. After acceptance no index variable is
 // among them: an index has a record only while its loop is open.
 
@@ -5,7 +7,7 @@ pub mod lookup;
 pub mod rows;
 
 // A name: the place of its first byte, its length, its kind, 0 where no name is declared, and its value.
-#[derive(Drop)]
+#[derive(Clone, Copy)]
 pub struct Name {
     pub start: u32,
     pub length: u32,

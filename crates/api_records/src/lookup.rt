@@ -98,6 +98,7 @@ fn field_found(n: u32, r: Name, number: u32, k: u32) -> u32
 }
 
 // How many names are declared.
+#[tactic(auto, using(crate::proofs::LookupLaws::count_few, crate::proofs::LookupLaws::count_is))]
 pub fn count(names: &[Name]) -> u32
     ensures { result ≡ record_count names.now }
 {

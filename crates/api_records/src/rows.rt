@@ -40,6 +40,7 @@ pub fn rows_of(flat: &[u32; NAME_WORDS]) -> [Name; MOST_NAMES]
 }
 
 // The first records of `names` are replaced by those of `rows`, so many of them.
+#[tactic(auto, using(crate::proofs::RowLaws::filled, crate::proofs::RowLaws::filled_is))]
 pub fn store_first(names: &mut [Name], rows: [Name; MOST_NAMES], count: usize)
     requires { (count ≤ most_names) × (count ≤ length names.old) }
     ensures { names.new ≡ take count rows ++ drop count names.old }

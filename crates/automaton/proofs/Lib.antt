@@ -1,2 +1,3 @@
 -- The theorems.
 pub mod Theorems
+pub mod ShapeLaws

@@ -1,5 +1,5 @@
 -- A band's call, by the ways through its code.
-use Prim.Native.Nat.{ℕ, suc, ◌+◌, ◌-◌, ◌*◌, ◌≤◌, ◌<◌}
+use Prim.Native.Nat.{ℕ, suc, ◌+◌, ◌*◌, ◌≤◌, ◌<◌}
 use native.Mathlib.Omega.{arith}
 use native.Mathlib.Nat.{mul-le-mul, mul-le-mul_right, mul-le-mul_left, add-mul}
 use mathlib.Core.Path.{◌≡◌, refl, sym, ap, ap₂, ◌∙◌, subst}
@@ -12,19 +12,17 @@ use mir.Syntax.{w64}
 use mir.Val.{SFits, to_z, of_z}
 use mir.Facts.{to_z-of_z}
 use borrow.Author.Tests.{eq-eqb, ne_eqb, not-true, not-false}
-use Rattle.value.specs.Choice.{if◌then◌else◌}
-use Rattle.automaton.specs.Step as automaton
+use Rattle.std.specs.Prelude.{if◌then◌else◌}
 use Rattle.automaton.specs.Step.{Fault, no_fault, fault_at}
 use Rattle.automaton.specs.Shape.{product, Bound}
-use Rattle.automaton.specs.Promises.ShapeLaws.{Positive, product_pos}
-use Rattle.automaton.specs.Bands.{Band, rows_in, rows_with, reached, band_step}
+use Rattle.automaton.specs.Promises.ShapeLaws.{Positive}
+use Rattle.automaton.proofs.ShapeLaws.{product_pos}
+use Rattle.automaton.specs.Bands.{Band, rows_in, rows_with, reached}
 use Rattle.token.specs.Lexeme.{is_built_in}
 use Rattle.program.specs.Syntax.{Range, Program}
 use Rattle.grammar.specs.Checking.{rooms_fit, read_source, words_after}
 use Rattle.grammar.specs.Promises.Flat.{names_after}
-use Rattle.cell_meaning.specs.Evaluation.{evaluate}
 use Rattle.cell_meaning.specs.Promises.Leaves.{Leaves}
-use Rattle.cell_meaning.specs.Promises.Stands.{Holds}
 use Rattle.cell_meaning.specs.Written.{written_in}
 use Rattle.program.specs.Refusal.{Refusal, refusal}
 use Rattle.program.specs.declared.Rule.{Rule}

@@ -1,5 +1,5 @@
 -- The border rows of a program: how far its reach goes in the first dimension.
-use Rattle.std.specs.Prelude.{List, [], ◌∷◌, ℕ, ℤ, pos}
+use Rattle.std.specs.Prelude.{List, [], ◌∷◌, ℤ, pos}
 use Rattle.automaton.specs.Shape.{Bound}
 use Rattle.program.specs.Syntax.{range, Program}
 use Rattle.run_meaning.specs.Reach.{own_only, widen, reach}

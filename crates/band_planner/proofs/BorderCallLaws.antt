@@ -6,14 +6,14 @@ use mathlib.Core.List.{List}
 use lib.ListN.{length}
 use lib.Dec.{eqb}
 use borrow.Author.Tests.{eq-eqb, ne_eqb, not-true, not-false}
-use Rattle.value.specs.Choice.{if◌then◌else◌}
+use Rattle.std.specs.Prelude.{if◌then◌else◌}
 use Rattle.automaton.specs.Shape.{Bound}
 use Rattle.token.specs.Lexeme.{is_built_in}
 use Rattle.program.specs.Syntax.{Program}
 use Rattle.grammar.specs.Checking.{rooms_fit, read_source, words_after}
 use Rattle.grammar.specs.Promises.Flat.{names_after}
 use Rattle.program.specs.Refusal.{Refusal, refusal}
-use Rattle.run_calls.specs.Calls.{NameForm, flat_names, SourceLent, source_fits, names_left}
+use Rattle.run_calls.specs.Calls.{flat_names, SourceLent, source_fits}
 use Rattle.band_meaning.specs.OnSizes.{on_sizes, by_grid}
 use Rattle.band_meaning.specs.BorderCall.{Borders, no_borders, borders, borders_source, borders_left}
 use Rattle.band_planner.specs.declared.opening.RowsOpened.{RowsOpened}

@@ -19,7 +19,6 @@ use Rattle.run_meaning.specs.Admission.{too_far}
 use Rattle.run_calls.specs.Calls.{NameForm, flat_names, SourceLent, source_fits, names_left}
 use Rattle.read_source.specs.declared.checking.Reply.{Reply}
 use Rattle.band_meaning.specs.OnSizes.{on_sizes, by_grid}
-use Rattle.band_meaning.specs.Plans as plans
 use Rattle.band_meaning.specs.Plans.{rows, plan_right, plan_fits, check_plan, unplanned, put_plan, planned}
 use Rattle.band_meaning.specs.PlanCalls.{check_plan_source, plan_check_left, planned_source, planner_left}
 use Rattle.band_meaning.proofs.Theorems.PlanTheorems.{check_is, planned_is}

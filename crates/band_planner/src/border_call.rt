@@ -9,7 +9,7 @@ use crate::opening::open_rows;
 use spelling::is_built_in;
 
 // What is returned: the reply's number and place, and how many border rows a band has before and behind it.
-#[derive(Drop)]
+#[derive(Clone, Copy)]
 pub struct BorderRows {
     pub number: u32,
     pub place: u32,

@@ -8,7 +8,7 @@ use run_meaning::Reach;
 use value::limits::PLACES_LISTED;
 
 // How many border rows a band has before and behind it.
-#[derive(Drop)]
+#[derive(Clone, Copy)]
 pub struct Border {
     pub before: u32,
     pub behind: u32,

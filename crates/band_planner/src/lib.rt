@@ -1,3 +1,5 @@
+#![tactic(auto)]
+
 // Plans of bands of rows: the plan check, the planner, and the border rows of a band.
 
 mod border_call;

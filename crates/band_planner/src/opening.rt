@@ -12,7 +12,7 @@ use run_indices::surveying::survey;
 
 // Number 0: the source is accepted and the sizes are right. Then its rule; 23 at its place, if an index is too far, else 0 and 0; the number of rows; and
 // the border rows. Else number and place of the refusal.
-#[derive(Drop)]
+#[derive(Clone, Copy)]
 pub struct RowsOpened {
     pub number: u32,
     pub place: u32,

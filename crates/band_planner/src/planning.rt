@@ -11,7 +11,7 @@ use read_source::Reply;
 use spelling::is_built_in;
 
 // What the planner returns: the reply's number and place, and the number of bands.
-#[derive(Drop)]
+#[derive(Clone, Copy)]
 pub struct Planned {
     pub number: u32,
     pub place: u32,

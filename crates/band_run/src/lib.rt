@@ -1,3 +1,5 @@
+#![tactic(auto)]
+
 // A full run under a plan of bands of rows.
 
 mod rooms;

@@ -17,7 +17,7 @@ use Rattle.automaton.specs.Step.{Outcome, result, fault, Fault, no_fault, fault_
 use Rattle.automaton.proofs.Theorems.Quiet.{first_fault_at, first_fault_here, first_fault_ext}
 use Rattle.automaton.specs.Shape.{product, Bound}
 use Rattle.automaton.specs.Promises.ShapeLaws.{Shaped}
-use Rattle.automaton.specs.Grid.{cell_of, automaton}
+use Rattle.automaton.specs.Grid.{cell_of}
 use Rattle.automaton.specs.Bands.{Band, rows_with, runs_on, accepts, reached}
 use Rattle.program.specs.Syntax.{Program}
 use Rattle.program.specs.declared.Rule.{Rule}

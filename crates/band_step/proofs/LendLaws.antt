@@ -4,12 +4,12 @@ use native.Mathlib.Omega.{arith}
 use native.Mathlib.Nat.{mul-le-mul_right, mul_assoc, add-mul, add_assoc, mod-lt, mod-eq_of_lt, add-mod_right, mod-add-mod, div-lt_iff_lt-mul, div-add-mod'}
 use mathlib.Core.Path.{◌≡◌, refl, sym, ap, ap₂, ◌∙◌, subst}
 use mathlib.Core.Logic.{◌⊎◌, inl, inr}
-use mathlib.Core.Bool.{Bool, true, false, cond}
+use mathlib.Core.Bool.{Bool, true, false}
 use mathlib.Core.List.{List, [], ◌∷◌, ◌++◌}
 use lib.ListN.{length, get_or, take, drop, take-append-drop, length-append, length-drop}
 use lib.Seq.{ext_get_or, length-take-le, get_or-take, get_or-drop}
 use lib.Dec.{ltb}
-use borrow.Author.Tests.{ltb-true, ltb-false, lt-ltb, le-ltb}
+use borrow.Author.Tests.{ltb-true, ltb-false}
 use lib.IntN.{ℤ, pos, negsuc, sub_ℕ}
 use Rattle.value.specs.Worked.{wrap_of}
 use Rattle.automaton.specs.Promises.ListedLaws.{last_or_below, list_of_ext}
@@ -18,7 +18,7 @@ use Rattle.automaton.specs.Grid.{cell_of}
 use Rattle.automaton.proofs.Theorems.GridLaws.{some_field}
 use Rattle.automaton.specs.Promises.BandSteps.{rows_lent}
 use Rattle.run_marked_cells.proofs.PartLaws.{entry_before, paste_below, paste_inside, paste_above, flat_ext}
-use Rattle.band_step.specs.Promises.Lending.{RowFits, copied, Lending, with_rows}
+use Rattle.band_step.specs.Promises.Lending.{copied, Lending, with_rows}
 
 -- ---- one row
 

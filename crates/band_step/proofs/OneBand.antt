@@ -2,21 +2,21 @@
 use Prim.Native.Nat.{ℕ, suc, ◌+◌, ◌-◌, ◌*◌, ◌≤◌, ◌<◌}
 use native.Mathlib.Omega.{arith}
 use native.Mathlib.Nat.{le_refl, le_trans, mul-le-mul_right, mul-le-mul_left, add-mul, add_assoc}
-use mathlib.Core.Path.{◌≡◌, refl, sym, ap, ap₂, ◌∙◌, subst}
+use mathlib.Core.Path.{◌≡◌, refl, sym, ap, ◌∙◌, subst}
 use mathlib.Core.List.{List, [], ◌∷◌, ◌++◌, Memᴰ}
-use lib.ListN.{length, get_or, take, drop, length-append, length-drop, get_or-append}
-use lib.Seq.{length-take-le}
+use lib.ListN.{length, get_or, take, drop, get_or-append}
 use lib.IntN.{ℤ, pos}
 use Rattle.automaton.specs.Promises.ListedLaws.{length_list_of, list_of_ext}
 use Rattle.automaton.specs.Step as automaton
 use Rattle.automaton.specs.Step.{Outcome, result, fault, Fault, no_fault, fault_of, state_or, first_fault}
 use Rattle.automaton.proofs.Theorems.Quiet.{first_fault_none}
-use Rattle.automaton.specs.Shape.{product, Bound, neighbour}
-use Rattle.automaton.specs.Promises.ShapeLaws.{Positive, product_pos}
+use Rattle.automaton.specs.Shape.{product, Bound}
+use Rattle.automaton.specs.Promises.ShapeLaws.{Positive}
+use Rattle.automaton.proofs.ShapeLaws.{product_pos}
 use Rattle.automaton.specs.Grid.{cell_of, grid_of}
 use Rattle.automaton.proofs.Theorems.GridLaws.{Bounded, cell_of_grid_of, cell_length}
-use Rattle.automaton.specs.Bands.{Band, rows_in, rows_with, reached, next_rows, part_step, band_step}
-use Rattle.automaton.specs.Promises.BandSteps.{rows_lent, band_of}
+use Rattle.automaton.specs.Bands.{Band, rows_in, rows_with, next_rows, part_step, band_step}
+use Rattle.automaton.specs.Promises.BandSteps.{rows_lent}
 use Rattle.automaton.proofs.Theorems.BandLaws.{Edged, band_step_same, band_is}
 use Rattle.program.specs.Syntax.{Program}
 use Rattle.program.specs.declared.Rule.{Rule}
@@ -25,11 +25,9 @@ use Rattle.run_meaning.specs.Reach.{reach}
 use Rattle.run_meaning.proofs.Theorems.Locality.{evaluate_bounded}
 use Rattle.run_meaning.proofs.Theorems.Covering.{reach_covers}
 use Rattle.run_meaning.specs.Promises.Fitting.{held_fields}
-use Rattle.band_meaning.specs.Edge.{edge}
 use Rattle.band_meaning.proofs.Theorems.EdgeTheorems.{edged}
 use Rattle.run_marked_cells.proofs.PartLaws.{entry_before, paste_below, paste_inside}
 use Rattle.run_step.specs.declared.Step.{Step}
-use Rattle.run_step.specs.Promises.Stepping.{fault_in, count_in}
 use Rattle.run_step.specs.Promises.Turns.{given}
 use Rattle.run_step.specs.Promises.Rows.{RowsReady, RowsStepped}
 use Rattle.band_step.specs.Promises.Lending.{Lending, with_rows}

@@ -1,3 +1,5 @@
+#![tactic(auto)]
+
 // One step made of bands of rows, each by the rows that it is passed.
 
 pub mod lending;

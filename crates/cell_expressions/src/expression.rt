@@ -112,7 +112,7 @@ pub fn quick(
 }
 
 // The expression at a position, of operators of a level or tighter.
-#[cycle(bracket_chain_expression_operand_primary)]
+#[cycle(expressions)]
 fn expression(
     leaves: &[u32; LEAF_WORDS],
     words: &[u32],
@@ -142,7 +142,7 @@ fn expression(
 
 // The expression at a position, of operators of a level or tighter, worked out by every way that an expression can go. Operators of one level go
 // from left to right.
-#[cycle(bracket_chain_expression_operand_primary)]
+#[cycle(expressions)]
 pub fn chain(
     leaves: &[u32; LEAF_WORDS],
     words: &[u32],
@@ -200,7 +200,7 @@ pub fn chain(
 }
 
 // The operand at a position: a primary with at most one unary operator.
-#[cycle(bracket_chain_expression_operand_primary)]
+#[cycle(expressions)]
 fn operand(
     leaves: &[u32; LEAF_WORDS],
     words: &[u32],
@@ -251,7 +251,7 @@ fn primary_from(kind: u32, at: usize) -> usize
 }
 
 // The primary at a position.
-#[cycle(bracket_chain_expression_operand_primary)]
+#[cycle(expressions)]
 fn primary(
     leaves: &[u32; LEAF_WORDS],
     words: &[u32],
@@ -317,7 +317,7 @@ fn primary(
 }
 
 // The expression between the opening token at a position and a token of the closing kind.
-#[cycle(bracket_chain_expression_operand_primary)]
+#[cycle(expressions)]
 fn bracket(
     leaves: &[u32; LEAF_WORDS],
     words: &[u32],

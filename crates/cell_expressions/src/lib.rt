@@ -1,3 +1,5 @@
+#![tactic(auto)]
+
 // Evaluating one cell, off the word table: expressions.
 
 pub mod expression;

@@ -1,3 +1,5 @@
+#![tactic(auto)]
+
 // Filling the leaf table: for each position of the word table, what operand stands there by itself.
 ghost use Rattle.std.specs.Prelude.{◌*◌, ◌≤◌, length};
 ghost use Rattle.value.specs.Limits.{most_tokens, most_dims};
@@ -13,7 +15,7 @@ mod shaping;
 mod writing;
 
 // The first four words of a position: the sort of the operand there, its number, slot or field, the position past it, and the level of the operator there.
-#[derive(Drop)]
+#[derive(Clone, Copy)]
 pub struct Leaf {
     pub sort: u32,
     pub word: u32,

@@ -49,6 +49,7 @@ fn write_shape(leaves: &mut [u32], p: usize, shape: u32)
 }
 
 // Writes word 7 of each position, the shape of the expression there.
+#[tactic(auto, using(crate::proofs::ShapingLaws::shaped_more))]
 pub fn write_shapes(leaves: &mut [u32; LEAF_WORDS], n: usize)
     requires { (n ≤ most_tokens) × Linked n leaves.old }
     ensures { LeafShaped (n + 1) leaves.old leaves.new }

@@ -1,1 +1,3 @@
+#![tactic(auto)]
+
 // What a program means for one cell: definitions, in specs/.

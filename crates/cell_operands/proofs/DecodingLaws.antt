@@ -6,7 +6,7 @@ use mathlib.Core.Bool.{Bool, true, false, ◌||◌}
 use lib.Dec.{eqb}
 use borrow.Author.Tests.{lt-ltb, le-ltb, eqb-true}
 use Rattle.token.specs.Kind.{level_of}
-use Rattle.value.specs.Choice.{if◌then◌else◌}
+use Rattle.std.specs.Prelude.{if◌then◌else◌}
 use Rattle.program.specs.Syntax.{Expr, element, unary, binary}
 use Rattle.cell_meaning.specs.Promises.Stands.{array_in, is_sign_kind, is_unary, Decoded, parsed, nothing, then_decode, decode_expression, decode_chain, decode_operand, decode_primary, decode_name, decode_bracket}
 use Rattle.cell_meaning.specs.Links.{Table}

@@ -11,14 +11,15 @@ use lib.Seq.{get_or-take, drop-cons}
 use lib.IntN.{ℤ, pos, negsuc, sub_ℕ}
 use lib.Signed.{mag}
 use borrow.Author.Tests.{eq-eqb, ne_eqb}
-use Rattle.value.specs.Choice.{if◌then◌else◌}
+use Rattle.std.specs.Prelude.{if◌then◌else◌}
 use Rattle.value.specs.Worked.{value, encode_of, decode_of, wrap_of}
 use Rattle.value.specs.declared.Value.{Value}
 use Rattle.value.specs.Number.{mod_z}
 use Rattle.value.proofs.Theorems.Laws.{sub_le, sub_lt}
 use Rattle.automaton.specs.Promises.ListedLaws.{length_list_of, get_d_list_of}
 use Rattle.automaton.specs.Shape.{product, cell_number, shift}
-use Rattle.automaton.specs.Promises.ShapeLaws.{inside_length, Inside, Positive, Alike, product_pos, number_lt, shift_inside}
+use Rattle.automaton.specs.Promises.ShapeLaws.{Inside, Positive, Alike}
+use Rattle.automaton.proofs.ShapeLaws.{inside_length, product_pos, number_lt, shift_inside}
 use Rattle.automaton.specs.Grid.{cell_of}
 use Rattle.program.specs.Syntax.{Index, fixed, moving}
 use Rattle.cell_meaning.specs.Evaluation.{entry, offset, offsets}
@@ -129,7 +130,11 @@ some_left (n ∷ ns) (i ∷ is) h zero = product_pos (n ∷ ns) (inside_positive
     inside_positive : (ns is : List ℕ) → Inside ns is → Positive ns
     inside_positive [] [] h = tt
     inside_positive (n ∷ ns) (i ∷ is) h = (omega (arith, h.0), inside_positive ns is h.1)
+    inside_positive [] (i ∷ is) h = elim h [ ]
+    inside_positive (n ∷ ns) [] h = elim h [ ]
 some_left (n ∷ ns) (i ∷ is) h (suc k) = some_left ns is h.1 k
+some_left [] (i ∷ is) h k = elim h [ ]
+some_left (n ∷ ns) [] h k = elim h [ ]
 
 offsets_alike : (ns : List ℕ) (vs : List ℤ) (is : List Index) → Alike ns (offsets (length ns) vs is)
 unfolding offsets

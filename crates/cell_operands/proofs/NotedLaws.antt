@@ -10,13 +10,14 @@ use lib.Seq.{drop-cons}
 use lib.IntN.{ℤ}
 use Rattle.automaton.specs.Step.{result}
 use Rattle.token.specs.Kind.{level_of}
-use Rattle.value.specs.Choice.{if◌then◌else◌}
+use Rattle.std.specs.Prelude.{if◌then◌else◌}
 use Rattle.value.specs.Worked.{value, decode_of, wrap_of}
 use Rattle.value.specs.declared.Value.{Value}
 use Rattle.value.proofs.Theorems.Laws.{wrap_below}
 use Rattle.value.specs.Number.{mod_z}
 use Rattle.automaton.specs.Shape.{product, cell_number, shift, neighbour}
-use Rattle.automaton.specs.Promises.ShapeLaws.{inside_at, Inside, wrap_mod}
+use Rattle.automaton.specs.Promises.ShapeLaws.{Inside}
+use Rattle.automaton.proofs.ShapeLaws.{inside_at, wrap_mod}
 use Rattle.automaton.specs.Grid.{cell_of}
 use Rattle.program.specs.Syntax.{Expr, number, variable, field}
 use Rattle.cell_meaning.specs.Evaluation.{Env, entry, offset, offsets, eval}

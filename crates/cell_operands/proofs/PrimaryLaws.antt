@@ -13,7 +13,8 @@ use Rattle.value.specs.Worked.{value, encode_of, decode_of}
 use Rattle.value.specs.declared.Value.{Value}
 use Rattle.automaton.specs.Step.{Outcome, result, fault}
 use Rattle.automaton.specs.Shape.{cell_number, shift, neighbour}
-use Rattle.automaton.specs.Promises.ShapeLaws.{Inside, coordinates_inside, zeros, neighbour_zeros}
+use Rattle.automaton.specs.Promises.ShapeLaws.{Inside, zeros}
+use Rattle.automaton.proofs.ShapeLaws.{coordinates_inside, neighbour_zeros}
 use Rattle.automaton.specs.Grid.{cell_of}
 use Rattle.program.specs.Syntax.{Expr, number, time, variable, index, field}
 use Rattle.cell_meaning.specs.Evaluation.{Env, entry, offsets, element_at, eval}

@@ -1,3 +1,5 @@
+#![tactic(auto)]
+
 // Evaluating one cell, off the word table: what the table holds, operators, and operands.
 
 pub mod neighbour;
@@ -11,7 +13,7 @@ use value::Value;
 
 // What stays the same while a cell is evaluated: the position of the token that has the first field's range, the numbers of fields and of slots, the
 // cell's number, the number of tokens, and the time.
-#[derive(Drop)]
+#[derive(Clone, Copy)]
 pub struct Site {
     pub base: usize,
     pub fields: usize,
@@ -22,7 +24,7 @@ pub struct Site {
 }
 
 // A value with the position past the expression, or a fault's number and place.
-#[derive(Drop)]
+#[derive(Clone, Copy)]
 pub enum Told {
     Found(Value, usize),
     Failed(u32, u32),

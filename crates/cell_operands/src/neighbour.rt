@@ -84,6 +84,7 @@ fn element_value(
 }
 
 // The position of the element after the one at a position.
+#[tactic(auto, using(crate::proofs::NeighbourLaws::after_sign, crate::proofs::NeighbourLaws::after_other))]
 pub fn element_after(words: &[u32], n: usize, dims: usize, at: usize) -> usize
     requires { (4 * n ≤ length words.now) × (n ≤ most_tokens) × (at ≤ 8192) }
     ensures { (result ≡ next_index (table_of words.now n dims) at) × (result ≤ at + 3) }
@@ -95,6 +96,7 @@ pub fn element_after(words: &[u32], n: usize, dims: usize, at: usize) -> usize
 }
 
 // The number of the cell at the relative index whose elements begin at a position, by the sizes and the own coordinates.
+#[tactic(auto, using(crate::proofs::NeighbourLaws::steps_more, crate::proofs::NeighbourLaws::number_small))]
 fn neighbour_number(
     words: &[u32],
     n: usize,
@@ -123,6 +125,7 @@ fn neighbour_number(
 }
 
 // A field that there is, of a cell in the grid.
+#[tactic(auto, using(crate::proofs::NeighbourLaws::field_entry))]
 pub fn entry_of(grid: &[i32], cell: usize, fields: usize, field: usize) -> Value
     requires { (cell * fields + fields ≤ length grid.now) × (field < fields) }
     ensures { result ≡ value (entry (cell_of fields grid.now cell) field) }

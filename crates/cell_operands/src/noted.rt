@@ -117,6 +117,7 @@ pub fn simple_value(
 }
 
 // The operand that is noted at a position. Where none is, a fault is returned, which says nothing.
+#[tactic(auto, using(crate::proofs::NotedLaws::noted_found, crate::proofs::NotedLaws::noted_none))]
 pub fn noted(
     leaves: &[u32; LEAF_WORDS],
     words: &[u32],

@@ -12,6 +12,7 @@ use token::kind;
 use value::{Value, Worked};
 
 // Whether a token of this kind is a sign.
+#[tactic(auto, unfolding(cell_meaning::specs::Promises::Stands::is_sign_kind))]
 pub fn is_sign(kind: u32) -> bool
     ensures { result ≡ is_sign_kind kind }
 {
@@ -32,6 +33,7 @@ pub fn is_unary(kind: u32) -> bool
 }
 
 // A unary operator on a value.
+#[tactic(auto, unfolding(cell_meaning::specs::Operators::apply_unary))]
 fn apply_unary(op: u32, a: Value) -> Worked
     ensures { result ≡ apply_unary op a.n }
 {
@@ -45,6 +47,7 @@ fn apply_unary(op: u32, a: Value) -> Worked
 }
 
 // A relation or logic on two values.
+#[tactic(auto, unfolding(cell_meaning::specs::Operators::compare))]
 pub fn compare(op: u32, a: Value, b: Value) -> Value
     ensures { result ≡ compare op a.n b.n }
 {
@@ -73,6 +76,7 @@ pub fn compare(op: u32, a: Value, b: Value) -> Value
 }
 
 // A binary operator on two values.
+#[tactic(auto, unfolding(cell_meaning::specs::Operators::apply_binary))]
 fn apply_binary(op: u32, a: Value, b: Value) -> Worked
     ensures { result ≡ apply_binary op a.n b.n }
 {

@@ -118,6 +118,7 @@ fn plain(
 }
 
 // The operand at a position, if it is a literal, a name, a relative index, `cell` or `time` alone. Else a fault is returned, which says nothing.
+#[tactic(auto, using(crate::proofs::TableLaws::token, crate::proofs::LeafLaws::leaf_unary, crate::proofs::LeafLaws::leaf_name, crate::proofs::LeafLaws::leaf_plain))]
 pub fn leaf(
     leaves: &[u32; LEAF_WORDS],
     words: &[u32],

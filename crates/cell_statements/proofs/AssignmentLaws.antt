@@ -11,7 +11,7 @@ use lib.ListN.{get_or, set, take, length-take, get_or-eq_default}
 use lib.Seq.{set_out, take-set-lt}
 use lib.IntN.{ℤ, pos}
 use borrow.Author.Tests.{eq-eqb, ne_eqb}
-use Rattle.value.specs.Choice.{if◌then◌else◌}
+use Rattle.std.specs.Prelude.{if◌then◌else◌}
 use Rattle.value.specs.Number.{within}
 use Rattle.value.specs.Worked.{value, truth, decode_of}
 use Rattle.value.specs.declared.Value.{Value}

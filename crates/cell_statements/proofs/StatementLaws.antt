@@ -10,7 +10,7 @@ use lib.ListN.{length, get_or, set, take, length-set}
 use lib.Seq.{take-suc, take-set-le, get_or-set_same}
 use lib.IntN.{ℤ, pos, ◌+ℤ◌, +ℤ_assoc, +ℤ_idr}
 use borrow.Author.Tests.{ne_eqb, eqb-true}
-use Rattle.value.specs.Choice.{if◌then◌else◌}
+use Rattle.std.specs.Prelude.{if◌then◌else◌}
 use Rattle.value.specs.Worked.{value, truth, decode_of, span_of}
 use Rattle.value.specs.declared.Value.{Value}
 use Rattle.automaton.specs.Step.{Outcome, result, fault}

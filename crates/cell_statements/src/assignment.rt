@@ -185,7 +185,7 @@ fn assign_one(
 }
 
 // What the condition of a clause or an arm says.
-#[derive(Drop)]
+#[derive(Clone, Copy)]
 pub enum Verdict {
     Holds,
     Fails,

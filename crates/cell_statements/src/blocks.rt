@@ -49,7 +49,7 @@ fn set_index(index: &mut [i32], depth: usize, low: Value, high: Value, k: u64)
 }
 
 // Where an `if` goes on: with a list of statements at a position; with none; or not at all, after a fault.
-#[derive(Drop)]
+#[derive(Clone, Copy)]
 pub enum Chosen {
     List(usize),
     Nothing,
@@ -108,7 +108,7 @@ fn choose(
 }
 
 // The statements from a position on, to the end of their list. At an `if`, the position after it is kept on a stack, and the statements that are chosen come next; where the stack is full, they are run by a call.
-#[cycle(block_forall_statement)]
+#[cycle(statements)]
 pub fn block(
     leaves: &[u32; LEAF_WORDS],
     words: &[u32],
@@ -182,7 +182,7 @@ pub fn block(
 }
 
 // The statement at a position, whose kind begins one, but for `if`.
-#[cycle(block_forall_statement)]
+#[cycle(statements)]
 fn statement(
     leaves: &[u32; LEAF_WORDS],
     words: &[u32],
@@ -217,7 +217,7 @@ fn statement(
 }
 
 // The loop at a `forall`.
-#[cycle(block_forall_statement)]
+#[cycle(statements)]
 fn forall(
     leaves: &[u32; LEAF_WORDS],
     words: &[u32],

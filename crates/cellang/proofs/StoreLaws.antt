@@ -10,7 +10,7 @@ use lib.ListN.{length, take, drop, replicate, length-replicate}
 use borrow.Author.Tests.{eq-eqb, ne_eqb, eqb-true, lt-ltb, le-ltb, not-true, not-false}
 use Rattle.value.proofs.Theorems.Truth.{and_false}
 use Rattle.value.specs.Limits.{most_bytes, table_words, most_names, name_words}
-use Rattle.value.specs.Choice.{if◌then◌else◌}
+use Rattle.std.specs.Prelude.{if◌then◌else◌}
 use Rattle.value.proofs.Theorems.Laws.{never}
 use Rattle.token.specs.Lexeme.{is_built_in}
 use Rattle.grammar.specs.Reader.{Result, ok, fail}

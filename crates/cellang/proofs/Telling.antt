@@ -104,7 +104,7 @@ pub told_on : {manner : Manner} {source list sizes values : List ℕ} {m : Memor
     → TellsRun manner (lent source list sizes m values (to_z w64 (of_z w64 start)) (to_z w64 (of_z w64 steps)) counted field) entries r m' entries'
     → TellsRun manner (lent source list sizes m values start steps counted field) entries r m' entries'
 told_on {manner} {source} {list} {sizes} {values} {m} {start} {steps} {counted} {field} {entries} {entries'} {r} {m'} a b =
-    subst₂ (λ (s n : ℤ). TellsRun manner (lent source list sizes m values s n counted field) entries r m' entries') (to_z-of_z a) (to_z-of_z b)
+    subst₂ (λ (s n : ℤ). TellsRun manner (lent source list sizes m values s n counted field) entries r m' entries') (to_z-of_z {w = w64} a) (to_z-of_z {w = w64} b)
 
 -- the grid that it leaves has each field in its range
 pub tells_ranges : {manner : Manner} {l : Lent ℕ} {entries entries' : List ℕ} {r : ℕ} {m : Memory ℕ} → TellsRun manner l entries r m entries' → RangesKept l.source (read_lent flat_names l) (asked l) m.grid
@@ -135,7 +135,7 @@ pub read_time : {source list sizes : List ℕ} {earlier later : List ℤ} {time 
     → WriterLeaves flat_names (source_lent source list ws ns) (wanted sizes earlier later (to_z w64 (of_z w64 time))) room said ws' ns' room'
     → WriterLeaves flat_names (source_lent source list ws ns) (wanted sizes earlier later time) room said ws' ns' room'
 read_time {source} {list} {sizes} {earlier} {later} {time} {ws} {ns} {room} {ws'} {ns'} {room'} {said} a =
-    subst (λ (z : ℤ). WriterLeaves flat_names (source_lent source list ws ns) (wanted sizes earlier later z) room said ws' ns' room') (to_z-of_z a)
+    subst (λ (z : ℤ). WriterLeaves flat_names (source_lent source list ws ns) (wanted sizes earlier later z) room said ws' ns' room') (to_z-of_z {w = w64} a)
 
 pub tells_written : {source list : List ℕ} {sizes : List ℕ} {earlier later : List ℤ} {time : ℤ} {ws ns room entries ws' ns' room' entries' : List ℕ} {said : Written} {t : Told} → SFits w64 time
     → WriterLeaves flat_names (source_lent source list ws ns) (wanted sizes earlier later (to_z w64 (of_z w64 time))) room said ws' ns' room' → told_entries t ≡ part_entries (part_at source said.number said.place)
@@ -177,7 +177,7 @@ pub tells_band : {source list ws ns sizes : List ℕ} {first last held : ℕ} {r
     → entries' ≡ over (said.number ∷ said.place ∷ said.cell ∷ said.steps ∷ said.count ∷ told_entries t ++ said.line ∷ []) entries
     → TellsRoom (band_left flat_names (source_lent source list ws ns) (band_asked sizes first last held rows room time)) (report_entries source) (λ (x : report.Report). x.grid) entries said.number ws' ns' room' entries'
 tells_band {source} {list} {ws} {ns} {sizes} {first} {last} {held} {rows} {room} {entries = entries} {ws'} {ns'} {room' = room'} {said = said} a h p e =
-    let k = subst (λ (z : ℤ). BandLeaves flat_names (source_lent source list ws ns) (band_asked sizes first last held rows room z) said ws' ns' room') (to_z-of_z a) h in
+    let k = subst (λ (z : ℤ). BandLeaves flat_names (source_lent source list ws ns) (band_asked sizes first last held rows room z) said ws' ns' room') (to_z-of_z {w = w64} a) h in
     record {
       tells = tells_source (report_entries source) k.is
           (e ∙ ap (λ (l : List ℕ). over (said.number ∷ said.place ∷ said.cell ∷ said.steps ∷ said.count ∷ l ++ said.line ∷ []) entries) p);
@@ -190,7 +190,7 @@ pub tells_banded : {source list sizes values plan : List ℕ} {m m' : Memory ℕ
     → entries' ≡ over (said.number ∷ said.place ∷ said.cell ∷ said.steps ∷ said.count ∷ told_entries t ++ said.line ∷ []) entries
     → TellsBanded (banded_lent (lent source list sizes m values start steps counted field) held plan room) entries said.number m' room' entries'
 tells_banded {source} {list} {sizes} {values} {plan} {m} {m'} {start} {steps} {counted} {field} {held} {room} {room'} {entries} {said = said} a b h p e =
-    let k = subst₂ (λ (y z : ℤ). BandedLeaves flat_names (banded_lent (lent source list sizes m values y z counted field) held plan room) said m' room') (to_z-of_z a) (to_z-of_z b) h in
+    let k = subst₂ (λ (y z : ℤ). BandedLeaves flat_names (banded_lent (lent source list sizes m values y z counted field) held plan room) said m' room') (to_z-of_z {w = w64} a) (to_z-of_z {w = w64} b) h in
     record {
       tells = record {
         number = ap (λ x. x.left.report.number) k.is;

@@ -1,7 +1,7 @@
 -- Whether a row of records has room, and how many records are stored in it.
 use Rattle.std.specs.Prelude.{Bool, not, ◌&&◌, List, ℕ, eqb, ltb}
 use Rattle.value.specs.Limits.{most_bytes, table_words, most_names}
-use Rattle.value.specs.Choice.{if◌then◌else◌}
+use Rattle.std.specs.Prelude.{if◌then◌else◌}
 use Rattle.token.specs.Lexeme.{is_built_in}
 use Rattle.cellang.specs.Left.{rows_fit}
 

@@ -1,3 +1,5 @@
+#![tactic(auto)]
+
 // Rules in Cellang, checked and run, and value lists written, and whether a rule moves a pixel once: with the names of a source as a row of records, and for programs in other languages.
 // And two grids compared.
 

@@ -7,89 +7,98 @@ use tool_console::texts::{complain, complain_number, say, say_number};
 use tool_text::put_value;
 use value::Value;
 
-fn say_value(n: i32) {
+fn say_value(rt: &HostRuntime, n: i32) {
     let mut text = [0u8; 12];
     let end = put_value(&mut text, 0, n);
     let length = of_bytes(end, &text);
-    say(&text[..length]);
+    say(rt, &text[..length]);
 }
 
 // Writes that two grids cannot be compared, by how many entries they have.
-pub fn tell_lengths(left: usize, right: usize) {
-    say(b"reply 21: the grids do not have equally many entries, but ");
-    say_number(left as u64);
-    say(b" and ");
-    say_number(right as u64);
-    say(b"\n");
+pub fn tell_lengths(rt: &HostRuntime, left: usize, right: usize) {
+    say(
+        rt,
+        b"reply 21: the grids do not have equally many entries, but ",
+    );
+    say_number(rt, left as u64);
+    say(rt, b" and ");
+    say_number(rt, right as u64);
+    say(rt, b"\n");
 }
 
 // Whether the entries of a grid are shared out evenly over cells. If not, that is said.
-pub fn shares(entries: usize, cells: usize) -> bool {
+pub fn shares(rt: &HostRuntime, entries: usize, cells: usize) -> bool {
     if cells > 0 {
         if entries % cells == 0 {
             return true;
         }
     }
-    complain(b"compare_grids: the cells of SHAPE do not share the ");
-    complain_number(entries as u64);
-    complain(b" entries of a grid evenly\n");
+    complain(rt, b"compare_grids: the cells of SHAPE do not share the ");
+    complain_number(rt, entries as u64);
+    complain(rt, b" entries of a grid evenly\n");
     false
 }
 
 // Writes how many entries differ.
-pub fn tell_total(total: u32, entries: usize) {
-    say(b"differing entries: ");
-    say_number(wide(total));
-    say(b" of ");
-    say_number(entries as u64);
-    say(b"\n");
+pub fn tell_total(rt: &HostRuntime, total: u32, entries: usize) {
+    say(rt, b"differing entries: ");
+    say_number(rt, wide(total));
+    say(rt, b" of ");
+    say_number(rt, entries as u64);
+    say(rt, b"\n");
 }
 
 // Writes the cell of an entry, and the field where a cell has more than one. Without sizes nothing is written.
-fn say_site(entry: u32, sizes: &[u32], fields: usize) {
+fn say_site(rt: &HostRuntime, entry: u32, sizes: &[u32], fields: usize) {
     if sizes.len() == 0 {
         return;
     }
     if fields == 1 {
-        say(b", cell ");
-        say_cell(entry, sizes);
+        say(rt, b", cell ");
+        say_cell(rt, entry, sizes);
         return;
     }
     if fields <= 786432 {
-        say_field(entry, sizes, fields as u32);
+        say_field(rt, entry, sizes, fields as u32);
     }
 }
 
 // Writes difference n of those that are listed in a room.
-fn tell_difference(room: &[i32; 60], n: usize, sizes: &[u32], fields: usize)
+fn tell_difference(rt: &HostRuntime, room: &[i32; 60], n: usize, sizes: &[u32], fields: usize)
     requires { n < 20 }
 {
     let at = 3 * n;
     let entry = Value { n: room[at] }.encode();
-    say(b"entry ");
-    say_number(wide(entry));
-    say_site(entry, sizes, fields);
-    say(b": left ");
-    say_value(room[at + 1]);
-    say(b", right ");
-    say_value(room[at + 2]);
-    say(b"\n");
+    say(rt, b"entry ");
+    say_number(rt, wide(entry));
+    say_site(rt, entry, sizes, fields);
+    say(rt, b": left ");
+    say_value(rt, room[at + 1]);
+    say(rt, b", right ");
+    say_value(rt, room[at + 2]);
+    say(rt, b"\n");
 }
 
 // Writes the differences that are listed in a room.
-pub fn tell_differences(room: &[i32; 60], total: u32, sizes: &[u32], fields: usize) {
+pub fn tell_differences(
+    rt: &HostRuntime,
+    room: &[i32; 60],
+    total: u32,
+    sizes: &[u32],
+    fields: usize,
+) {
     let mut n: u32 = 0;
     while n < 20 && n < total {
-        tell_difference(room, n as usize, sizes, fields);
+        tell_difference(rt, room, n as usize, sizes, fields);
         n += 1;
     }
 }
 
 // Writes how many differences there are beside those listed.
-pub fn tell_more(total: u32) {
+pub fn tell_more(rt: &HostRuntime, total: u32) {
     if total > 20 {
-        say(b"and ");
-        say_number(wide(total - 20));
-        say(b" more\n");
+        say(rt, b"and ");
+        say_number(rt, wide(total - 20));
+        say(rt, b" more\n");
     }
 }

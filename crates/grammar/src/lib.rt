@@ -1,1 +1,3 @@
+#![tactic(auto)]
+
 // What a source means, or the reply that refuses it: definitions only, in specs/.

@@ -11,7 +11,7 @@ use lib.Seq.{drop-cons, drop-drop}
 use lib.IntN.{ℤ}
 use lib.Dec.{eqb, leb, ltb}
 use borrow.Author.Tests.{ne_eqb, lt-ltb, le-ltb, le-leb, lt-leb}
-use Rattle.value.specs.Choice.{if◌then◌else◌}
+use Rattle.std.specs.Prelude.{if◌then◌else◌}
 use Rattle.program.specs.Syntax.{Range}
 use Rattle.automaton.specs.Shape as shape
 use Rattle.automaton.specs.Shape.{product}
@@ -19,7 +19,8 @@ use Rattle.list_meaning.specs.Text.{Piece, literal, sign, with_piece, pieces}
 use Rattle.list_meaning.specs.Lines.{Said, bad, time, cell, Indexed, indices, values, assigned, cell_with, cell_of_index, said_by, said_in, said}
 use Rattle.list_meaning.specs.Text as text
 use Rattle.list_meaning.specs.ListChecking.{Limits, inside, all_fit, cell_line_number, rises, time_number, line_number, time_behind, Verdict, verdict, check_lines, check_list}
-use Rattle.list_meaning.specs.Promises.Walking.{to_end, said_cut, said_last, Placed, wrong, placed, place_from, placed_by, place_is, place_none, all_keep, values_number, values_last}
+use Rattle.list_meaning.specs.Promises.Walking.{to_end, Placed, wrong, placed, place_from, placed_by, all_keep, values_number}
+use Rattle.list_meaning.proofs.Walking.{said_cut, said_last, place_is, place_none, values_last}
 use Rattle.list_reader.specs.declared.Lexed.{Lexed}
 use Rattle.list_reader.specs.declared.Lexed.TheVariants.{Literal, Sign, End, Unreadable}
 use Rattle.list_reader.specs.Promises.Promises.{LineEnds, line_tokens, Lexes}

@@ -10,7 +10,7 @@ use lib.ListN.{length, drop}
 use lib.IntN.{ℤ, nat_abs}
 use lib.Dec.{eqb, leb}
 use borrow.Author.Tests.{eq-eqb, ne_eqb, eqb-true}
-use Rattle.value.specs.Choice.{if◌then◌else◌}
+use Rattle.std.specs.Prelude.{if◌then◌else◌}
 use Rattle.value.proofs.Theorems.Laws.{never, and_both}
 use Rattle.automaton.specs.Shape.{product}
 use Rattle.program.specs.Syntax.{Program}
@@ -24,7 +24,8 @@ use Rattle.list_meaning.specs.Lines.{Said, bad, time, cell, said}
 use Rattle.list_meaning.specs.ListChecking.{Limits, limits_of, Verdict, check_list}
 use Rattle.list_meaning.specs.Setting.{set_lines, set_block}
 use Rattle.list_meaning.proofs.Theorems.Told.{told_check}
-use Rattle.list_meaning.specs.Promises.Passing.{LinePasses, passes_first, rises_told, starts_told, not_yet}
+use Rattle.list_meaning.specs.Promises.Passing.{LinePasses}
+use Rattle.list_meaning.proofs.Passing.{passes_first, rises_told, starts_told, not_yet}
 use Rattle.list_reader.specs.Promises.Points.{Dimensions}
 use Rattle.list_reader.specs.Promises.Values.{fields_in}
 use Rattle.list_reader.specs.declared.checking.Verdict as declared

@@ -10,11 +10,11 @@ use native.Mathlib.Numerals.{add-one}
 use lib.ListN.{length, take, drop, set, drop_of_length-le}
 use lib.Seq.{set_out}
 use lib.IntN.{ℤ}
-use lib.Dec.{eqb, ltb}
+use lib.Dec.{eqb}
 use mir.Syntax.{w64}
 use mir.Val.{Fits}
 use borrow.Author.Tests.{eq-eqb}
-use Rattle.value.specs.Choice.{if◌then◌else◌}
+use Rattle.std.specs.Prelude.{if◌then◌else◌}
 use Rattle.value.proofs.Theorems.Laws.{never}
 use Rattle.value.specs.declared.Value.{Value}
 use Rattle.automaton.specs.Shape as shape
@@ -23,8 +23,10 @@ use Rattle.list_meaning.specs.Text.{Piece, literal, sign, with_piece, pieces}
 use Rattle.list_meaning.specs.Lines.{Said, bad, time, cell, Indexed, indices, before_values, values, assigned, cell_with, cell_of_index, said_by, said_in, said}
 use Rattle.list_meaning.specs.ListChecking.{Limits, inside}
 use Rattle.list_meaning.specs.Setting.{store_values, set_lines}
-use Rattle.list_meaning.specs.Promises.Walking.{Placed, wrong, placed, place_from, placed_by, place_is, place_none, store_one, one_stored}
-use Rattle.list_meaning.specs.Promises.Passing.{LinePasses, passes_first, block_ends}
+use Rattle.list_meaning.specs.Promises.Walking.{Placed, wrong, placed, place_from, placed_by, store_one}
+use Rattle.list_meaning.proofs.Walking.{place_is, place_none, one_stored}
+use Rattle.list_meaning.specs.Promises.Passing.{LinePasses}
+use Rattle.list_meaning.proofs.Passing.{passes_first, block_ends}
 use Rattle.list_meaning.proofs.Theorems.Kept.{right_cell}
 use Rattle.list_reader.specs.declared.Lexed.{Lexed}
 use Rattle.list_reader.specs.declared.Lexed.TheVariants.{Literal, Sign, End, Unreadable}

@@ -11,7 +11,7 @@ use lib.Seq.{drop-cons}
 use lib.IntN.{ℤ, pos, negsuc}
 use lib.Dec.{eqb, ltb}
 use borrow.Author.Tests.{eq-eqb, ne_eqb, lt-ltb, le-ltb, ltb-true, ltb-false}
-use Rattle.value.specs.Choice.{if◌then◌else◌}
+use Rattle.std.specs.Prelude.{if◌then◌else◌}
 use Rattle.value.specs.Number.{within, eq_z}
 use Rattle.value.proofs.Theorems.Laws.{never}
 use Rattle.value.specs.Worked.{value, decode_of}
@@ -25,7 +25,8 @@ use Rattle.token.specs.Promises.Promises.{too_large}
 use Rattle.list_meaning.specs.Text.{Piece, literal, sign, with_piece, pieces}
 use Rattle.list_meaning.specs.Lines.{before_values, plus_or_minus, signed, values, under_sign, behind}
 use Rattle.list_meaning.specs.ListChecking.{value_fits, all_fit}
-use Rattle.list_meaning.specs.Promises.Walking.{head_fits, none_left, rest_of, keeps_flag, values_number, one_value}
+use Rattle.list_meaning.specs.Promises.Walking.{head_fits, none_left, rest_of, keeps_flag, values_number}
+use Rattle.list_meaning.proofs.Walking.{one_value}
 use Rattle.list_reader.specs.declared.Lexed.{Lexed}
 use Rattle.list_reader.specs.declared.Lexed.TheVariants.{Literal, Sign, End, Unreadable}
 use Rattle.list_reader.specs.Promises.Promises.{line_tokens, LineOnward, Lexes}

@@ -14,7 +14,7 @@ use borrow.Author.Tests.{not-true, not-false}
 use Rattle.automaton.specs.Listed.{list_of}
 use Rattle.automaton.specs.Promises.ListedLaws.{length_list_of, get_d_list_of}
 use Rattle.automaton.specs.Shape.{product, coordinates}
-use Rattle.automaton.specs.Promises.ShapeLaws.{inside_length, coordinates_inside}
+use Rattle.automaton.proofs.ShapeLaws.{inside_length, coordinates_inside}
 use Rattle.automaton.specs.Grid.{cell_of, differ}
 use Rattle.automaton.proofs.Theorems.GridLaws.{cell_room}
 use Rattle.tool_reply_line.proofs.Lines.{digits_length}

@@ -1,7 +1,7 @@
 -- A source that is read: its program stands in the table that is left, with numbers that fit.
 use Prim.Native.Nat.{ℕ, ◌<◌}
 use native.Mathlib.Omega.{arith}
-use mathlib.Core.Path.{◌≡◌, refl, sym, ◌∙◌, subst}
+use mathlib.Core.Path.{◌≡◌, sym, subst}
 use mathlib.Core.Bool.{Bool, true}
 use mathlib.Core.List.{List}
 use lib.ListN.{length}
@@ -9,7 +9,6 @@ use Rattle.program.specs.declared.Rule.{Rule}
 use Rattle.grammar.specs.Source.{Accepted}
 use Rattle.grammar.specs.Checking.{accepted, rooms_fit, read_source}
 use Rattle.grammar.specs.Promises.Traces.{accepted_by, Trace}
-use Rattle.cell_meaning.specs.Promises.Stands.{Holds}
 use Rattle.cell_meaning.specs.Written.{relatives_in}
 use Rattle.read_links.proofs.Theorems.Accepted.{written}
 use Rattle.program.specs.Promises.Fitting.{Sized}

@@ -1,3 +1,5 @@
+#![tactic(auto)]
+
 // The writer of value lists: the list that leads from one grid to another at a time.
 ghost use Rattle.std.specs.Prelude.{◌≡◌, ◌<◌, length};
 ghost use Rattle.std.proofs.Math.Option.{some};
@@ -22,7 +24,7 @@ use read_source::load;
 use spelling::is_built_in;
 
 // What the writer returns: the reply's number and place, and the text's length.
-#[derive(Drop)]
+#[derive(Clone, Copy)]
 pub struct Written {
     pub number: u32,
     pub place: u32,

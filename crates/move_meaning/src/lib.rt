@@ -1,1 +1,3 @@
+#![tactic(auto)]
+
 // Sources that move a pixel once. Definitions and theorems alone.

@@ -1,7 +1,7 @@
 -- Rule 2: one law for each way through the code.
 use Prim.Native.Nat.{ℕ, zero, suc, ◌+◌, ◌-◌, ◌≤◌, ◌<◌}
 use native.Mathlib.Omega.{arith}
-use mathlib.Core.Path.{◌≡◌, refl, sym, ap, ap₂, ◌∙◌, subst}
+use mathlib.Core.Path.{◌≡◌, refl, sym, ap, ◌∙◌, subst}
 use mathlib.Core.Bool.{Bool, true, false, ◌&&◌}
 use mathlib.Core.List.{List, [], ◌∷◌}
 use mathlib.Core.Option.{Option, none, some}
@@ -10,10 +10,10 @@ use lib.Dec.{eqb}
 use mir.Syntax.{w32}
 use mir.Val.{SFits, of_z}
 use borrow.Author.Tests.{eq-eqb, ne_eqb, eqb-true, eqb-false}
-use lib.IntN.{ℤ, pos}
+use lib.IntN.{pos}
 use Rattle.value.specs.Limits.{most_names}
 use Rattle.value.specs.declared.Value.{Value}
-use Rattle.value.specs.Choice.{if◌then◌else◌}
+use Rattle.std.specs.Prelude.{if◌then◌else◌}
 use Rattle.value.specs.Worked.{value, decode_of}
 use Rattle.value.proofs.Tests.{eq_bits, zero_yes, zero_no}
 use Rattle.automaton.specs.Promises.ListedLaws.{length_list_of, get_d_list_of}

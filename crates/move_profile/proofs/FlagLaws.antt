@@ -8,12 +8,11 @@ use mathlib.Core.Option.{Option, none, some}
 use lib.ListN.{length}
 use borrow.Author.Tests.{not-true, not-false}
 use Rattle.value.specs.Limits.{name_words}
-use Rattle.value.specs.Choice.{if◌then◌else◌}
+use Rattle.std.specs.Prelude.{if◌then◌else◌}
 use Rattle.value.proofs.Theorems.Laws.{never}
 use Rattle.token.specs.Lexeme.{is_built_in}
-use Rattle.token.specs.Scanning.{scan}
 use Rattle.program.specs.Syntax.{Range}
-use Rattle.program.specs.Refusal.{Refusal, refusal, no_refusal}
+use Rattle.program.specs.Refusal.{Refusal, refusal}
 use Rattle.program.specs.declared.Rule.{Rule}
 use Rattle.grammar.specs.Source.{Accepted}
 use Rattle.grammar.specs.Checking.{SourceRead, turned_away, refused, accepted, rooms_fit, read_source, reply_of, check}

@@ -1,20 +1,20 @@
 -- Rule 3: one law for each way through the code.
-use Prim.Native.Nat.{ℕ, zero, suc, ◌+◌, ◌-◌, ◌*◌, ◌/◌, ◌≤◌, ◌<◌}
+use Prim.Native.Nat.{ℕ, zero, suc, ◌+◌, ◌-◌, ◌/◌, ◌≤◌, ◌<◌}
 use native.Mathlib.Numerals.{add-one}
 use native.Mathlib.Omega.{arith}
-use mathlib.Core.Path.{◌≡◌, refl, sym, ap, ap₂, ◌∙◌, subst}
-use mathlib.Core.Bool.{Bool, true, false, not, ◌&&◌, ◌||◌}
+use mathlib.Core.Path.{◌≡◌, refl, sym, ap, ap₂, ◌∙◌}
+use mathlib.Core.Bool.{Bool, true, false, not, ◌&&◌}
 use mathlib.Core.List.{List, [], ◌∷◌}
 use lib.ListN.{length, get_or, drop, drop_of_length-le}
 use lib.Seq.{drop-cons}
 use lib.Dec.{eqb, ltb}
 use borrow.Author.Tests.{eq-eqb, ne_eqb, eqb-true, not-true, not-false, ltb-false}
-use Rattle.value.specs.Choice.{if◌then◌else◌}
+use Rattle.std.specs.Prelude.{if◌then◌else◌}
 use Rattle.value.proofs.Theorems.Laws.{never}
 use Rattle.token.specs.Kind.{kind, keyword, relation, delimiter}
 use Rattle.cell_meaning.specs.Links.{Table, word_in, linked, table_of, begins}
 use Rattle.cell_operands.proofs.TableLaws.{token, link_bounds}
-use Rattle.move_meaning.specs.Profile.{Tokens, tokens_in, kinds_at, digit_at, opens_at, closes_at, past_constants, last_statement, moves_once}
+use Rattle.move_meaning.specs.Profile.{tokens_in, kinds_at, opens_at, closes_at, past_constants, last_statement, moves_once}
 use Rattle.move_profile.specs.Promises.Moves.{KindsAt, OpensAt, ClosesAt, PastConstants, LastStatement, DecidesMove}
 
 -- ---- rows of kinds

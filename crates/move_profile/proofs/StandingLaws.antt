@@ -9,7 +9,7 @@ use Rattle.token.specs.Kind.{kind}
 use Rattle.token.specs.Scanning.{scan, scan_of}
 use Rattle.program.specs.declared.Rule.{Rule}
 use Rattle.grammar.specs.Source.{Accepted, has_kind}
-use Rattle.grammar.specs.Checking.{SourceRead, accepted, rooms_fit, read_source, room_left, words_after}
+use Rattle.grammar.specs.Checking.{accepted, rooms_fit, read_source, room_left, words_after}
 use Rattle.grammar.specs.Promises.Flat.{names_after}
 use Rattle.grammar.specs.Promises.Traces.{accepted_by, Trace}
 use Rattle.cell_meaning.specs.Promises.Stands.{Holds}

@@ -1,3 +1,5 @@
+#![tactic(auto)]
+
 // The profile of sources that move a pixel once: whether a source is in it, and the field of its flag.
 ghost use Rattle.std.specs.Prelude.{◌≡◌, length};
 ghost use Rattle.value.specs.Limits.{name_words};
@@ -17,7 +19,7 @@ use spelling::is_built_in;
 
 // Whether a source is in the profile: the number of the first rule that it misses, 0 for none; and the number and place of the reply where the
 // source is refused, else 0.
-#[derive(Drop)]
+#[derive(Clone, Copy)]
 pub struct Profile {
     pub rule: u32,
     pub number: u32,

@@ -1,10 +1,10 @@
 -- What is claimed of runs of a source that moves a pixel once, with or without a value list.
-use Rattle.std.specs.Prelude.{◌≡◌, Bool, List, [], ℕ, suc, ◌+◌, ◌<◌, ◌≤◌, length, ℤ, pos, nat_abs}
+use Rattle.std.specs.Prelude.{◌≡◌, List, [], ℕ, suc, ◌+◌, ◌<◌, ◌≤◌, length, ℤ, pos, nat_abs}
 use Rattle.automaton.specs.Step.{Outcome, result, no_fault, Run, Step, step_of, run_of}
-use Rattle.automaton.specs.Shape.{product, neighbour}
+use Rattle.automaton.specs.Shape.{product}
 use Rattle.automaton.specs.Grid.{cell_of}
 use Rattle.program.specs.Syntax.{Program}
-use Rattle.cell_meaning.specs.Evaluation.{entry, evaluate}
+use Rattle.cell_meaning.specs.Evaluation.{entry}
 use Rattle.run_meaning.specs.Reach.{running}
 use Rattle.run_meaning.specs.Report.{Manner, full, quiet, pausing, resuming, Report}
 use Rattle.run_calls.specs.Running.{Asked, blocks}

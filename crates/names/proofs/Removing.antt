@@ -1,15 +1,13 @@
 -- A name taken out of the list, and variables counted. Assumes nothing.
 use mathlib.Core.Path.{◌≡◌, refl, sym, ap, ◌∙◌}
-use mathlib.Core.Bool.{Bool, true, false}
 use mathlib.Core.List.{List, [], ◌∷◌, ◌++◌, append-nil}
-use Prim.Native.Nat.{ℕ, suc, ◌+◌, ◌-◌, ◌*◌, ◌≤◌, ◌<◌}
+use Prim.Native.Nat.{ℕ, ◌+◌, ◌-◌, ◌*◌, ◌≤◌, ◌<◌}
 use native.Mathlib.Numerals.{add-one}
 use native.Mathlib.Omega.{arith}
 use lib.ListN.{length, get_or, set, take, drop, length-drop, drop_of_length-le}
 use lib.Seq.{sets, sets-eq, paste, paste-suc, length-paste, take-paste, drop-paste, get_or-drop, take_all}
 use borrow.Author.Tests.{eq-eqb, ne_eqb}
-use Rattle.value.specs.Choice.{if◌then◌else◌}
-use Rattle.names.specs.Names.{entry_at, without_entry, variables_in}
+use Rattle.names.specs.Names.{entry_at, variables_in}
 
 -- the words behind a name, moved down one by one: k of them
 abbrev pub moved : List ℕ → ℕ → ℕ → List ℕ

@@ -8,7 +8,7 @@ use mathlib.Core.Bool.{Bool, true, false, not, ◌&&◌}
 use mathlib.Core.Option.{none, some}
 use lib.Dec.{eqb}
 use borrow.Author.Tests.{ne_eqb}
-use Rattle.value.specs.Choice.{if◌then◌else◌}
+use Rattle.std.specs.Prelude.{if◌then◌else◌}
 use Rattle.token.specs.Bytes.{same}
 use Rattle.names.specs.Names.{entry_at, entries_from, is_field, in_space, letters, find, find_name}
 use Rattle.names.specs.Promises.Finding.{match_of, Matches, found_of, Finds}

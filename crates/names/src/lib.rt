@@ -1,3 +1,5 @@
+#![tactic(auto)]
+
 // The name list on flat words: four words a name, in order of declaration.
 ghost use Rattle.std.specs.Prelude.{◌≡◌, ◌<◌, ◌≤◌, length, get_or};
 ghost use Rattle.value.specs.Limits.{most_names, name_words};
@@ -10,7 +12,7 @@ pub mod kind;
 use value::tables::put_four;
 
 // A name: the place of its first byte, its length, its kind, and its value as a word.
-#[derive(Drop)]
+#[derive(Clone, Copy)]
 pub struct Entry {
     pub start: u32,
     pub len: u32,
@@ -19,7 +21,7 @@ pub struct Entry {
 }
 
 // The slot of a name, or that there is none.
-#[derive(Drop)]
+#[derive(Clone, Copy)]
 pub enum Found {
     At(usize),
     Missing,
@@ -75,6 +77,7 @@ pub fn remove_entry(names: &mut [u32], slot: usize)
 }
 
 // How many of the first n names are variables.
+#[tactic(auto, using(crate::proofs::Removing::variable_more, crate::proofs::Removing::variable_not))]
 pub fn count_variables(names: &[u32], n: usize) -> u32
     requires { (n ≤ most_names) × (length names.now ≡ name_words) }
     ensures { result ≡ variables_in names.now n }

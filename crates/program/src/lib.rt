@@ -1,3 +1,5 @@
+#![tactic(auto)]
+
 // The word table of a program, four words a token, and an accepted source as it stands in it.
 ghost use Rattle.std.specs.Prelude.{◌≡◌, ◌<◌, ◌≤◌, length};
 ghost use Rattle.value.specs.Limits.{most_tokens, table_words};
@@ -10,7 +12,7 @@ use value::limits::MOST_TOKENS;
 
 // An accepted source, as it stands in the word table: the number of its tokens, the position of the token that has the first field's range,
 // that of its first statement, the numbers of dimensions, of fields and of slots that its variables need, and whether `time` occurs in it.
-#[derive(Drop)]
+#[derive(Clone, Copy)]
 pub struct Rule {
     pub tokens: usize,
     pub base: usize,

@@ -1,3 +1,5 @@
+#![tactic(auto)]
+
 // Constants, ranges and constant declarations: each reader is that of the same name in the grammar's definition.
 ghost use Rattle.std.specs.Prelude.{◌≡◌, ◌<◌, ◌≤◌, length};
 ghost use Rattle.value.specs.Limits.{most_names};

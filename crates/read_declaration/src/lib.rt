@@ -1,3 +1,5 @@
+#![tactic(auto)]
+
 // The cell declaration: each reader is that of the same name in the grammar's definition.
 ghost use Rattle.std.specs.Prelude.{◌≡◌, List, [], ◌+◌, ◌≤◌, ◌<◌, min, length, ℤ};
 ghost use Rattle.value.specs.Limits.{most_tokens, table_words, most_fields};
@@ -229,7 +231,7 @@ fn read_dims(source: &[u8], names: &[u32], words: &mut [u32], scan: Scan, s: Rea
 
 // How the reading of the cell declaration ends; where it goes on, how many dimensions there are, whether the fields are named, how many
 // there are, and the position from which on they have their ranges in the table.
-#[derive(Drop)]
+#[derive(Clone, Copy)]
 pub struct CellRead {
     pub read: Read,
     pub dims: u32,

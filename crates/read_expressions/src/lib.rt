@@ -1,3 +1,5 @@
+#![tactic(auto)]
+
 // Expressions, read off the word table: each function is the reader of the same name in the grammar's definition.
 ghost use Rattle.std.specs.Prelude.{◌≡◌, List, ℕ, ◌≤◌, ◌<◌, length};
 ghost use Rattle.value.specs.Limits.{most_tokens, table_words};
@@ -19,7 +21,7 @@ use token::kind::level_of;
 use token::{Scan, Token, kind};
 
 // What the cell declaration says of a cell: how many dimensions there are, and whether its fields are named.
-#[derive(Drop)]
+#[derive(Clone, Copy)]
 pub struct Cell {
     pub dims: u32,
     pub named: bool,
@@ -280,7 +282,7 @@ fn is_unary(t: Token) -> bool
 
 // An expression of operators of a level or tighter: an operand, then operators from left to right. A relation cannot take a bare relation
 // as operand.
-#[cycle(array_use_name_use_read_bracket_read_element_read_expression_read_operand_read_primary)]
+#[cycle(expressions)]
 pub fn read_expression(
     source: &[u8],
     names: &[u32],
@@ -319,7 +321,7 @@ pub fn read_expression(
 }
 
 // An operand: a primary with at most one unary operator.
-#[cycle(array_use_name_use_read_bracket_read_element_read_expression_read_operand_read_primary)]
+#[cycle(expressions)]
 fn read_operand(
     source: &[u8],
     names: &[u32],
@@ -339,7 +341,7 @@ fn read_operand(
 }
 
 // A primary: a literal, a bracket, a relative index, `cell`, `time` or a name.
-#[cycle(array_use_name_use_read_bracket_read_element_read_expression_read_operand_read_primary)]
+#[cycle(expressions)]
 fn read_primary(
     source: &[u8],
     names: &[u32],
@@ -379,7 +381,7 @@ fn read_primary(
 }
 
 // The name in a slot, in an expression.
-#[cycle(array_use_name_use_read_bracket_read_element_read_expression_read_operand_read_primary)]
+#[cycle(expressions)]
 fn name_use(
     source: &[u8],
     names: &[u32],
@@ -402,7 +404,7 @@ fn name_use(
 }
 
 // After an array constant's name: without `[` it counts as a plain number, and 12 is noted.
-#[cycle(array_use_name_use_read_bracket_read_element_read_expression_read_operand_read_primary)]
+#[cycle(expressions)]
 fn array_use(
     source: &[u8],
     names: &[u32],
@@ -423,7 +425,7 @@ fn array_use(
 }
 
 // An array constant's element, from the `[` after its name on.
-#[cycle(array_use_name_use_read_bracket_read_element_read_expression_read_operand_read_primary)]
+#[cycle(expressions)]
 fn read_element(
     source: &[u8],
     names: &[u32],
@@ -444,7 +446,7 @@ fn read_element(
 }
 
 // An expression between brackets: `close` is the closing token's kind.
-#[cycle(array_use_name_use_read_bracket_read_element_read_expression_read_operand_read_primary)]
+#[cycle(expressions)]
 fn read_bracket(
     source: &[u8],
     names: &[u32],

@@ -9,7 +9,6 @@ use lib.ListN.{length, get_or, length-set}
 use lib.Dec.{eqb}
 use borrow.Author.Tests.{eq-eqb, ne_eqb}
 use Rattle.value.proofs.Theorems.Truth.{or_second}
-use Rattle.value.specs.Choice.{if◌then◌else◌}
 use Rattle.names.specs.declared.Entry.{Entry}
 use Rattle.names.specs.Names.{entry_at, with_value}
 use Rattle.program.specs.Table.{word_at}

@@ -18,14 +18,14 @@ use token::{Scan, kind, scan_source};
 use value::limits::{MOST_BYTES, NAME_WORDS, TABLE_WORDS};
 
 // A reply: its number, 0 if the source is accepted, and its place.
-#[derive(Drop)]
+#[derive(Clone, Copy)]
 pub struct Reply {
     pub number: u32,
     pub place: u32,
 }
 
 // A source as it was read: whether it is accepted, the number and place of the reply, and the rule, all zero if it is not accepted.
-#[derive(Drop)]
+#[derive(Clone, Copy)]
 pub struct Loaded {
     pub accepted: bool,
     pub number: u32,
@@ -35,7 +35,7 @@ pub struct Loaded {
 
 // How the reading of a program ends; where it goes on, the position of the token that has the first field's range, that of the first statement,
 // and the numbers of dimensions and of fields.
-#[derive(Drop)]
+#[derive(Clone, Copy)]
 struct ProgramRead {
     read: Read,
     base: usize,

@@ -1,3 +1,5 @@
+#![tactic(auto)]
+
 // Checking a source: the core call.
 ghost use Rattle.std.specs.Prelude.{◌≡◌, ◌≤◌, length};
 ghost use Rattle.value.specs.Limits.{most_tokens, table_words, most_names, name_words};

@@ -8,7 +8,6 @@ use lib.Dec.{eqb}
 use borrow.Author.Tests.{eqb-true, eq-eqb, ne_eqb, lt-ltb, le-ltb, le-leb, lt-leb}
 use Rattle.token.specs.declared.Scan.{Scan}
 use Rattle.token.specs.declared.Token.{Token}
-use Rattle.names.specs.declared.Entry.{Entry}
 use Rattle.program.specs.Promises.Standing.{Stands}
 use Rattle.program.specs.Refusal.{Refusal, refusal}
 use Rattle.grammar.specs.Ranking.{rank, first_number, before, first_of, broken}

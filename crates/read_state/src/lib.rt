@@ -1,3 +1,5 @@
+#![tactic(auto)]
+
 // The steps from which the readers of the code are put together: each is the reader of the same name in the grammar's definition.
 ghost use Rattle.std.specs.Prelude.{◌≡◌, ◌≤◌, ◌<◌, length};
 ghost use Rattle.value.specs.Limits.{most_tokens, table_words, most_names, name_words};
@@ -15,7 +17,7 @@ use value::limits::MOST_NAMES;
 // names are declared; and what was read last: a value or a range (`value`, the upper bound; `low`, the lower one), the number of a slot, a
 // field, a variable or a kind of names (`number`), how many fields there are and whether they have names (`fields`; `named`, 1 or 0),
 // whether one more part follows (`more`, 1 or 0).
-#[derive(Drop)]
+#[derive(Clone, Copy)]
 pub struct Reading {
     pub at: usize,
     pub noted: u32,
@@ -30,7 +32,7 @@ pub struct Reading {
 }
 
 // How a reading ends: with its state then, or with the number and the place of the reply that refuses.
-#[derive(Drop)]
+#[derive(Clone, Copy)]
 pub enum Read {
     Next(Reading),
     Refused(u32, u32),

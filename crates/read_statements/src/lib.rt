@@ -1,3 +1,5 @@
+#![tactic(auto)]
+
 // Statements: each reader is that of the same name in the grammar's definition.
 ghost use Rattle.std.specs.Prelude.{◌≡◌, false, List, [], ℕ, ◌+◌, ◌<◌, ◌≤◌, length};
 ghost use Rattle.value.specs.Limits.{most_tokens, table_words, most_names, most_open};
@@ -371,7 +373,7 @@ fn read_exit(words: &mut [u32], s: Reading) -> Reading
 // ---- lists of statements: a cycle in which the tokens left fall
 
 // What follows an arm's statements. Carries 1 if one more arm follows, else 0.
-#[cycle(arm_end_read_arm_read_block_read_forall_read_if_read_statement)]
+#[cycle(statements)]
 fn arm_end(
     source: &[u8],
     names: &mut [u32],
@@ -400,7 +402,7 @@ fn arm_end(
 }
 
 // One more arm, from its `if` or `elsif` on. Carries 1 if one more follows, else 0.
-#[cycle(arm_end_read_arm_read_block_read_forall_read_if_read_statement)]
+#[cycle(statements)]
 fn read_arm(
     source: &[u8],
     names: &mut [u32],
@@ -432,7 +434,7 @@ fn read_arm(
 }
 
 // An `if`. The position past it is noted at its first token.
-#[cycle(arm_end_read_arm_read_block_read_forall_read_if_read_statement)]
+#[cycle(statements)]
 fn read_if(
     source: &[u8],
     names: &mut [u32],
@@ -465,7 +467,7 @@ fn read_if(
 }
 
 // A loop inside so many others.
-#[cycle(arm_end_read_arm_read_block_read_forall_read_if_read_statement)]
+#[cycle(statements)]
 fn read_forall(
     source: &[u8],
     names: &mut [u32],
@@ -494,7 +496,7 @@ fn read_forall(
 }
 
 // One more statement, where so many loops are open and so many more may be; nothing is read where the list ends.
-#[cycle(arm_end_read_arm_read_block_read_forall_read_if_read_statement)]
+#[cycle(statements)]
 fn read_statement(
     source: &[u8],
     names: &mut [u32],
@@ -531,7 +533,7 @@ fn read_statement(
 }
 
 // A list of statements, where so many loops are open and so many more `if`, `forall` and brackets may be.
-#[cycle(arm_end_read_arm_read_block_read_forall_read_if_read_statement)]
+#[cycle(statements)]
 pub fn read_block(
     source: &[u8],
     names: &mut [u32],

@@ -14,7 +14,7 @@ use mir.Val.{SFits, to_z, of_z}
 use mir.Facts.{to_z-of_z}
 use borrow.Author.Tests.{eq-eqb, ne_eqb, ltb-false}
 use Rattle.value.specs.Limits.{most_cells}
-use Rattle.value.specs.Choice.{if◌then◌else◌}
+use Rattle.std.specs.Prelude.{if◌then◌else◌}
 use Rattle.automaton.specs.Promises.ListedLaws.{get_d_list_of}
 use Rattle.automaton.proofs.Theorems.Quiet.{or_false}
 use Rattle.automaton.specs.Shape.{Bound}

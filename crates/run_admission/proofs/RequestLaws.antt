@@ -14,7 +14,7 @@ use mir.Syntax.{w32, w64}
 use mir.Val.{Fits, SFits}
 use borrow.Author.Tests.{leb-true, leb-false, le-leb, lt-leb, eq-eqb, ne_eqb, eqb-true}
 use Rattle.value.proofs.Theorems.Truth.{and_false}
-use Rattle.value.specs.Choice.{if◌then◌else◌}
+use Rattle.std.specs.Prelude.{if◌then◌else◌}
 use Rattle.value.proofs.Theorems.Laws.{never, and_both}
 use Rattle.automaton.specs.Shape.{product}
 use Rattle.automaton.specs.Promises.ShapeLaws.{Positive}

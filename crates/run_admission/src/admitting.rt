@@ -9,7 +9,7 @@ use run_indices::surveying::survey;
 use run_meaning::{Reach, own_only};
 
 // Whether a run is admitted: number 0, with the program's reach; else the refusal's number and place.
-#[derive(Drop)]
+#[derive(Clone, Copy)]
 pub struct Admitted {
     pub number: u32,
     pub place: u32,

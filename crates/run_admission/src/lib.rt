@@ -1,3 +1,5 @@
+#![tactic(auto)]
+
 // The tests of a run before it begins: replies 20 to 22 by the sizes, rooms and times, and reply 24 by the entries of the grid.
 ghost use Rattle.std.specs.Prelude.{◌≡◌, ◌+◌, ◌*◌, ◌%◌, ◌<◌, ◌≤◌, length, get_or, pos};
 ghost use Rattle.value.specs.Limits.{most_dims, most_cells, most_fields};
@@ -18,13 +20,14 @@ use value::Value;
 use value::limits::{MOST_ALONG, MOST_CELLS};
 
 // A refusal's number and place; number 0: admitted.
-#[derive(Drop)]
+#[derive(Clone, Copy)]
 pub struct Refusal {
     pub number: u32,
     pub place: u32,
 }
 
 // The product with one size more before it; 0 where that size is not 1 to 4,096, or the product is over 1,048,576.
+#[tactic(auto, using(crate::proofs::RequestLaws::times_low, crate::proofs::RequestLaws::times_high, crate::proofs::RequestLaws::times_over, crate::proofs::RequestLaws::times_in))]
 fn times(n: u32, total: u64) -> u64
     requires { total ≤ most_cells }
     ensures { result ≡ times_of n total }
@@ -60,6 +63,7 @@ pub fn cells(sizes: &[u32]) -> u64
 }
 
 // Whether grid and scratch have so many entries as there are fields in all cells, and marks one a cell.
+#[tactic(auto, using(crate::proofs::RequestLaws::rooms_entries, crate::proofs::RequestLaws::rooms_scratch, crate::proofs::RequestLaws::rooms_marks))]
 fn good_rooms(cells: u64, fields: u32, entries: usize, scratch: usize, marks: usize) -> bool
     requires { (cells ≤ most_cells) × (fields ≤ most_fields) }
     ensures { result ≡ rooms_of cells fields entries scratch marks }
@@ -73,6 +77,7 @@ fn good_rooms(cells: u64, fields: u32, entries: usize, scratch: usize, marks: us
 }
 
 // Whether start and steps are not negative, and their sum is at most 2147483647.
+#[tactic(auto, using(crate::proofs::RequestLaws::good_sum, crate::proofs::RequestLaws::bad_start, crate::proofs::RequestLaws::bad_steps))]
 pub fn good_times(start: i64, steps: i64) -> bool
     ensures { result ≡ good_times start steps }
 {
@@ -121,6 +126,7 @@ fn value_at(grid: &[i32], e: usize) -> Value
 }
 
 // Whether an entry is in the range of a field.
+#[tactic(auto, using(crate::proofs::EntryLaws::fits_known))]
 fn fits(words: &[u32], rule: Rule, which: usize, grid: &[i32], e: usize) -> bool
     requires { (Sized (length words.now) rule) × (which < rule.fields) × (e < length grid.now) }
     ensures { result ≡ in_field (get_or (ranges_in (rule_table words.now rule) rule.base rule.fields) which no_range) (get_or grid.now e (pos 0)) }
@@ -145,6 +151,7 @@ fn next_field(which: usize, fields: usize) -> usize
 }
 
 // The lowest entry of a grid that is out of its field's range: 24 at its number; else number 0 and place 0.
+#[tactic(auto, using(crate::proofs::EntryLaws::passed_out, crate::proofs::EntryLaws::passed_on, crate::proofs::EntryLaws::passed_end))]
 pub fn out_of_field(words: &[u32], rule: Rule, grid: &[i32]) -> Refusal
     requires { (Sized (length words.now) rule) × (0 < rule.fields) × (length grid.now ≤ 33554432) }
     ensures { InFields words.now rule grid.now result }

@@ -5,7 +5,7 @@ use Rattle.grammar.specs.Source.{Accepted}
 use Rattle.grammar.specs.Checking.{SourceRead, accepted}
 use Rattle.cell_meaning.specs.Evaluation.{entry, in_field}
 use Rattle.run_meaning.specs.Admission.{on_grid}
-use Rattle.run_calls.specs.Running.{Asked, ask, run}
+use Rattle.run_calls.specs.Running.{Asked, ask}
 use Rattle.run_calls.specs.Services.{run_begins}
 
 -- The grid that a run leaves, by the source, what is read of it and what is asked of the run.

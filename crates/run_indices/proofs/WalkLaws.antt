@@ -11,7 +11,7 @@ use lib.IntN.{ℤ}
 use lib.ListN.{length, get_or, set, replicate}
 use borrow.Author.Tests.{lt-ltb, le-ltb, ltb-true, eq-eqb, ne_eqb, eqb-true}
 use Rattle.value.specs.Limits.{most_open}
-use Rattle.value.specs.Choice.{if◌then◌else◌}
+use Rattle.std.specs.Prelude.{if◌then◌else◌}
 use Rattle.value.proofs.Theorems.Laws.{never, and_both}
 use Rattle.automaton.specs.Listed.{list_of}
 use Rattle.automaton.specs.Promises.ListedLaws.{length_list_of}
@@ -285,7 +285,7 @@ tally_far : (sizes : List ℕ) (place : ℕ) (bs : List Bound) (ws : List Writte
     → tally sizes (record { far = refusal 23 place; bounds = bs }) ws ≡ record { far = refusal 23 place; bounds = widened bs ws }
 unfolding tally tallied widened
 tally_far sizes place bs [] = refl
-tally_far sizes place bs (w ∷ ws) = tally_far sizes place _ ws
+tally_far sizes place bs (w ∷ ws) = tally_far sizes place (tallied sizes (record { far = refusal 23 place; bounds = bs }) w).bounds ws
 
 pub tally_all : (sizes : List ℕ) (bs : List Bound) (ws : List Written)
     → tally sizes (record { far = refusal 0 0; bounds = bs }) ws ≡ record { far = too_far sizes ws; bounds = widened bs ws }

@@ -47,6 +47,7 @@ fn exceeds(word: u32, size: u32) -> bool
 }
 
 // Whether an end of the values is larger in size than a dimension.
+#[tactic(auto, using(crate::proofs::CountingLaws::past_low, crate::proofs::CountingLaws::past_high))]
 fn goes_past(low: u32, high: u32, size: u32) -> bool
     ensures { result ≡ goes_past size (ends low high) }
 {
@@ -78,6 +79,7 @@ fn widened(bounds: Bounds, dim: usize, back: u32, ahead: u32) -> Bounds
 }
 
 // One written index: its place, its dimension, of a given size, and the words of its lowest and highest value.
+#[tactic(auto, using(crate::proofs::CountingLaws::counts_far, crate::proofs::CountingLaws::counts_near, crate::proofs::CountingLaws::counts_after))]
 pub fn counted(s: Count, size: u32, place: u32, dim: usize, low: u32, high: u32) -> Count
     requires { dim < most_dims }
     ensures { Counts s size place dim low high result }

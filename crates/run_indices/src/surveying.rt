@@ -10,6 +10,7 @@ use run_meaning::own_only;
 use value::limits::MOST_OPEN;
 
 // The survey of a program, in one walk over its statements.
+#[tactic(auto, using(crate::proofs::WalkLaws::survey_done))]
 pub fn survey(words: &[u32], rule: Rule, sizes: &[u32]) -> Survey
     requires { Sized (length words.now) rule × (length sizes.now ≡ rule.dims) }
     ensures { Surveyed words.now rule sizes.now result }

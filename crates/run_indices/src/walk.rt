@@ -49,6 +49,7 @@ fn elements(
 }
 
 // Whether a relative index begins at a position.
+#[tactic(auto, using(crate::proofs::WalkLaws::index_here, crate::proofs::WalkLaws::index_not))]
 fn is_index(words: &[u32], n: usize, dims: usize, at: usize) -> bool
     requires { (4 * n ≤ length words.now) × (n ≤ most_tokens) }
     ensures { result ≡ is_index (table_of words.now n dims) at }
@@ -60,6 +61,7 @@ fn is_index(words: &[u32], n: usize, dims: usize, at: usize) -> bool
 }
 
 // The position after the construct at a position.
+#[tactic(auto, using(crate::proofs::WalkLaws::behind_loop, crate::proofs::WalkLaws::behind_constant, crate::proofs::WalkLaws::behind_index, crate::proofs::WalkLaws::behind_one))]
 fn behind(words: &[u32], n: usize, dims: usize, at: usize) -> usize
     requires { (4 * n ≤ length words.now) × (n ≤ most_tokens) × (at < n) }
     ensures { result ≡ behind (table_of words.now n dims) at }
@@ -131,6 +133,7 @@ fn with_index(
 }
 
 // What is written at a position where no loop opens.
+#[tactic(auto, using(crate::proofs::WalkLaws::counts_index, crate::proofs::WalkLaws::counts_flat, crate::proofs::WalkLaws::counts_none))]
 fn index_at(
     words: &[u32],
     rule: Rule,

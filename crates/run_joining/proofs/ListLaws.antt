@@ -1,23 +1,22 @@
 -- Two value lists of calls of which one ends and one begins at a time: the joined list passes, and sets what the two set.
 use mathlib.Core.Path.{◌≡◌, refl, sym, ap, ◌∙◌, subst}
 use mathlib.Core.Logic.{◌⊎◌, inl, inr}
-use mathlib.Core.Bool.{Bool, true, false, not, ◌&&◌}
+use mathlib.Core.Bool.{Bool, true, false, not}
 use mathlib.Core.List.{List, [], ◌∷◌, ◌++◌}
 use mathlib.Core.Option.{Option, some, none}
-use Prim.Native.Nat.{ℕ, suc, ◌+◌, ◌≤◌, ◌<◌}
-use native.Mathlib.Nat.{le_refl}
+use Prim.Native.Nat.{ℕ, suc, ◌≤◌, ◌<◌}
 use native.Mathlib.Omega.{arith}
-use lib.ListN.{length}
 use lib.Dec.{eqb, ltb}
 use lib.IntN.{ℤ}
-use borrow.Author.Tests.{ltb-true, ltb-false, lt-ltb, le-ltb, eqb-true, eq-eqb, ne_eqb}
-use Rattle.value.specs.Choice.{if◌then◌else◌}
+use borrow.Author.Tests.{ltb-true, ltb-false, lt-ltb, le-ltb, eqb-true, ne_eqb}
+use Rattle.std.specs.Prelude.{if◌then◌else◌}
 use Rattle.value.proofs.Theorems.Laws.{never, and_both}
 use Rattle.automaton.proofs.Theorems.Blocks.{Joined}
-use Rattle.list_meaning.specs.Lines.{Said, bad, time, cell, said}
-use Rattle.list_meaning.specs.ListChecking.{Limits, rises, time_number, cell_line_number, line_number, time_behind, check_lines, check_list}
-use Rattle.list_meaning.specs.Setting.{set_lines, set_block}
-use Rattle.list_meaning.specs.Promises.Passing.{LinePasses, passes_first, rises_told, starts_told, none_behind, last_time, left_within, passes_joined, set_joined}
+use Rattle.list_meaning.specs.Lines.{Said, bad, time, cell}
+use Rattle.list_meaning.specs.ListChecking.{Limits, rises, time_number, cell_line_number, line_number, time_behind, check_lines}
+use Rattle.list_meaning.specs.Setting.{set_lines}
+use Rattle.list_meaning.specs.Promises.Passing.{LinePasses, last_time, left_within}
+use Rattle.list_meaning.proofs.Passing.{passes_first, rises_told, starts_told, none_behind, set_joined}
 use Rattle.run_joining.specs.Joins.{times_in, rising}
 
 -- ---- times

@@ -7,14 +7,14 @@ use Prim.Native.Nat.{ℕ, zero, suc, ◌+◌, ◌≤◌, ◌<◌}
 use native.Mathlib.Nat.{le_refl}
 use native.Mathlib.Omega.{arith}
 use lib.ListN.{length}
-use lib.Dec.{eqb, leb}
+use lib.Dec.{eqb}
 use lib.IntN.{ℤ, pos, negsuc, nat_abs, ◌+ℤ◌}
 use lib.Signed.{le_z}
 use borrow.Author.Tests.{leb-true, le-leb}
-use Rattle.value.specs.Choice.{if◌then◌else◌}
+use Rattle.std.specs.Prelude.{if◌then◌else◌}
 use Rattle.value.proofs.Theorems.Laws.{never, and_both}
-use Rattle.automaton.specs.Step.{Fault, no_fault, fault_at, Automaton, marks_of, Step, Run, Quiet, every_cell, marked, touched, open_in, Blocks, quiet_step, quiet_run, run_of, open_count, full_count}
-use Rattle.automaton.proofs.Theorems.Quiet.{Lawful, quiet_then, quiet_run_from, quiet_run_agrees, quiet_agrees, open_le_full}
+use Rattle.automaton.specs.Step.{Fault, no_fault, fault_at, Automaton, marks_of, Step, Run, Quiet, marked, touched, open_in, Blocks, quiet_step, quiet_run}
+use Rattle.automaton.proofs.Theorems.Quiet.{Lawful, quiet_then, quiet_run_from, quiet_agrees}
 use Rattle.automaton.proofs.Theorems.Blocks.{Joined}
 use Rattle.automaton.proofs.Theorems.Pause.{joined, pause}
 use Rattle.program.specs.Syntax.{Program}
@@ -22,14 +22,12 @@ use Rattle.run_meaning.specs.Reach.{running}
 use Rattle.program.specs.Refusal.{Refusal, refusal}
 use Rattle.run_meaning.specs.Admission.{Request, good_sizes, good_rooms, good_times, too_far, out_of_field, admission}
 use Rattle.run_meaning.specs.Report.{Manner, full, quiet, pausing, resuming, pending_of, ended}
-use Rattle.run_meaning.proofs.Theorems.Locality.{Flagged}
-use Rattle.run_meaning.proofs.Theorems.Covering.{running_lawful}
-use Rattle.run_meaning.proofs.Theorems.Ranges.{admitted_dims}
 use Rattle.cell_meaning.specs.Written.{written_in}
 use Rattle.list_meaning.specs.Lines.{Said, said}
 use Rattle.list_meaning.specs.ListChecking.{Limits, limits_of, time_behind, verdict, check_lines, check_list}
 use Rattle.list_meaning.specs.Setting.{set_lines, set_block}
-use Rattle.list_meaning.specs.Promises.Passing.{LinePasses, passes_first, last_time, passes_joined, said_joined}
+use Rattle.list_meaning.specs.Promises.Passing.{LinePasses, last_time}
+use Rattle.list_meaning.proofs.Passing.{passes_first, passes_joined, said_joined}
 use Rattle.run_calls.specs.Running.{Asked, admitted, blocks, report_of, standing}
 use Rattle.run_calls.proofs.Theorems.RunningLaws.{request_admitted, counts_admitted, list_passes, all_admit}
 use Rattle.run_steps.specs.Promises.Stepwise.{report_in}

@@ -7,7 +7,8 @@ use mathlib.Core.List.{List, [], ◌∷◌}
 use lib.ListN.{length, get_or, set, drop, length-set}
 use lib.Seq.{drop-cons, drop-length, drop-set-lt, get_or-set_same}
 use Rattle.automaton.specs.Shape.{product, cell_number, coordinates}
-use Rattle.automaton.specs.Promises.ShapeLaws.{inside_length, inside_at, Positive, Inside, coordinates_inside, number_coordinates, coordinates_number}
+use Rattle.automaton.specs.Promises.ShapeLaws.{Positive, Inside}
+use Rattle.automaton.proofs.ShapeLaws.{inside_length, inside_at, coordinates_inside, number_coordinates, coordinates_number}
 use Rattle.run_marked_cells.specs.Promises.Marked.{PointSet, Moving}
 
 -- ---- written
@@ -96,6 +97,8 @@ inside_set : (ns is : List ℕ) (k v : ℕ) → Inside ns is → v < get_or ns k
 inside_set [] [] k v h l = tt
 inside_set (n ∷ ns) (i ∷ is) zero v h l = (l, h.1)
 inside_set (n ∷ ns) (i ∷ is) (suc k) v h l = (h.0, inside_set ns is k v h.1 l)
+inside_set [] (i ∷ is) k v h l = elim h [ ]
+inside_set (n ∷ ns) [] k v h l = elim h [ ]
 
 -- the cell's number changes by as much as one coordinate weighs
 number_set : (ns is : List ℕ) (k v : ℕ) → Inside ns is → k < length ns
@@ -103,6 +106,8 @@ number_set : (ns is : List ℕ) (k v : ℕ) → Inside ns is → k < length ns
 number_set [] [] k v h l = absurd (not-suc-le-zero l)
 number_set (n ∷ ns) (i ∷ is) zero v h l = omega arith
 number_set (n ∷ ns) (i ∷ is) (suc k) v h l = omega (arith, number_set ns is k v h.1 (le_of_suc-le-suc l))
+number_set [] (i ∷ is) k v h l = elim h [ ]
+number_set (n ∷ ns) [] k v h l = elim h [ ]
 
 -- the dimensions from k on start again at 0; one is still to be added to the one before
 pub record Carried (sizes first : List ℕ) (k : ℕ) (point : List ℕ) : Type 0 where

@@ -1,3 +1,5 @@
+#![tactic(auto)]
+
 // Going over the marked cells of a grid: the next one, its coordinates, the exchange of their fields, and marks and numbers set throughout.
 
 pub mod exchange;

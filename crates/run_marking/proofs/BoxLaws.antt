@@ -14,7 +14,8 @@ use lib.IntN.{ℤ, pos, negsuc, neg_ℤ}
 use Rattle.value.specs.Worked.{wrap_of}
 use Rattle.automaton.specs.Shape.{product, cell_number, coordinates, shift, neighbour, Bound, width, box_indices, reach_of}
 use Rattle.automaton.specs.Promises.Opening.{opens_of}
-use Rattle.automaton.specs.Promises.ShapeLaws.{Inside, Positive, Alike, Within, AllWithin, product_pos, wrap_mod, reach_opens, mem_box, box_alike, coordinates_inside}
+use Rattle.automaton.specs.Promises.ShapeLaws.{Inside, Positive, Alike, Within, AllWithin}
+use Rattle.automaton.proofs.ShapeLaws.{product_pos, wrap_mod, reach_opens, mem_box, box_alike, coordinates_inside}
 use Rattle.run_meaning.specs.Reach.{own_only}
 use Rattle.run_marking.specs.Promises.Noting.{note_all, noted_rows, noted_line, noted_lines, box_cells, opened_from, opened_count, cells_opened, Boxed}
 use Rattle.run_marking.proofs.NotingLaws.{mem_rows, rows_same, Noted, noted_done}
@@ -137,6 +138,10 @@ box_opens (n ∷ ns) (b ∷ bs) (i ∷ is) first count inside alike f base c =
     λ e. box_opens ns bs is (λ k. first (suc k)) (λ k. count (suc k)) inside.1 alike (follows_rest f) (base * n + (first 0 + e) % n) c
     in
     (step_there n ns b bs i is first count inside.0 f base c _ rest, step_back n ns b bs i is first count inside.0 f base c _ rest)
+box_opens [] [] (i ∷ is) first count inside alike f base c = elim inside [ ]
+box_opens [] (b ∷ bs) is first count inside alike f base c = elim alike [ ]
+box_opens (n ∷ ns) [] is first count inside alike f base c = elim alike [ ]
+box_opens (n ∷ ns) (b ∷ bs) [] first count inside alike f base c = elim inside [ ]
 
 -- ---- the cells that have a cell in their reach
 

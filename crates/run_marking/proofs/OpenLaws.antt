@@ -14,7 +14,8 @@ use Rattle.automaton.specs.Promises.ListedLaws.{length_list_of, get_d_list_of, l
 use Rattle.automaton.specs.Step.{non_zero, marked, marks_of}
 use Rattle.automaton.proofs.Theorems.Quiet.{any_of_false, any_of_true}
 use Rattle.automaton.specs.Shape.{product, cell_number, neighbour, reach_of}
-use Rattle.automaton.specs.Promises.ShapeLaws.{Positive, coordinates_inside, inside_at, neighbour_lt}
+use Rattle.automaton.specs.Promises.ShapeLaws.{Positive}
+use Rattle.automaton.proofs.ShapeLaws.{coordinates_inside, inside_at, neighbour_lt}
 use Rattle.automaton.specs.Grid.{cell_of, differ}
 use Rattle.automaton.proofs.Theorems.GridLaws.{cell_room, differ_self}
 use Rattle.run_meaning.specs.Promises.Fitting.{bound_at}

@@ -12,7 +12,8 @@ use borrow.Author.Tests.{lt-ltb, le-ltb}
 use Rattle.automaton.specs.Listed.{list_of}
 use Rattle.automaton.specs.Promises.ListedLaws.{length_list_of, get_d_list_of, of_mem_list_of}
 use Rattle.automaton.specs.Shape.{product, Bound, width, box_indices, reach_of, neighbour, coordinates}
-use Rattle.automaton.specs.Promises.ShapeLaws.{Alike, alike_length, reach_opens, box_alike}
+use Rattle.automaton.specs.Promises.ShapeLaws.{Alike}
+use Rattle.automaton.proofs.ShapeLaws.{alike_length, reach_opens, box_alike}
 use Rattle.run_meaning.specs.Reach.{own_only, reach_from}
 use Rattle.run_meaning.specs.Promises.Fitting.{bound_at, bounds_of, place_at, places_of}
 use Rattle.run_meaning.proofs.Theorems.Cutting.{Counting, counting_start, counting_more}

@@ -1,3 +1,5 @@
+#![tactic(auto)]
+
 // Marks of the open cells, from the cells that changed.
 ghost use Rattle.std.specs.Prelude.{◌≡◌, ◌*◌, ◌<◌, ◌≤◌, length};
 ghost use Rattle.value.specs.Limits.{most_fields};

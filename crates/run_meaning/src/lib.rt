@@ -1,3 +1,5 @@
+#![tactic(auto)]
+
 // Runs of a program on a grid: the definitions, and the reach as a record.
 ghost use Rattle.std.specs.Prelude.{◌≡◌, ◌*◌, ◌≤◌, min};
 ghost use Rattle.run_meaning.specs.Promises.Fitting.{OwnOnly};
@@ -5,7 +7,7 @@ ghost use Rattle.run_meaning.specs.Promises.Fitting.{OwnOnly};
 use value::limits::{MOST_PLACES, PLACE_WORDS};
 
 // A box, for each of up to three dimensions: how far the lowest index that is written lies below 0, and the highest above it.
-#[derive(Drop)]
+#[derive(Clone, Copy)]
 pub struct Bounds {
     pub back0: u32,
     pub ahead0: u32,
@@ -17,7 +19,7 @@ pub struct Bounds {
 
 // The reach: the box, and the places that can be read, the own cell among them. Place k has the word of its index in dimension d at 3 * k + d.
 // A count over 256: there are too many, and the box holds.
-#[derive(Drop)]
+#[derive(Clone, Copy)]
 pub struct Reach {
     pub bounds: Bounds,
     pub count: u32,

@@ -15,7 +15,8 @@ use Rattle.automaton.specs.Listed.{list_of}
 use Rattle.automaton.specs.Promises.ListedLaws.{length_list_of, get_d_list_of, list_of_ext, last_or_below}
 use Rattle.automaton.specs.Shape.{product, cell_number, coordinates, shift, neighbour}
 use Rattle.automaton.specs.Promises.Opening.{opens_of}
-use Rattle.automaton.specs.Promises.ShapeLaws.{Positive, coordinates_inside, inside_at, wrap_mod}
+use Rattle.automaton.specs.Promises.ShapeLaws.{Positive}
+use Rattle.automaton.proofs.ShapeLaws.{coordinates_inside, inside_at, wrap_mod}
 use Rattle.run_meaning.proofs.Theorems.Digits.{coordinates_length, size_positive, Digits, digits_start, digits_more, digits_done}
 use Rattle.run_meaning.specs.Promises.Fitting.{place_at}
 use Rattle.run_place_marks.specs.Promises.Placing.{step_from, cell_from, StepPlaced, Back, StepCoordinates, Backs}

@@ -8,7 +8,8 @@ use lib.ListN.{length, get_or, set, drop}
 use lib.Seq.{drop-cons, drop-length}
 use Rattle.automaton.specs.Promises.ListedLaws.{length_list_of, get_d_list_of}
 use Rattle.automaton.specs.Shape.{product, cell_number}
-use Rattle.automaton.specs.Promises.ShapeLaws.{Inside, number_lt, Positive, product_pos}
+use Rattle.automaton.specs.Promises.ShapeLaws.{Inside, Positive}
+use Rattle.automaton.proofs.ShapeLaws.{number_lt, product_pos}
 use Rattle.run_meaning.proofs.Theorems.Digits.{size_small}
 use Rattle.run_place_marks.specs.Promises.Placing.{step_from, cell_from, StepPlaced, note_places}
 

@@ -1,3 +1,5 @@
+#![tactic(auto)]
+
 // The cells that a changed cell opens, by a list of places: each is a step back from it.
 ghost use Rattle.std.specs.Prelude.{◌≡◌, ℕ, ◌+◌, ◌*◌, ◌%◌, ◌<◌, ◌≤◌, length, neg_ℤ};
 ghost use Rattle.value.specs.Limits.{most_dims, most_cells, most_places};
@@ -106,6 +108,7 @@ fn set_step(sizes: &[u32], places: &[u32], k: usize, steps: &mut [u32])
 }
 
 // Sets the steps back by the first places of a list.
+#[tactic(auto, using(crate::proofs::BackLaws::backs_start, crate::proofs::BackLaws::backs_more))]
 pub fn set_steps(sizes: &[u32], places: &[u32], count: usize, steps: &mut [u32])
     requires { (length sizes.now ≤ most_dims) × Positive sizes.now × (length places.now ≡ place_words) × (count ≤ most_places) × (length steps.old ≡ place_words) }
     ensures { Backs sizes.now places.now 0 count steps.old steps.new }

@@ -11,7 +11,7 @@ use lib.IntN.{pos}
 use lib.ListN.{length, get_or, set, length-set, get_or-eq_default}
 use lib.Seq.{get_or-set_same, get_or-set_other}
 use borrow.Author.Tests.{eq-eqb, ne_eqb}
-use Rattle.value.specs.Choice.{if◌then◌else◌}
+use Rattle.std.specs.Prelude.{if◌then◌else◌}
 use Rattle.value.specs.Worked.{decode_of}
 use Rattle.automaton.specs.Promises.ListedLaws.{length_list_of, get_d_list_of, last_or_below}
 use Rattle.program.specs.Syntax.{Index, fixed, moving}

@@ -4,4 +4,3 @@ pub mod ElementLaws
 pub mod ChoiceLaws
 pub mod VectorLaws
 pub mod ListLaws
-pub mod ReachRow

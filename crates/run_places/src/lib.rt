@@ -1,3 +1,5 @@
+#![tactic(auto)]
+
 // The places that relative indices can take, found in the word table, and the reach widened by them.
 
 pub mod listing;

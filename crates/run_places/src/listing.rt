@@ -23,6 +23,7 @@ fn word_differs(x: u32, y: u32) -> bool
 }
 
 // Whether place i of one list is place j of another.
+#[tactic(auto, using(crate::proofs::ListLaws::agreeing_not, crate::proofs::ListLaws::agreeing_done))]
 fn same_place(a: &[u32], i: usize, b: &[u32], j: usize, dims: usize) -> bool
     requires { (length a.now ≡ place_words) × (i < most_places) × (length b.now ≡ place_words) × (j < most_places) × (dims ≤ most_dims) }
     ensures { result ≡ not (differ (place_at a.now dims i) (place_at b.now dims j)) }
@@ -65,6 +66,7 @@ fn put_place(places: &mut [u32], k: usize, list: &[u32], e: usize, dims: usize)
 }
 
 // Adds place e of a list to so many places, unless it is among them; returns how many there are then, over 256 if there would be too many.
+#[tactic(auto, using(crate::proofs::ListLaws::add_past, crate::proofs::ListLaws::add_known, crate::proofs::ListLaws::add_full, crate::proofs::ListLaws::add_new))]
 fn add_place(places: &mut [u32], count: u32, list: &[u32], e: usize, dims: usize) -> u32
     requires { (length places.old ≡ place_words) × (length list.now ≡ place_words) × (e < most_places) × (dims ≤ most_dims) }
     ensures { place_list places.new dims result ≡ add_place (place_list places.old dims count) (place_at list.now dims e) }
@@ -83,6 +85,7 @@ fn add_place(places: &mut [u32], count: u32, list: &[u32], e: usize, dims: usize
 }
 
 // Adds the first places of a list, in their order.
+#[tactic(auto, using(crate::proofs::ListLaws::adding_start, crate::proofs::ListLaws::adding_more))]
 pub fn add_places(places: &mut [u32], count: u32, list: &[u32], many: u32, dims: usize) -> u32
     requires { (length places.old ≡ place_words) × (length list.now ≡ place_words) × (many ≤ most_places) × (dims ≤ most_dims) }
     ensures { place_list places.new dims result ≡ add_places (place_list places.old dims count) (list_of (place_at list.now dims) many) }

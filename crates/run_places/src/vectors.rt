@@ -20,6 +20,7 @@ use value::Value;
 use value::limits::{MOST_OPEN, MOST_PLACES, PLACE_WORDS};
 
 // The word of the element of a relative index at a position, where the variables of the open loops, of which there are `depth`, have given words.
+#[tactic(auto, using(crate::proofs::ElementLaws::word_open, crate::proofs::ElementLaws::word_shut, crate::proofs::ElementLaws::word_named, crate::proofs::ElementLaws::word_fixed))]
 pub fn element_word(
     words: &[u32],
     n: usize,
@@ -45,6 +46,7 @@ pub fn element_word(
 }
 
 // Whether the element of a relative index at a position is the variable of the loop at a depth.
+#[tactic(auto, using(crate::proofs::ElementLaws::variable_here, crate::proofs::ElementLaws::variable_named, crate::proofs::ElementLaws::variable_not))]
 fn is_variable(words: &[u32], n: usize, dims: usize, which: usize, at: usize) -> bool
     requires { (4 * n ≤ length words.now) × (n ≤ most_tokens) }
     ensures { result ≡ is_variable which (index_in (table_of words.now n dims) at) }
@@ -58,6 +60,7 @@ fn is_variable(words: &[u32], n: usize, dims: usize, which: usize, at: usize) ->
 }
 
 // Whether the variable of the loop at a depth occurs in the relative index whose elements begin at a position.
+#[tactic(auto, using(crate::proofs::ElementLaws::looking_found, crate::proofs::ElementLaws::looking_more, crate::proofs::ElementLaws::looking_done))]
 fn uses(words: &[u32], n: usize, dims: usize, which: usize, at: usize) -> bool
     requires { (4 * n ≤ length words.now) × (n ≤ most_tokens) × (dims ≤ most_dims) × (at ≤ most_tokens) }
     ensures { result ≡ uses which (indices_in (table_of words.now n dims) dims at) }
@@ -75,6 +78,7 @@ fn uses(words: &[u32], n: usize, dims: usize, which: usize, at: usize) -> bool
 }
 
 // A word for a variable that occurs in a relative index, 0 for one that does not.
+#[tactic(auto, using(crate::proofs::ElementLaws::word_used, crate::proofs::ElementLaws::word_unused))]
 fn used_word(words: &[u32], n: usize, dims: usize, word: u32, which: usize, at: usize) -> u32
     requires { (4 * n ≤ length words.now) × (n ≤ most_tokens) × (dims ≤ most_dims) × (at ≤ most_tokens) }
     ensures { result ≡ used_word (indices_in (table_of words.now n dims) dims at) which word }
@@ -86,6 +90,7 @@ fn used_word(words: &[u32], n: usize, dims: usize, word: u32, which: usize, at: 
 }
 
 // Of the words of the open loops, those of the variables that occur in a relative index; 0 for the others.
+#[tactic(auto, using(crate::proofs::ElementLaws::using_start, crate::proofs::ElementLaws::using_more, crate::proofs::ElementLaws::using_done))]
 fn used(
     words: &[u32],
     n: usize,

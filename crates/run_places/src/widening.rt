@@ -8,6 +8,7 @@ use run_meaning::Reach;
 use value::limits::PLACES_LISTED;
 
 // A reach with the places of a relative index added to its own, and the bounds given there.
+#[tactic(auto, using(crate::proofs::ListLaws::widens_past, crate::proofs::ListLaws::widens_more))]
 fn widened(reach: Reach, index: Reach, dims: usize) -> Reach
     requires { dims ≤ most_dims }
     ensures { Widens reach index dims result }

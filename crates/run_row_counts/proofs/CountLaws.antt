@@ -13,7 +13,8 @@ use Rattle.value.specs.Number.{eq_z}
 use Rattle.automaton.specs.Promises.ListedLaws.{list_of_ext, get_d_list_of, last_or_below, Made, made_done}
 use Rattle.automaton.specs.Step.{how_many}
 use Rattle.automaton.specs.Shape.{product}
-use Rattle.automaton.specs.Promises.ShapeLaws.{Positive, product_pos}
+use Rattle.automaton.specs.Promises.ShapeLaws.{Positive}
+use Rattle.automaton.proofs.ShapeLaws.{product_pos}
 use Rattle.automaton.specs.Grid.{cell_of}
 use Rattle.automaton.proofs.Theorems.GridLaws.{cell_room}
 use Rattle.automaton.proofs.Theorems.Quiet.{how_many_ext, how_many_le, bit_le}

@@ -28,6 +28,7 @@ fn zero_at(grid: &[i32], at: usize) -> u32
 }
 
 // How many of the cells of a row, whose first cell is `from`, have 0 in the field.
+#[tactic(auto, using(crate::proofs::CountLaws::none_counted, crate::proofs::CountLaws::one_counted, crate::proofs::CountLaws::counted_few, crate::proofs::CountLaws::zero_few))]
 fn count_row(grid: &[i32], from: usize, cells: usize, fields: usize, field: usize) -> u32
     requires { RowCountable (length grid.now) from cells fields field }
     ensures { result ≡ how_many (λ j. has_zero fields field grid.now (from + j)) cells }

@@ -11,6 +11,7 @@ pub struct Rows {
 }
 
 // Whether so many counts can be one for each row of a grid.
+#[tactic(auto, using(crate::proofs::QueryLaws::no_counts, crate::proofs::QueryLaws::some_counts))]
 fn one_a_row(counts: usize) -> bool
     ensures { result ≡ one_a_row counts }
 {
@@ -21,6 +22,7 @@ fn one_a_row(counts: usize) -> bool
 }
 
 // Whether so many counts have the rows from a first to a last one.
+#[tactic(auto, using(crate::proofs::QueryLaws::no_rows, crate::proofs::QueryLaws::rows_reversed, crate::proofs::QueryLaws::rows_in_order))]
 fn rows_within(counts: usize, first: u32, last: u32) -> bool
     ensures { result ≡ rows_within counts first last }
 {

@@ -9,35 +9,36 @@ use tool_console::texts::{complain, say, say_number};
 use tool_planned_run::plan_and_run;
 
 // Whether the rows that can be held of a grid of so many entries have their room, if the run is made of bands. If not, that is said.
-pub fn can_be_held(sizes: &[u32], entries: usize, order: Order) -> bool {
+pub fn can_be_held(rt: &HostRuntime, sizes: &[u32], entries: usize, order: Order) -> bool {
     if !order.banded {
         return true;
     }
     let fits = tool_planned_run::can_be_held(sizes, entries, order.held);
     if !fits {
-        complain(b"run_rule: R rows have more than 32768 entries\n");
+        complain(rt, b"run_rule: R rows have more than 32768 entries\n");
     }
     fits
 }
 
 // Writes of how many bands a run was made that began, and if there was no plan for it, how many rows are needed.
-fn say_bands(number: u32, bands: u32, held: u32, needed: u64) {
+fn say_bands(rt: &HostRuntime, number: u32, bands: u32, held: u32, needed: u64) {
     if number == 59 {
-        say(b"bands: none, a band of one row needs ");
-        say_number(needed);
-        say(b" rows with its border rows\n");
+        say(rt, b"bands: none, a band of one row needs ");
+        say_number(rt, needed);
+        say(rt, b" rows with its border rows\n");
     }
     if reports::has_begun(number) {
-        say(b"bands: ");
-        say_number(wide(bands));
-        say(b", of at most ");
-        say_number(wide(held));
-        say(b" rows with their border rows\n");
+        say(rt, b"bands: ");
+        say_number(rt, wide(bands));
+        say(rt, b", of at most ");
+        say_number(rt, wide(held));
+        say(rt, b" rows with their border rows\n");
     }
 }
 
 // Runs a source on a grid by bands of rows, reports, and writes what is left. Returns the report.
 pub fn run_and_tell(
+    rt: &HostRuntime,
     source: &[u8],
     sizes: &[u32],
     grid: &mut [i32],
@@ -68,8 +69,8 @@ pub fn run_and_tell(
     let report = made.report;
     let field = fields::field_told(report, &words, fields_of(entries, cells));
     let name = fields::record_of(source, field);
-    reports::tell(report, name, source, values, sizes, entries, cells);
-    say_bands(report.number, made.bands, order.held, made.needed);
-    write_left(report, sizes, grid, scratch, marks, order, counts);
+    reports::tell(rt, report, name, source, values, sizes, entries, cells);
+    say_bands(rt, report.number, made.bands, order.held, made.needed);
+    write_left(rt, report, sizes, grid, scratch, marks, order, counts);
     report
 }

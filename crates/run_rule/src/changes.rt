@@ -3,27 +3,31 @@ use crate::arguments::is_given;
 use crate::reports::has_begun;
 use list_writer::write_list;
 use run_steps::Report;
+use std::alloc::AllocError;
 use std::num::{wrapping_add_u64, wrapping_add_usize};
 use tool_console::places::wide;
 use tool_console::rooms;
 use tool_console::rooms::ROOM;
-use tool_console::texts::{close_output, complain, complain_number, open_output};
+use tool_console::texts::{close_output, complain, complain_number, fail, open_output, put};
 use value::limits::NAME_WORDS;
 
 // Whether the list of changes is requested, by a ninth argument.
-fn is_asked() -> bool {
-    is_given(9)
+fn is_asked(rt: &HostRuntime) -> bool {
+    is_given(rt, 9)
 }
 
 // Whether a grid of so many entries can be kept, if it has to be: it takes half of the room. If not, that is said.
-pub fn can_be_kept(entries: usize) -> bool {
-    if !is_asked() {
+pub fn can_be_kept(rt: &HostRuntime, entries: usize) -> bool {
+    if !is_asked(rt) {
         return true;
     }
     if entries <= ROOM / 2 {
         return true;
     }
-    complain(b"run_rule: GRID has more than 393216 entries, too many for CHANGES\n");
+    complain(
+        rt,
+        b"run_rule: GRID has more than 393216 entries, too many for CHANGES\n",
+    );
     false
 }
 
@@ -38,8 +42,8 @@ fn copy(room: &mut [i32], from: usize, entries: usize) {
 }
 
 // Puts a copy of the first entries after them, if the list of changes is requested.
-pub fn keep(room: &mut [i32], entries: usize) {
-    if !is_asked() {
+pub fn keep(rt: &HostRuntime, room: &mut [i32], entries: usize) {
+    if !is_asked(rt) {
         return;
     }
     let mut i = 0;
@@ -67,62 +71,70 @@ fn time_reached(start: i64, steps: u32) -> i64 {
 }
 
 // Says why the list could not be written.
-fn complain_reply(number: u32) {
-    complain(b"run_rule: CHANGES: reply ");
-    complain_number(wide(number));
+fn complain_reply(rt: &HostRuntime, number: u32) {
+    complain(rt, b"run_rule: CHANGES: reply ");
+    complain_number(rt, wide(number));
     if number == 57 {
-        complain(b": the list of changes is too long for this program");
+        complain(rt, b": the list of changes is too long for this program");
     }
-    complain(b"\n");
+    complain(rt, b"\n");
 }
 
 // Writes a text to the file that the ninth argument names. If that cannot be done, it is said.
-fn write_text(text: &[u8]) {
-    let file = open_output(9);
-    if file < 0 {
+fn write_text(rt: &HostRuntime, text: &[u8]) {
+    let Some(mut file) = open_output(rt, 9) else {
         return;
-    }
-    let written = io::write_all(file, text);
-    if !written {
-        os::fail(b"CHANGES");
+    };
+    if let Err(error) = put(&mut file, text) {
+        fail(rt, b"CHANGES", &error);
     }
     close_output(file);
 }
 
 // Writes the list that leads from one grid to another at a time.
-fn write_between(source: &[u8], sizes: &[u32], earlier: &[i32], later: &[i32], time: i64) {
+fn write_between(
+    rt: &HostRuntime,
+    source: &[u8],
+    sizes: &[u32],
+    earlier: &[i32],
+    later: &[i32],
+    time: i64,
+) -> Result<(), AllocError> {
     let list = spelling::BUILT_IN;
     let mut words = rooms::table_room();
     let mut names = [0u32; NAME_WORDS];
-    let mut room = rooms::text_room();
+    let mut room = rooms::text_room(rt.alloc())?;
     let written = write_list(
         source, &list, &mut words, &mut names, sizes, earlier, later, time, &mut room,
     );
     if written.number != 0 {
-        complain_reply(written.number);
-        return;
+        complain_reply(rt, written.number);
+        return Ok(());
     }
     let length = rooms::of_bytes(written.length as usize, &room);
-    write_text(&room[..length]);
+    write_text(rt, &room[..length]);
+    Ok(())
 }
 
 // Writes the list of changes, if it is requested and the run began. The grid is at the start of the room, and the grid as it was before the
 // run after it.
 pub fn write(
+    rt: &HostRuntime,
     source: &[u8],
     sizes: &[u32],
     room: &[i32],
     entries: usize,
     report: Report,
     start: i64,
-) {
-    if !is_asked() || !has_begun(report.number) {
-        return;
+) -> Result<(), AllocError> {
+    if !is_asked(rt) || !has_begun(report.number) {
+        return Ok(());
     }
     if entries <= room.len() {
         let rest = room.len() - entries;
         if entries <= rest {
-            write_between(
+            return write_between(
+                rt,
                 source,
                 sizes,
                 &room[entries..entries + entries],
@@ -131,4 +143,5 @@ pub fn write(
             );
         }
     }
+    Ok(())
 }

@@ -1,3 +1,5 @@
+#![tactic(auto)]
+
 // Runs a rule on a grid, called as
 //     run_rule RULE SHAPE START STEPS full|quiet|pause|resume GRID OUT [LIST [CHANGES [PAUSE]]] [--rows R] [--zeros FIELD]
 // It writes the report of the run in words to standard output, the grid that is left to OUT, and the value list that leads there from the grid
@@ -22,6 +24,7 @@ use api_naming::Ran;
 use arguments::{Order, Orders};
 use rows::write_grid;
 use run_steps::Report;
+use std::alloc::AllocError;
 use tool_console::grids::Grid;
 use tool_console::shapes::fields_of;
 use tool_console::texts::Text;
@@ -75,6 +78,7 @@ fn run(
 
 // Writes where a run paused and which cells are left with 0 in a field, if requested, and then what is left.
 fn write_left(
+    rt: &HostRuntime,
     report: Report,
     sizes: &[u32],
     grid: &[i32],
@@ -83,14 +87,15 @@ fn write_left(
     order: Order,
     counts: &[u32],
 ) {
-    pauses::tell(report, marks, order);
-    zeros::tell(report, sizes, order, counts);
-    let written = write_grid(grid, shapes::row(sizes, grid.len(), marks.len()));
-    pauses::write(report, sizes, scratch, marks, order, written);
+    pauses::tell(rt, report, marks, order);
+    zeros::tell(rt, report, sizes, order, counts);
+    let written = write_grid(rt, grid, shapes::row(sizes, grid.len(), marks.len()));
+    pauses::write(rt, report, sizes, scratch, marks, order, written);
 }
 
 // Runs a source on a grid, reports, and writes what is left. Returns the report.
 fn run_and_tell(
+    rt: &HostRuntime,
     source: &[u8],
     sizes: &[u32],
     grid: &mut [i32],
@@ -110,13 +115,14 @@ fn run_and_tell(
     let field = fields::field_told(report, &words, fields_of(entries, cells));
     let rows = ran.rows;
     let name = api_naming::field_record(rows, field);
-    reports::tell(report, name, source, values, sizes, entries, cells);
-    write_left(report, sizes, grid, scratch, marks, order, counts);
+    reports::tell(rt, report, name, source, values, sizes, entries, cells);
+    write_left(rt, report, sizes, grid, scratch, marks, order, counts);
     report
 }
 
 // Runs a source on a grid, by bands of rows if requested, with a count for each row if zeros are counted, else with none.
 fn run_counted(
+    rt: &HostRuntime,
     source: &[u8],
     sizes: &[u32],
     grid: &mut [i32],
@@ -129,6 +135,7 @@ fn run_counted(
     let counted = rooms::of_words(zeros::counts_of(sizes, order), &counts);
     if order.banded {
         return banded::run_and_tell(
+            rt,
             source,
             sizes,
             grid,
@@ -140,6 +147,7 @@ fn run_counted(
         );
     }
     run_and_tell(
+        rt,
         source,
         sizes,
         grid,
@@ -153,21 +161,23 @@ fn run_counted(
 
 // Runs a source on a grid, from the marks of PAUSE if it is resumed, with as much of two rooms as it needs. They are free again when it ends.
 fn run_in_rooms(
+    rt: &HostRuntime,
     source: &[u8],
     sizes: &[u32],
     cells: usize,
     grid: &mut [i32],
     values: &[u8],
     order: Order,
-) -> Outcome {
-    let mut scratch = rooms::scratch_room();
-    let mut marks = rooms::bytes_room();
-    if !pauses::read(&mut scratch, &mut marks, cells, order) {
-        return Outcome::Refused;
+) -> Result<Outcome, AllocError> {
+    let mut scratch = rooms::scratch_room(rt.alloc())?;
+    let mut marks = rooms::bytes_room(rt.alloc())?;
+    if !pauses::read(rt, &mut scratch, &mut marks, cells, order) {
+        return Ok(Outcome::Refused);
     }
     let kept = rooms::of_numbers(grid.len(), &scratch);
     let marked = rooms::of_bytes(cells, &marks);
-    Outcome::Told(run_counted(
+    Ok(Outcome::Told(run_counted(
+        rt,
         source,
         sizes,
         grid,
@@ -175,11 +185,12 @@ fn run_in_rooms(
         &mut marks[..marked],
         values,
         order,
-    ))
+    )))
 }
 
 // Runs a source on the grid at the start of a room, and writes what changed, if requested: then a copy of the grid as given follows it.
 fn run_and_compare(
+    rt: &HostRuntime,
     source: &[u8],
     sizes: &[u32],
     cells: usize,
@@ -187,76 +198,93 @@ fn run_and_compare(
     count: usize,
     values: &[u8],
     order: Order,
-) {
-    changes::keep(room, count);
+) -> Result<(), AllocError> {
+    changes::keep(rt, room, count);
     let entries = rooms::of_numbers(count, room);
     let Outcome::Told(report) = run_in_rooms(
+        rt,
         source,
         sizes,
         cells,
         &mut room[..entries],
         values,
         order,
-    ) else {
-        return;
+    )?
+    else {
+        return Ok(());
     };
-    changes::write(source, sizes, room, entries, report, order.start);
+    changes::write(rt, source, sizes, room, entries, report, order.start)
 }
 
 // Reads the grid, and runs a source on it.
-fn run_on_grid(source: &[u8], sizes: &[u32], cells: usize, values: &[u8], order: Order) {
-    let mut grid = rooms::numbers_room();
-    let Grid::Taken(count) = grids::grid_argument(6, b"run_rule: GRID", &mut grid) else {
-        return;
+fn run_on_grid(
+    rt: &HostRuntime,
+    source: &[u8],
+    sizes: &[u32],
+    cells: usize,
+    values: &[u8],
+    order: Order,
+) -> Result<(), AllocError> {
+    let mut grid = rooms::numbers_room(rt.alloc())?;
+    let Grid::Taken(count) = grids::grid_argument(rt, 6, b"run_rule: GRID", &mut grid) else {
+        return Ok(());
     };
-    if changes::can_be_kept(count) && banded::can_be_held(sizes, count, order) {
-        run_and_compare(source, sizes, cells, &mut grid, count, values, order);
+    if changes::can_be_kept(rt, count) && banded::can_be_held(rt, sizes, count, order) {
+        return run_and_compare(rt, source, sizes, cells, &mut grid, count, values, order);
     }
+    Ok(())
 }
 
 // Reads the value list.
-fn run_with_list(source: &[u8], sizes: &[u32], cells: usize, order: Order) {
-    let mut room = rooms::list_room();
-    let Text::Read(n) = values::list_argument(&mut room) else {
-        return;
+fn run_with_list(
+    rt: &HostRuntime,
+    source: &[u8],
+    sizes: &[u32],
+    cells: usize,
+    order: Order,
+) -> Result<(), AllocError> {
+    let mut room = rooms::list_room(rt.alloc())?;
+    let Text::Read(n) = values::list_argument(rt, &mut room) else {
+        return Ok(());
     };
     let length = rooms::of_bytes(n, &room);
-    run_on_grid(source, sizes, cells, &room[..length], order);
+    run_on_grid(rt, source, sizes, cells, &room[..length], order)
 }
 
 // Takes the other arguments, and reads the rule.
-fn run_in_shape(sizes: &[u32]) {
+fn run_in_shape(rt: &HostRuntime, sizes: &[u32]) -> Result<(), AllocError> {
     let cells = shapes::cells_of(sizes);
     if cells > rooms::ROOM {
-        texts::complain(b"run_rule: SHAPE has more than 786432 cells\n");
-        return;
+        texts::complain(rt, b"run_rule: SHAPE has more than 786432 cells\n");
+        return Ok(());
     }
-    let Orders::Taken(asked) = arguments::order_arguments() else {
-        return;
+    let Orders::Taken(asked) = arguments::order_arguments(rt) else {
+        return Ok(());
     };
     let manner = asked.manner;
-    if !pauses::is_right(manner) {
-        return;
+    if !pauses::is_right(rt, manner) {
+        return Ok(());
     }
     let mut source = io::large_buffer();
-    let Text::Read(n) = texts::read_file(1, b"RULE", &mut source) else {
-        return;
+    let Text::Read(n) = texts::read_file(rt, 1, b"RULE", &mut source) else {
+        return Ok(());
     };
     let length = rooms::of_bytes(n, &source);
-    let Orders::Taken(order) = zeros::with_zeros(&source[..length], asked) else {
-        return;
+    let Orders::Taken(order) = zeros::with_zeros(rt, &source[..length], asked) else {
+        return Ok(());
     };
-    run_with_list(&source[..length], sizes, cells, order);
+    run_with_list(rt, &source[..length], sizes, cells, order)
 }
 
 // Takes the shape.
-fn main() {
-    if !arguments::all_there() {
-        return;
+fn main(rt: HostRuntime) -> Result<(), AllocError> {
+    if !arguments::all_there(&rt) {
+        return Ok(());
     }
     let mut sizes = [0u32; MOST_DIMS];
-    let dims = shapes::shape_argument(2, b"run_rule: SHAPE", &mut sizes);
+    let dims = shapes::shape_argument(&rt, 2, b"run_rule: SHAPE", &mut sizes);
     if dims > 0 {
-        run_in_shape(&sizes[..dims]);
+        return run_in_shape(&rt, &sizes[..dims]);
     }
+    Ok(())
 }

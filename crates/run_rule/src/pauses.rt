@@ -7,9 +7,11 @@ use crate::rows::write_rows;
 use run_steps::{Manner, Report};
 use std::num::wrapping_add_u64;
 use tool_console::grids::Grid;
-use tool_console::texts::{close_output, complain, complain_number, open_output, say, say_number};
+use tool_console::texts::{
+    Target, close_output, complain, complain_number, fail, open_output, put, say, say_number,
+};
 use tool_console::{grids, rooms, shapes};
-use tool_text::put_value;
+use tool_text::{put_byte, put_number, put_value};
 
 // Whether a run begins from the marks of the file.
 fn begins_from_marks(manner: Manner) -> bool {
@@ -32,58 +34,58 @@ fn leaves_marks(manner: Manner) -> bool {
 }
 
 // Whether the tenth argument names the file if a run needs it, and only then. If not, that is said.
-pub fn is_right(manner: Manner) -> bool {
-    let given = is_given(10);
+pub fn is_right(rt: &HostRuntime, manner: Manner) -> bool {
+    let given = is_given(rt, 10);
     if leaves_marks(manner) {
         if !given {
-            complain(b"run_rule: pause and resume need the file PAUSE\n");
+            complain(rt, b"run_rule: pause and resume need the file PAUSE\n");
         }
         return given;
     }
     if given {
-        complain(b"run_rule: PAUSE is for pause and resume alone\n");
+        complain(rt, b"run_rule: PAUSE is for pause and resume alone\n");
     }
     !given
 }
 
 // Writes a value to standard error.
-fn complain_value(n: i32) {
+fn complain_value(rt: &HostRuntime, n: i32) {
     let mut text = [0u8; 16];
     let end = put_value(&mut text, 0, n);
     let length = rooms::of_bytes(end, &text);
-    complain(&text[..length]);
+    complain(rt, &text[..length]);
 }
 
 // Says that the time of the file is not the start of the run.
-fn complain_time(time: i32) {
-    complain(b"run_rule: PAUSE is of the time ");
-    complain_value(time);
-    complain(b", which is not START\n");
+fn complain_time(rt: &HostRuntime, time: i32) {
+    complain(rt, b"run_rule: PAUSE is of the time ");
+    complain_value(rt, time);
+    complain(rt, b", which is not START\n");
 }
 
 // Says that the marks of the file are not as many as the cells.
-fn complain_marks(marks: usize, cells: usize) {
-    complain(b"run_rule: PAUSE has ");
-    complain_number(marks as u64);
-    complain(b" marks for ");
-    complain_number(cells as u64);
-    complain(b" cells\n");
+fn complain_marks(rt: &HostRuntime, marks: usize, cells: usize) {
+    complain(rt, b"run_rule: PAUSE has ");
+    complain_number(rt, marks as u64);
+    complain(rt, b" marks for ");
+    complain_number(rt, cells as u64);
+    complain(rt, b" cells\n");
 }
 
 // Whether the numbers of a file are a time, which is the start of the run, and one number for each cell. If not, that is said.
-fn is_of_run(numbers: &[i32], cells: usize, start: i64) -> bool {
+fn is_of_run(rt: &HostRuntime, numbers: &[i32], cells: usize, start: i64) -> bool {
     if numbers.len() == 0 {
-        complain(b"run_rule: PAUSE is empty\n");
+        complain(rt, b"run_rule: PAUSE is empty\n");
         return false;
     }
     let time = numbers[0];
     if wide(time) != start {
-        complain_time(time);
+        complain_time(rt, time);
         return false;
     }
     let marks = numbers.len() - 1;
     if marks != cells {
-        complain_marks(marks, cells);
+        complain_marks(rt, marks, cells);
     }
     marks == cells
 }
@@ -113,28 +115,34 @@ fn take_marks(numbers: &[i32], marks: &mut [u8]) -> bool {
 }
 
 // Takes the numbers of a file as the marks from which a run begins. If that cannot be done, it is said.
-fn take(numbers: &[i32], marks: &mut [u8], cells: usize, start: i64) -> bool {
-    if !is_of_run(numbers, cells, start) {
+fn take(rt: &HostRuntime, numbers: &[i32], marks: &mut [u8], cells: usize, start: i64) -> bool {
+    if !is_of_run(rt, numbers, cells, start) {
         return false;
     }
     let good = take_marks(numbers, marks);
     if !good {
-        complain(b"run_rule: PAUSE has a mark that is neither 0 nor 1\n");
+        complain(rt, b"run_rule: PAUSE has a mark that is neither 0 nor 1\n");
     }
     good
 }
 
 // Reads the marks from which a run begins, if it is resumed, by way of a room of numbers. If they cannot be taken, that is said.
-pub fn read(room: &mut [i32], marks: &mut [u8], cells: usize, order: Order) -> bool {
+pub fn read(
+    rt: &HostRuntime,
+    room: &mut [i32],
+    marks: &mut [u8],
+    cells: usize,
+    order: Order,
+) -> bool {
     let manner = order.manner;
     if !begins_from_marks(manner) {
         return true;
     }
-    let Grid::Taken(count) = grids::grid_argument(10, b"run_rule: PAUSE", room) else {
+    let Grid::Taken(count) = grids::grid_argument(rt, 10, b"run_rule: PAUSE", room) else {
         return false;
     };
     let n = rooms::of_numbers(count, room);
-    take(&room[..n], marks, cells, order.start)
+    take(rt, &room[..n], marks, cells, order.start)
 }
 
 // How many cells are open, with a mark more.
@@ -157,24 +165,24 @@ fn open_cells(marks: &[u8]) -> u64 {
 }
 
 // Writes where a run paused, or why it did not, if it was to pause.
-pub fn tell(report: Report, marks: &[u8], order: Order) {
+pub fn tell(rt: &HostRuntime, report: Report, marks: &[u8], order: Order) {
     let manner = order.manner;
     if !leaves_marks(manner) {
         return;
     }
     if is_fault(report.number) {
-        say(b"pause: none, the run cannot be resumed from here\n");
+        say(rt, b"pause: none, the run cannot be resumed from here\n");
         return;
     }
     if report.number != 0 {
-        say(b"pause: none, the run did not begin\n");
+        say(rt, b"pause: none, the run did not begin\n");
         return;
     }
-    say(b"pause: time ");
-    say_number(time_after(order.start, report.steps));
-    say(b", ");
-    say_number(open_cells(marks));
-    say(b" cells open\n");
+    say(rt, b"pause: time ");
+    say_number(rt, time_after(order.start, report.steps));
+    say(rt, b", ");
+    say_number(rt, open_cells(marks));
+    say(rt, b" cells open\n");
 }
 
 // Puts a mark into a row of numbers, if there is room for it.
@@ -198,16 +206,25 @@ fn put_marks(room: &mut [i32], marks: &[u8]) {
     }
 }
 
+// Writes a time in a line.
+fn write_time(file: &mut Target, time: u64) -> std::io::Result<()> {
+    let mut text = [0u8; 24];
+    let end = put_number(&mut text, 0, time);
+    let length = rooms::of_bytes(put_byte(&mut text, end, b'\n'), &text);
+    put(file, &text[..length])
+}
+
 // Writes a time and the marks, as numbers, to the file that the tenth argument names. If that cannot be done, it is said.
-fn write_file(time: u64, numbers: &[i32], row: usize) {
-    let file = open_output(10);
-    if file < 0 {
+fn write_file(rt: &HostRuntime, time: u64, numbers: &[i32], row: usize) {
+    let Some(mut file) = open_output(rt, 10) else {
         return;
-    }
-    let timed = io::print_decimal(file, time) && io::write_all(file, b"\n");
-    let marked = write_rows(file, numbers, row);
-    if !timed || !marked {
-        os::fail(b"PAUSE");
+    };
+    let timed = write_time(&mut file, time);
+    let marked = write_rows(&mut file, numbers, row);
+    if let Err(error) = marked {
+        fail(rt, b"PAUSE", &error);
+    } else if let Err(error) = timed {
+        fail(rt, b"PAUSE", &error);
     }
     close_output(file);
 }
@@ -215,6 +232,7 @@ fn write_file(time: u64, numbers: &[i32], row: usize) {
 // Writes the file, if a run has paused, by way of a room of numbers. It is of no use without the grid: if that was not written, the file is not
 // either, which is said.
 pub fn write(
+    rt: &HostRuntime,
     report: Report,
     sizes: &[u32],
     room: &mut [i32],
@@ -227,12 +245,13 @@ pub fn write(
         return;
     }
     if !written {
-        complain(b"run_rule: PAUSE is not written, since OUT is not\n");
+        complain(rt, b"run_rule: PAUSE is not written, since OUT is not\n");
         return;
     }
     put_marks(room, marks);
     let n = rooms::of_numbers(marks.len(), room);
     write_file(
+        rt,
         time_after(order.start, report.steps),
         &room[..n],
         shapes::row(sizes, n, n),

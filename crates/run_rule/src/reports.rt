@@ -34,59 +34,59 @@ fn has_line(number: u32) -> bool {
 }
 
 // Writes the spelling of a refusal of a source, if it has one.
-fn say_spelling(source: &[u8], number: u32, place: u32) {
+fn say_spelling(rt: &HostRuntime, source: &[u8], number: u32, place: u32) {
     let list = spelling::BUILT_IN;
     let text = spelling::spelling(source, &list, number, place);
     if text.len() > 0 {
-        say(b": `");
-        say(text);
-        say(b"`");
+        say(rt, b": `");
+        say(rt, text);
+        say(rt, b"`");
     }
 }
 
 // Writes a place in a source, and its line with a caret under it.
-fn say_place(source: &[u8], place: u32) {
+fn say_place(rt: &HostRuntime, source: &[u8], place: u32) {
     let p = position_of(source, place as usize);
-    say(b"place: byte ");
-    say_number(wide(place));
-    say(b", line ");
-    say_number(p.line);
-    say(b", column ");
-    say_number(p.column);
-    say(b"\n");
-    say_line(source, place as usize);
+    say(rt, b"place: byte ");
+    say_number(rt, wide(place));
+    say(rt, b", line ");
+    say_number(rt, p.line);
+    say(rt, b", column ");
+    say_number(rt, p.column);
+    say(rt, b"\n");
+    say_line(rt, source, place as usize);
 }
 
 // Writes an entry of the grid: its number, its cell and its field.
-fn say_entry(entry: u32, sizes: &[u32], fields: usize) {
-    say(b"entry: ");
-    say_number(wide(entry));
+fn say_entry(rt: &HostRuntime, entry: u32, sizes: &[u32], fields: usize) {
+    say(rt, b"entry: ");
+    say_number(rt, wide(entry));
     if fields <= 8 {
-        say_field(entry, sizes, fields as u32);
+        say_field(rt, entry, sizes, fields as u32);
     }
-    say(b"\n");
+    say(rt, b"\n");
 }
 
 // Writes how many entries and cells there are.
-fn say_counts(entries: usize, cells: usize) {
-    say(b"grid: ");
-    say_number(entries as u64);
-    say(b" entries for ");
-    say_number(cells as u64);
-    say(b" cells\n");
+fn say_counts(rt: &HostRuntime, entries: usize, cells: usize) {
+    say(rt, b"grid: ");
+    say_number(rt, entries as u64);
+    say(rt, b" entries for ");
+    say_number(rt, cells as u64);
+    say(rt, b" cells\n");
 }
 
 // Writes the cell that faulted.
-fn say_faulting(cell: u32, sizes: &[u32]) {
-    say(b"cell: ");
-    say_number(wide(cell));
-    say(b", at ");
-    say_cell(cell, sizes);
-    say(b"\n");
+fn say_faulting(rt: &HostRuntime, cell: u32, sizes: &[u32]) {
+    say(rt, b"cell: ");
+    say_number(rt, wide(cell));
+    say(rt, b", at ");
+    say_cell(rt, cell, sizes);
+    say(rt, b"\n");
 }
 
 // Writes the name of a field as it is declared, if there is one.
-fn say_name(source: &[u8], name: Name) {
+fn say_name(rt: &HostRuntime, source: &[u8], name: Name) {
     if name.kind == 0 {
         return;
     }
@@ -94,29 +94,30 @@ fn say_name(source: &[u8], name: Name) {
     let length = name.length as usize;
     if start <= source.len() {
         if length <= source.len() - start {
-            say(b"field: ");
-            say(&source[start..start + length]);
-            say(b"\n");
+            say(rt, b"field: ");
+            say(rt, &source[start..start + length]);
+            say(rt, b"\n");
         }
     }
 }
 
 // Writes the reply with its meaning, its spelling and its place.
-fn say_reply(number: u32, place: u32, source: &[u8]) {
-    say(b"reply ");
-    say_number(wide(number));
-    say(b": ");
-    say_meaning(number);
-    say_spelling(source, number, place);
-    say(b"\n");
+fn say_reply(rt: &HostRuntime, number: u32, place: u32, source: &[u8]) {
+    say(rt, b"reply ");
+    say_number(rt, wide(number));
+    say(rt, b": ");
+    say_meaning(rt, number);
+    say_spelling(rt, source, number, place);
+    say(rt, b"\n");
     if has_place(number) {
-        say_place(source, place);
+        say_place(rt, source, place);
     }
 }
 
 // Writes a report: the reply, the line of the list, the entry or the faulting cell with the name of the field that is spoken of, the steps done and
 // the cells evaluated.
 pub fn tell(
+    rt: &HostRuntime,
     report: Report,
     name: Name,
     source: &[u8],
@@ -125,23 +126,23 @@ pub fn tell(
     entries: usize,
     cells: usize,
 ) {
-    say_reply(report.number, report.place, source);
+    say_reply(rt, report.number, report.place, source);
     if has_line(report.number) {
-        say_list_line(values, report.line);
+        say_list_line(rt, values, report.line);
     }
     if report.number == 21 {
-        say_counts(entries, cells);
+        say_counts(rt, entries, cells);
     }
     if report.number == 24 {
-        say_entry(report.place, sizes, fields_of(entries, cells));
+        say_entry(rt, report.place, sizes, fields_of(entries, cells));
     }
     if is_fault(report.number) {
-        say_faulting(report.cell, sizes);
+        say_faulting(rt, report.cell, sizes);
     }
-    say_name(source, name);
-    say(b"steps done: ");
-    say_number(wide(report.steps));
-    say(b"\ncells evaluated: ");
-    say_number(report.count);
-    say(b"\n");
+    say_name(rt, source, name);
+    say(rt, b"steps done: ");
+    say_number(rt, wide(report.steps));
+    say(rt, b"\ncells evaluated: ");
+    say_number(rt, report.count);
+    say(rt, b"\n");
 }

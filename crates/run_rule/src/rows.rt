@@ -1,29 +1,38 @@
 // A grid that is written as text: a line for each row.
-use tool_console::texts::{close_output, open_output};
+use std::io::{Error, ErrorKind};
+use tool_console::texts::{Target, close_output, fail, open_output, put};
 use tool_text::{put_byte, put_value};
 
 // A file that is written by way of a buffer: how many bytes are in the buffer, and whether all could be written so far.
 #[derive(Drop)]
 struct Sink {
     at: usize,
-    good: bool,
+    written: std::io::Result<()>,
 }
 
 // Writes what is in the buffer.
-fn flush(file: i32, buffer: &[u8], sink: Sink) -> Sink {
+fn flush(file: &mut Target, buffer: &[u8], sink: Sink) -> Sink {
     let n = sink.at;
     if n > buffer.len() {
-        return Sink { at: 0, good: false };
+        return Sink {
+            at: 0,
+            written: Err(Error::from(ErrorKind::InvalidInput)),
+        };
     }
-    let written = io::write_all(file, &buffer[..n]);
-    Sink {
-        at: 0,
-        good: sink.good && written,
+    match put(file, &buffer[..n]) {
+        Ok(()) => Sink {
+            at: 0,
+            written: sink.written,
+        },
+        Err(error) => Sink {
+            at: 0,
+            written: Err(error),
+        },
     }
 }
 
 // Makes room for an entry, which takes 12 bytes at most with the byte after it.
-fn roomy(file: i32, buffer: &[u8], sink: Sink) -> Sink {
+fn roomy(file: &mut Target, buffer: &[u8], sink: Sink) -> Sink {
     if sink.at < 4000 {
         return sink;
     }
@@ -46,39 +55,42 @@ fn behind(i: usize, entries: usize, row: usize) -> u8 {
     32
 }
 
-fn write_entry(file: i32, buffer: &mut [u8], sink: Sink, n: i32, behind: u8) -> Sink {
+fn write_entry(file: &mut Target, buffer: &mut [u8], sink: Sink, n: i32, behind: u8) -> Sink {
     let s = roomy(file, buffer, sink);
     let end = put_value(buffer, s.at, n);
     Sink {
         at: put_byte(buffer, end, behind),
-        good: s.good,
+        written: s.written,
     }
 }
 
 // Writes the entries of a grid; whether they could be written.
-pub fn write_rows(file: i32, grid: &[i32], row: usize) -> bool {
+pub fn write_rows(file: &mut Target, grid: &[i32], row: usize) -> std::io::Result<()> {
     let mut buffer = io::buffer();
     let view: &mut [u8] = &mut buffer;
-    let mut sink = Sink { at: 0, good: true };
+    let mut sink = Sink {
+        at: 0,
+        written: Ok(()),
+    };
     let mut i = 0;
     while i < grid.len() {
         sink = write_entry(file, view, sink, grid[i], behind(i, grid.len(), row));
         i += 1;
     }
     let last = flush(file, view, sink);
-    last.good
+    last.written
 }
 
 // Writes a grid to the file that the seventh argument names; whether that could be done. If not, it is said.
-pub fn write_grid(grid: &[i32], row: usize) -> bool {
-    let file = open_output(7);
-    if file < 0 {
+pub fn write_grid(rt: &HostRuntime, grid: &[i32], row: usize) -> bool {
+    let Some(mut file) = open_output(rt, 7) else {
         return false;
-    }
-    let written = write_rows(file, grid, row);
-    if !written {
-        os::fail(b"OUT");
+    };
+    let written = write_rows(&mut file, grid, row);
+    let good = written.is_ok();
+    if let Err(error) = written {
+        fail(rt, b"OUT", &error);
     }
     close_output(file);
-    written
+    good
 }

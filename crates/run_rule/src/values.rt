@@ -5,15 +5,15 @@ use tool_console::texts::{Text, complain, read_file, say, say_number};
 
 // Puts the list that the eighth argument names at the start of a room; it is empty where there is no argument, or `-`. If it cannot be taken,
 // that is said.
-pub fn list_argument(room: &mut [u8]) -> Text {
-    if !is_given(8) {
+pub fn list_argument(rt: &HostRuntime, room: &mut [u8]) -> Text {
+    if !is_given(rt, 8) {
         return Text::Read(0);
     }
-    let Text::Read(n) = read_file(8, b"LIST", room) else {
+    let Text::Read(n) = read_file(rt, 8, b"LIST", room) else {
         return Text::Unread;
     };
     if n >= room.len() {
-        complain(b"run_rule: LIST is longer than 524287 bytes\n");
+        complain(rt, b"run_rule: LIST is longer than 524287 bytes\n");
         return Text::Unread;
     }
     Text::Read(n)
@@ -42,9 +42,9 @@ fn line_start(list: &[u8], line: u64) -> usize {
 }
 
 // Writes the line of a list that has a number.
-pub fn say_list_line(list: &[u8], line: u64) {
-    say(b"list: line ");
-    say_number(line);
-    say(b"\n");
-    say_line_from(list, line_start(list, line));
+pub fn say_list_line(rt: &HostRuntime, list: &[u8], line: u64) {
+    say(rt, b"list: line ");
+    say_number(rt, line);
+    say(rt, b"\n");
+    say_line_from(rt, list, line_start(list, line));
 }

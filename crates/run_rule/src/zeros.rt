@@ -19,8 +19,8 @@ const UNNAMED: u32 = 4294967294;
 const UNREAD: u32 = 4294967293;
 
 // The place of the name of the field among the arguments, 0 if the zeros are not requested.
-fn name_place() -> usize {
-    option_place(b"--zeros")
+fn name_place(rt: &HostRuntime) -> usize {
+    option_place(rt, b"--zeros")
 }
 
 // Whether two texts spell the same, without letter case.
@@ -94,24 +94,24 @@ fn field_named(source: &[u8], name: &[u8]) -> u32 {
 }
 
 // Says that no field has a name.
-fn complain_name(name: &[u8]) {
-    complain(b"run_rule: RULE has no field `");
-    complain(name);
-    complain(b"`\n");
+fn complain_name(rt: &HostRuntime, name: &[u8]) {
+    complain(rt, b"run_rule: RULE has no field `");
+    complain(rt, name);
+    complain(rt, b"`\n");
 }
 
 // The request of a run, with the field that is named, if any. If there is no such field, the program says so. A rule that is refused has no
 // fields, and is run to report why.
-pub fn with_zeros(source: &[u8], order: Order) -> Orders {
-    let place = name_place();
+pub fn with_zeros(rt: &HostRuntime, source: &[u8], order: Order) -> Orders {
+    let place = name_place(rt);
     if place == 0 {
         return Orders::Taken(order);
     }
     let mut text = io::buffer();
-    let n = argument(place, &mut text);
+    let n = argument(rt, place, &mut text);
     let field = field_named(source, &text[..n]);
     if field == NONE {
-        complain_name(&text[..n]);
+        complain_name(rt, &text[..n]);
         return Orders::Refused;
     }
     let manner = order.manner;
@@ -135,28 +135,28 @@ pub fn counts_of(sizes: &[u32], order: Order) -> usize {
 }
 
 // Writes the name of the field.
-fn say_name() {
+fn say_name(rt: &HostRuntime) {
     let mut text = io::buffer();
-    let n = argument(name_place(), &mut text);
-    say(&text[..n]);
+    let n = argument(rt, name_place(rt), &mut text);
+    say(rt, &text[..n]);
 }
 
 // Writes how many cells have 0 in the rows up to the last, and which row is the first with one.
-fn say_zeros(counts: &[u32], last: u32) {
+fn say_zeros(rt: &HostRuntime, counts: &[u32], last: u32) {
     let total = zeros_in_rows(counts, 0, last);
     let first = first_zero_row(counts);
-    say_number(total.value);
-    say(b" cells in rows 0 to ");
-    say_number(wide(last));
+    say_number(rt, total.value);
+    say(rt, b" cells in rows 0 to ");
+    say_number(rt, wide(last));
     if first.number == 0 {
-        say(b", first in row ");
-        say_number(first.value);
+        say(rt, b", first in row ");
+        say_number(rt, first.value);
     }
-    say(b"\n");
+    say(rt, b"\n");
 }
 
 // Writes what the counts say of the grid that is left, if zeros are counted and the run began.
-pub fn tell(report: Report, sizes: &[u32], order: Order, counts: &[u32]) {
+pub fn tell(rt: &HostRuntime, report: Report, sizes: &[u32], order: Order, counts: &[u32]) {
     if !order.counted || !has_begun(report.number) {
         return;
     }
@@ -164,8 +164,8 @@ pub fn tell(report: Report, sizes: &[u32], order: Order, counts: &[u32]) {
     if rows == 0 {
         return;
     }
-    say(b"zeros: field ");
-    say_name();
-    say(b", ");
-    say_zeros(counts, rows - 1);
+    say(rt, b"zeros: field ");
+    say_name(rt);
+    say(rt, b", ");
+    say_zeros(rt, counts, rows - 1);
 }

@@ -1,7 +1,7 @@
 -- The beginning of a run: what is known of a source that is read, and of a run that is admitted.
 use Prim.Native.Nat.{ℕ, ◌+◌, ◌<◌, ◌≤◌}
 use native.Mathlib.Omega.{arith}
-use mathlib.Core.Path.{◌≡◌, refl, sym, ap, ap₂, ◌∙◌, subst, subst₂}
+use mathlib.Core.Path.{◌≡◌, refl, sym, ap, ◌∙◌, subst, subst₂}
 use mathlib.Core.Bool.{Bool, true, false, not, ◌&&◌}
 use mathlib.Core.List.{List}
 use mathlib.Core.Option.{Option}
@@ -15,18 +15,17 @@ use mir.Facts.{to_z-of_z}
 use borrow.Author.Tests.{not-true, not-false, ne_eqb, le-ltb, lt-ltb}
 use Rattle.value.specs.Limits.{name_words}
 use Rattle.value.proofs.Theorems.Laws.{never}
-use Rattle.program.specs.Syntax.{Program}
 use Rattle.program.specs.Refusal.{Refusal, refusal}
 use Rattle.program.specs.declared.Rule.{Rule}
 use Rattle.grammar.specs.Checking as checking
 use Rattle.grammar.specs.Checking.{SourceRead, turned_away, accepted, rooms_fit, read_source, check}
 use Rattle.cell_meaning.specs.Written.{relatives_in}
-use Rattle.run_meaning.specs.Admission.{Request, admission}
+use Rattle.run_meaning.specs.Admission.{admission}
 use Rattle.run_meaning.specs.Report.{Manner, refused}
 use Rattle.program.specs.Promises.Fitting.{Sized}
 use Rattle.run_meaning.specs.Promises.Fitting.{held_fields}
 use Rattle.move_meaning.specs.Profile.{profile_flag}
-use Rattle.list_meaning.specs.ListChecking.{Turned, Verdict, verdict, limits_of, check_list}
+use Rattle.list_meaning.specs.ListChecking.{Turned, Verdict, limits_of}
 use Rattle.list_reader.specs.declared.checking.Verdict as judged
 use Rattle.list_reader.specs.Promises.Points.{Dimensions}
 use Rattle.list_reader.specs.Promises.Values.{fields_in}

@@ -1,3 +1,5 @@
+#![tactic(auto)]
+
 // Running a source on a grid.
 
 pub mod opening;

@@ -13,7 +13,7 @@ use run_admission::admit;
 use run_meaning::{Reach, own_only};
 
 // Whether a run begins: then the rule and its reach; else the refusal's number, its place, and its line in the value list.
-#[derive(Drop)]
+#[derive(Clone, Copy)]
 pub struct Opening {
     pub begun: bool,
     pub number: u32,

@@ -10,7 +10,7 @@ use lib.ListN.{length, get_or, drop, take}
 use lib.Seq.{length-take-le}
 use lib.IntN.{ℤ}
 use Rattle.automaton.specs.Promises.ListedLaws.{last_or_below}
-use Rattle.automaton.specs.Step.{Outcome, result, fault, Fault, no_fault, fault_at, state_or, first_fault}
+use Rattle.automaton.specs.Step.{Outcome, result, Fault, no_fault, state_or, first_fault}
 use Rattle.automaton.proofs.Theorems.Quiet.{first_fault_here}
 use Rattle.automaton.specs.Shape.{product}
 use Rattle.automaton.specs.Grid.{cell_of}
@@ -25,7 +25,6 @@ use Rattle.run_step.specs.declared.Evaluation.TheVariants as Gave
 use Rattle.run_step.specs.declared.Evaluation.{Evaluation}
 use Rattle.run_step.specs.declared.Step.{Step}
 use Rattle.run_step.specs.declared.Step.TheVariants as Gives
-use Rattle.run_step.specs.Promises.Stepping.{fault_in, count_in}
 use Rattle.run_step.specs.Promises.Turns.{given, outcome_in, count_after, Turning, CellTurned}
 use Rattle.run_step.specs.Promises.Rows.{CellsReady, CellsStepped, RowsReady, RowsStepped}
 

@@ -1,13 +1,12 @@
 -- The row counts of a run: they are those of the grid at each step, where they are kept.
-use Prim.Native.Nat.{ℕ, ◌+◌, ◌<◌}
-use native.Mathlib.Omega.{arith}
+use Prim.Native.Nat.{ℕ, ◌<◌}
 use mathlib.Core.Path.{◌≡◌, refl, sym, ap, ◌∙◌, subst}
 use mathlib.Core.Bool.{Bool, true, false, cond, ◌&&◌}
 use mathlib.Core.List.{List}
-use lib.ListN.{length, get_or}
+use lib.ListN.{length}
 use lib.IntN.{ℤ}
 use Rattle.value.proofs.Theorems.Laws.{never, and_both}
-use Rattle.automaton.specs.Step.{Fault, fault_at, marked, grid_after, quiet_outcome, quiet_step}
+use Rattle.automaton.specs.Step.{Fault, grid_after, quiet_outcome, quiet_step}
 use Rattle.automaton.specs.Shape.{product}
 use Rattle.automaton.specs.Grid.{cell_of}
 use Rattle.automaton.specs.Rows.{row_counts}

@@ -5,7 +5,7 @@ use native.Mathlib.Numerals.{add-one}
 use native.Mathlib.Omega.{arith}
 use mathlib.Core.Path.{◌≡◌, refl, sym, ap, ap₂, ◌∙◌, subst, subst₂, fun_ext}
 use mathlib.Core.Logic.{◌↔◌}
-use mathlib.Core.Bool.{Bool, true, false, not, cond, ◌&&◌, ◌||◌}
+use mathlib.Core.Bool.{Bool, true, false, not, cond, ◌||◌}
 use mathlib.Core.List.Memᴰ
 use mathlib.Core.List.{List, [], ◌∷◌, map, Memᴰ}
 use lib.ListN.{length, get_or, replicate, length-replicate}
@@ -22,10 +22,11 @@ use Rattle.automaton.specs.Promises.ListedLaws.{length_list_of, get_d_list_of}
 use Rattle.automaton.specs.Step.{no_fault, fault_at, any_of, marks_of, non_zero, marked, Quiet, every_cell, no_cell, changed, touched, open_in, quiet_step}
 use Rattle.automaton.proofs.Theorems.Quiet.{marked_marks_of, any_of_false, any_none, bit_le}
 use Rattle.automaton.specs.Shape.{product, Bound, width, neighbour, reach_of, box_indices}
-use Rattle.automaton.specs.Promises.ShapeLaws.{Positive, Alike, neighbour_lt, neighbour_zeros, Shaped}
+use Rattle.automaton.specs.Promises.ShapeLaws.{Positive, Alike, Shaped}
+use Rattle.automaton.proofs.ShapeLaws.{neighbour_lt, neighbour_zeros}
 use Rattle.automaton.specs.Grid.{cell_of, differ, automaton}
 use Rattle.automaton.proofs.Theorems.GridLaws.{differ_false, differ_self}
-use Rattle.automaton.proofs.Theorems.Going.{Going, going_start, going_on, going_stop, going_done}
+use Rattle.automaton.proofs.Theorems.Going.{going_start, going_on, going_stop, going_done}
 use Rattle.program.specs.Syntax.{Program}
 use Rattle.program.specs.declared.Rule.{Rule}
 use Rattle.cell_meaning.specs.Promises.Leaves.{Leaves}

@@ -9,7 +9,7 @@ use run_marking::mark_changed;
 use run_meaning::Bounds;
 
 // The block that is set next: whether there is one, its time, and where its cells' lines begin.
-#[derive(Drop)]
+#[derive(Clone, Copy)]
 pub struct Next {
     pub due: bool,
     pub time: u32,

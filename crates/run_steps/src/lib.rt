@@ -1,3 +1,5 @@
+#![tactic(auto)]
+
 // The steps of a run, one after the other, each with its block.
 
 mod blocks;
@@ -8,7 +10,7 @@ mod steps;
 pub use steps::{run_by, run_steps};
 
 // The manner of a run: all cells in each step; the open ones; the open ones, with the marks left standing; or the same, begun from the caller's marks.
-#[derive(Drop)]
+#[derive(Clone, Copy)]
 pub enum Manner {
     Full,
     Quiet,
@@ -18,7 +20,7 @@ pub enum Manner {
 
 // How a run makes its steps: of the whole grid; or, `banded`, of bands of rows, each with so many border rows before and behind it. `row` is the number of
 // cells of a row.
-#[derive(Drop)]
+#[derive(Clone, Copy)]
 pub struct Bands {
     pub banded: bool,
     pub row: usize,
@@ -28,7 +30,7 @@ pub struct Bands {
 
 // The report of a run: the reply's number and place, the line of the value list, the faulting cell, the steps done, and the count of the cells
 // evaluated.
-#[derive(Drop)]
+#[derive(Clone, Copy)]
 pub struct Report {
     pub number: u32,
     pub place: u32,

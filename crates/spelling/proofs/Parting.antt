@@ -1,23 +1,23 @@
 -- One law for each way through the code.
 use mathlib.Core.Path.{◌≡◌, refl, sym, ap, ◌∙◌}
-use mathlib.Core.Bool.{Bool, true, false, not, ◌&&◌, ◌||◌}
+use mathlib.Core.Bool.{Bool, true, false, ◌&&◌}
 use mathlib.Core.List.{List, [], ◌∷◌}
 use Prim.Native.Nat.{ℕ, suc, ◌+◌, ◌≤◌, ◌<◌}
 use native.Mathlib.Numerals.{add-one}
 use native.Mathlib.Omega.{arith}
-use lib.Dec.{eqb, leb, ltb}
+use lib.Dec.{eqb, leb}
 use lib.ListN.{length, take, drop, get_or, drop_of_length-le}
 use lib.Seq.{drop-cons}
-use borrow.Author.Tests.{eq-eqb, ne_eqb, eqb-true, le-leb, lt-leb, lt-ltb, le-ltb}
+use borrow.Author.Tests.{eq-eqb, ne_eqb, le-leb, lt-leb, lt-ltb, le-ltb}
 use Rattle.token.proofs.Words.{unlike}
-use Rattle.value.specs.Choice.{if◌then◌else◌}
+use Rattle.std.specs.Prelude.{if◌then◌else◌}
 use Rattle.token.specs.Bytes.{same}
-use Rattle.token.specs.Lexeme.{built_in_names, read_token}
+use Rattle.token.specs.Lexeme.{built_in_names}
 use Rattle.token.specs.declared.Lexed.{Lexed}
 use Rattle.token.specs.Promises.Promises as token
 use Rattle.spelling.specs.declared.Part.{Part}
 use Rattle.spelling.specs.Spelling.{names_token, part, token_part, part_at, part_entries}
-use Rattle.spelling.specs.Promises.Parts.{told_entries, taken, spelling_of, IsPart}
+use Rattle.spelling.specs.Promises.Parts.{taken, spelling_of, IsPart}
 
 -- ---- replies that name a token
 

@@ -1,3 +1,5 @@
+#![tactic(auto)]
+
 // The spelling that is returned with a refusal: a part of the source, or of the built-in list that is passed beside it.
 ghost use Rattle.std.specs.Prelude.{◌≡◌, ◌+◌, ◌≤◌, ◌<◌, length};
 ghost use Rattle.token.specs.Lexeme.{is_built_in};
@@ -8,7 +10,7 @@ use token::kind;
 use value::limits::MOST_BYTES;
 
 // Where a spelling is: in the built-in list or in the source.
-#[derive(Drop)]
+#[derive(Clone, Copy)]
 pub struct Part {
     pub listed: bool,
     pub start: usize,
@@ -103,7 +105,7 @@ fn part_at(source: &[u8], number: u32, place: u32) -> Part
 }
 
 // Where a spelling is, as numbers: 0 nowhere, 1 in the source, 2 in the built-in list; its first byte, and its length.
-#[derive(Drop)]
+#[derive(Clone, Copy)]
 pub struct Told {
     pub stands: u32,
     pub start: u32,

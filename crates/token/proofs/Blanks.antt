@@ -7,7 +7,7 @@ use native.Mathlib.Omega.{arith}
 use lib.ListN.{length, drop, drop_of_length-le}
 use lib.Dec.{eqb}
 use borrow.Author.Tests.{ne_eqb}
-use Rattle.value.specs.Choice.{if◌then◌else◌}
+use Rattle.std.specs.Prelude.{if◌then◌else◌}
 use Rattle.token.specs.Bytes.{kind_of}
 use Rattle.token.specs.Scanning.{blanks}
 use Rattle.token.specs.Promises.Promises.{WalksTokens, Skips, head_kind, blank_turn}

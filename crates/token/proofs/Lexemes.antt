@@ -9,7 +9,7 @@ use lib.Dec.{eqb, ltb}
 use lib.ListN.{length, take, drop, get_or, length-drop, drop_of_length-le}
 use lib.Seq.{slice, get_or-drop, drop-drop}
 use borrow.Author.Tests.{ne_eqb, eqb-false, lt-ltb, le-ltb}
-use Rattle.value.specs.Choice.{if◌then◌else◌}
+use Rattle.std.specs.Prelude.{if◌then◌else◌}
 use Rattle.token.specs.Bytes.{kind_of, member, fold}
 use Rattle.token.specs.Lexeme.{Lexeme, find_kind, keywords, two_byte_tokens, starts, in_name, in_literal, extent, decimal, lexeme_of, unreadable, word, digits, punctuation, read_token}
 use Rattle.token.specs.declared.Lexed.{Lexed}

@@ -7,7 +7,7 @@ use native.Mathlib.Omega.{arith}
 use lib.ListN.{length, take, drop, get_or}
 use lib.Dec.{eqb}
 use borrow.Author.Tests.{eq-eqb, ne_eqb}
-use Rattle.value.specs.Choice.{if◌then◌else◌}
+use Rattle.std.specs.Prelude.{if◌then◌else◌}
 use Rattle.token.specs.Lexeme.{decimal}
 use Rattle.token.specs.Promises.Promises.{too_large, with_digit}
 use Rattle.token.proofs.Heads.{drop_here}

@@ -1,6 +1,6 @@
 -- The kinds of tokens, and the levels of operators.
 use Rattle.std.specs.Prelude.{◌||◌, ℕ, eqb}
-use Rattle.value.specs.Choice.{if◌then◌else◌}
+use Rattle.std.specs.Prelude.{if◌then◌else◌}
 
 -- ---- the numbers of the kinds of tokens. A token of one byte has its byte's number
 

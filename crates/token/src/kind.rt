@@ -87,6 +87,7 @@ pub const COLON: u32 = 58;
 pub const DOT: u32 = 46;
 
 // The level of a binary operator; 0 for what is none.
+#[tactic(auto, unfolding(crate::specs::Kind::level_of))]
 pub fn level_of(k: u32) -> u32
     ensures { result ≡ level_of k }
 {

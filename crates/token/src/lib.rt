@@ -1,3 +1,5 @@
+#![tactic(auto)]
+
 // Tokens: the bytes of a source sorted into tokens, and the stop after the last of them.
 ghost use Rattle.std.specs.Prelude.{◌≡◌, ◌≤◌, ◌<◌, length, drop, false};
 ghost use Rattle.value.specs.Limits.{most_bytes, table_words};
@@ -12,7 +14,7 @@ pub mod scanning;
 mod spelling;
 
 // A token: its kind, the place of its first byte, its length in bytes, and a literal's value (else 0).
-#[derive(Drop)]
+#[derive(Clone, Copy)]
 pub struct Token {
     pub kind: u32,
     pub start: u32,
@@ -21,7 +23,7 @@ pub struct Token {
 }
 
 // What scanning a source finds: how many tokens, the number and the place of the stop after them, and the kind of the token there.
-#[derive(Drop)]
+#[derive(Clone, Copy)]
 pub struct Scan {
     pub count: usize,
     pub number: u32,
@@ -30,13 +32,13 @@ pub struct Scan {
 }
 
 // A reading position, passed by value from token to token.
-#[derive(Drop)]
+#[derive(Clone, Copy)]
 pub struct Cursor {
     pub at: usize,
 }
 
 // A token that was read, and the position after it.
-#[derive(Drop)]
+#[derive(Clone, Copy)]
 pub struct Lexed {
     pub token: Token,
     pub next: Cursor,

@@ -39,7 +39,7 @@ const ROWS: [u8; 300] = *b"\
     \x02\x12-%        ";
 
 // A fixed spelling: where its letters begin, how many they are, and its kind.
-#[derive(Drop)]
+#[derive(Clone, Copy)]
 pub struct Fixed {
     pub start: usize,
     pub len: usize,
@@ -75,7 +75,7 @@ fn fixed_at(rows: &[u8; 300], i: usize) -> Fixed
 }
 
 // A group of fixed spellings: the numbers from one up to another.
-#[derive(Drop)]
+#[derive(Clone, Copy)]
 pub struct Group {
     pub from: usize,
     pub to: usize,

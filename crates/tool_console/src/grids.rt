@@ -1,7 +1,8 @@
 // A grid that is read from a text: whole numbers, with blanks and line breaks between them.
 use crate::numbers;
 use crate::numbers::{Entry, Number};
-use crate::texts::{complain, complain_number, open_input};
+use crate::texts::{Source, complain, complain_number, fail, open_input};
+use std::io::Read;
 use std::num::wrapping_add_u64;
 
 // Why a grid cannot be taken: there is no reason, an entry is no number, there are too many, or the file cannot be read.
@@ -21,7 +22,7 @@ pub enum Grid {
 }
 
 // A grid as far as it is read: the entries, the number that is being read, the line it is in, and why the grid is refused.
-#[derive(Drop)]
+#[derive(Clone, Copy)]
 struct Filling {
     count: usize,
     number: Number,
@@ -122,27 +123,35 @@ fn take_part(text: &[u8], grid: &mut [i32], f: Filling) -> Filling {
 }
 
 // Reads a part of a file.
-fn read_part(file: i32, name: &[u8], grid: &mut [i32], f: Filling) -> Part {
+fn read_part(
+    rt: &HostRuntime,
+    file: &mut Source,
+    name: &[u8],
+    grid: &mut [i32],
+    f: Filling,
+) -> Part {
     let mut buffer = io::buffer();
-    let got = libc::read(file, &mut buffer);
-    if got < 0 {
-        os::fail(name);
-        return Part {
-            filling: faulty(f, FILE),
-            more: false,
-        };
-    }
-    let n = io::count(got, &buffer);
-    let filling = take_part(&buffer[..n], grid, f);
-    Part {
-        filling,
-        more: n > 0 && filling.fault == NONE,
+    match file.read(&mut buffer) {
+        Ok(n) => {
+            let filling = take_part(&buffer[..n], grid, f);
+            Part {
+                filling,
+                more: n > 0 && filling.fault == NONE,
+            }
+        }
+        Err(error) => {
+            fail(rt, name, &error);
+            Part {
+                filling: faulty(f, FILE),
+                more: false,
+            }
+        }
     }
 }
 
 // Reads the parts of a file. A proved loop has to end, and nothing says that a file does: the turns are counted down from a number that no
 // file uses up.
-fn read_parts(file: i32, name: &[u8], grid: &mut [i32]) -> Filling {
+fn read_parts(rt: &HostRuntime, file: &mut Source, name: &[u8], grid: &mut [i32]) -> Filling {
     let mut part = Part {
         filling: Filling {
             count: 0,
@@ -155,25 +164,23 @@ fn read_parts(file: i32, name: &[u8], grid: &mut [i32]) -> Filling {
     let mut turns = u64::MAX;
     while turns > 0 && part.more {
         let f = part.filling;
-        part = read_part(file, name, grid, f);
+        part = read_part(rt, file, name, grid, f);
         turns -= 1;
     }
     part.filling
 }
 
 // Reads the grid of the file that an argument names. If the file cannot be opened or read, that is said.
-fn read_grid(i: usize, name: &[u8], grid: &mut [i32]) -> Filling {
-    let file = open_input(i);
-    if file < 0 {
+fn read_grid(rt: &HostRuntime, i: usize, name: &[u8], grid: &mut [i32]) -> Filling {
+    let Some(mut file) = open_input(rt, i) else {
         return Filling {
             count: 0,
             number: numbers::before(),
             line: 1,
             fault: FILE,
         };
-    }
-    let f = read_parts(file, name, grid);
-    libc::close(file);
+    };
+    let f = read_parts(rt, &mut file, name, grid);
     if f.fault != NONE {
         return f;
     }
@@ -181,33 +188,34 @@ fn read_grid(i: usize, name: &[u8], grid: &mut [i32]) -> Filling {
 }
 
 // Says what is wrong in a line of a grid.
-fn complain_line(name: &[u8], line: u64, wrong: &[u8]) {
-    complain(name);
-    complain(b", line ");
-    complain_number(line);
-    complain(wrong);
+fn complain_line(rt: &HostRuntime, name: &[u8], line: u64, wrong: &[u8]) {
+    complain(rt, name);
+    complain(rt, b", line ");
+    complain_number(rt, line);
+    complain(rt, wrong);
 }
 
 // Whether a grid cannot be taken. If an entry is the reason, that is said.
-fn refused(f: Filling, name: &[u8]) -> bool {
+fn refused(rt: &HostRuntime, f: Filling, name: &[u8]) -> bool {
     if f.fault == NUMBER {
         complain_line(
+            rt,
             name,
             f.line,
             b": an entry is not a whole number from -2147483648 to 2147483647\n",
         );
     }
     if f.fault == MANY {
-        complain_line(name, f.line, b": more than 786432 entries\n");
+        complain_line(rt, name, f.line, b": more than 786432 entries\n");
     }
     f.fault != NONE
 }
 
 // Puts the entries of the grid that an argument names at the start of a row; how many there are. If it cannot be taken, that is said, with
 // the argument's name.
-pub fn grid_argument(i: usize, name: &[u8], grid: &mut [i32]) -> Grid {
-    let f = read_grid(i, name, grid);
-    if refused(f, name) {
+pub fn grid_argument(rt: &HostRuntime, i: usize, name: &[u8], grid: &mut [i32]) -> Grid {
+    let f = read_grid(rt, i, name, grid);
+    if refused(rt, f, name) {
         return Grid::Refused;
     }
     Grid::Taken(f.count)

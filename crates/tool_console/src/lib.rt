@@ -1,3 +1,5 @@
+#![tactic(auto)]
+
 // What the programs run_rule and compare_grids read and say: arguments, files of rules and grids, places, and replies in words.
 
 pub mod grids;

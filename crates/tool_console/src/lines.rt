@@ -76,15 +76,15 @@ fn put_width(line: &mut [u8], n: usize, b: u8) -> usize {
 }
 
 // Writes the first n bytes of a line.
-fn say_first(line: &[u8], n: usize) {
+fn say_first(rt: &HostRuntime, line: &[u8], n: usize) {
     if n <= 128 {
         let kept = io::count(n as isize, line);
-        say(&line[..kept]);
+        say(rt, &line[..kept]);
     }
 }
 
 // Writes so many bytes of a source.
-fn say_text(source: &[u8], start: usize, count: usize) {
+fn say_text(rt: &HostRuntime, source: &[u8], start: usize, count: usize) {
     let mut line = [0u8; 128];
     let mut n: usize = 0;
     let mut k: usize = 0;
@@ -96,11 +96,11 @@ fn say_text(source: &[u8], start: usize, count: usize) {
         );
         k += 1;
     }
-    say_first(&line, n);
+    say_first(rt, &line, n);
 }
 
 // Writes blanks as wide as so many bytes of a source.
-fn say_width(source: &[u8], start: usize, count: usize) {
+fn say_width(rt: &HostRuntime, source: &[u8], start: usize, count: usize) {
     let mut line = [0u8; 128];
     let mut n: usize = 0;
     let mut k: usize = 0;
@@ -108,24 +108,24 @@ fn say_width(source: &[u8], start: usize, count: usize) {
         n = put_width(&mut line, n, byte_at(source, wrapping_add_usize(start, k)));
         k += 1;
     }
-    say_first(&line, n);
+    say_first(rt, &line, n);
 }
 
 // Writes the line of a source that has a place, and below it a caret under the place. Of a long line the part around the place is shown.
-pub fn say_line(source: &[u8], place: usize) {
+pub fn say_line(rt: &HostRuntime, source: &[u8], place: usize) {
     let before = bytes_before(source, place);
     let behind = bytes_behind(source, place, 60);
     let start = wrapping_sub_usize(place, before);
-    say(b"    ");
-    say_text(source, start, wrapping_add_usize(before, behind));
-    say(b"\n    ");
-    say_width(source, start, before);
-    say(b"^\n");
+    say(rt, b"    ");
+    say_text(rt, source, start, wrapping_add_usize(before, behind));
+    say(rt, b"\n    ");
+    say_width(rt, source, start, before);
+    say(rt, b"^\n");
 }
 
 // Writes the line of a text that begins at a place. Of a long line the first 120 bytes are shown.
-pub fn say_line_from(text: &[u8], start: usize) {
-    say(b"    ");
-    say_text(text, start, bytes_behind(text, start, 120));
-    say(b"\n");
+pub fn say_line_from(rt: &HostRuntime, text: &[u8], start: usize) {
+    say(rt, b"    ");
+    say_text(rt, text, start, bytes_behind(text, start, 120));
+    say(rt, b"\n");
 }

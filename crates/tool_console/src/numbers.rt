@@ -13,7 +13,7 @@ pub const DIGITS: u8 = 2;
 pub const WRONG: u8 = 3;
 
 // A number as far as it is read: how far its reading is, whether it has a minus sign, and its size.
-#[derive(Drop)]
+#[derive(Clone, Copy)]
 pub struct Number {
     pub at: u8,
     pub negative: bool,

@@ -87,28 +87,28 @@ pub fn wide(n: u32) -> u64 {
 }
 
 // Writes the coordinate of a cell in a dimension, after a comma if it is not the first.
-fn say_coordinate(cell: u32, sizes: &[u32], dimension: usize) {
+fn say_coordinate(rt: &HostRuntime, cell: u32, sizes: &[u32], dimension: usize) {
     if dimension > 0 {
-        say(b",");
+        say(rt, b",");
     }
-    say_number(wide(coordinate(cell, sizes, dimension)));
+    say_number(rt, wide(coordinate(cell, sizes, dimension)));
 }
 
 // Writes a cell as its coordinates.
-pub fn say_cell(cell: u32, sizes: &[u32]) {
-    say(b"[");
+pub fn say_cell(rt: &HostRuntime, cell: u32, sizes: &[u32]) {
+    say(rt, b"[");
     let mut i = 0;
     while i < sizes.len() {
-        say_coordinate(cell, sizes, i);
+        say_coordinate(rt, cell, sizes, i);
         i += 1;
     }
-    say(b"]");
+    say(rt, b"]");
 }
 
 // Writes the cell and the field of an entry.
-pub fn say_field(entry: u32, sizes: &[u32], fields: u32) {
-    say(b", cell ");
-    say_cell(quotient(entry, fields), sizes);
-    say(b", field ");
-    say_number(wide(remainder(entry, fields)));
+pub fn say_field(rt: &HostRuntime, entry: u32, sizes: &[u32], fields: u32) {
+    say(rt, b", cell ");
+    say_cell(rt, quotient(entry, fields), sizes);
+    say(rt, b", field ");
+    say_number(rt, wide(remainder(entry, fields)));
 }

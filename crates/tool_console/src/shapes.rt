@@ -79,15 +79,18 @@ fn read_sizes(text: &[u8], sizes: &mut [u32]) -> usize {
 
 // Puts the sizes of the shape that an argument names at the start of a row; how many there are. If it names no shape, that is said, with
 // the argument's name, and there are 0.
-pub fn shape_argument(i: usize, name: &[u8], sizes: &mut [u32]) -> usize
+pub fn shape_argument(rt: &HostRuntime, i: usize, name: &[u8], sizes: &mut [u32]) -> usize
     ensures { Kept result sizes.new }
 {
     let mut text = [0u8; 64];
-    let n = argument(i, &mut text);
+    let n = argument(rt, i, &mut text);
     let dims = read_sizes(&text[..n], sizes);
     if dims == 0 {
-        complain(name);
-        complain(b" is not one to three sizes joined by x, as 8x8 or 5 or 2x3x4\n");
+        complain(rt, name);
+        complain(
+            rt,
+            b" is not one to three sizes joined by x, as 8x8 or 5 or 2x3x4\n",
+        );
     }
     of_words(dims, sizes)
 }

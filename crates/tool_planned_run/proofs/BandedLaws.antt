@@ -21,7 +21,7 @@ pub banded_of : {source sizes : List ℕ} {m : Memory ℕ} {values : List ℕ} {
     → RunsBanded (lent_listed source sizes m values start steps counted field held plan room) r left.grid left.marks left.counts
 banded_of {source} {sizes} {m} {values} {start} {steps} {counted} {field} {held} {plan} {room} {r} {left} {room'} h k leaves =
     let run : BandedLeaves flat_names (lent_listed source sizes m values start steps counted field held plan room) r left room' =
-    subst₂ (λ (a b : ℤ). BandedLeaves flat_names (lent_listed source sizes m values a b counted field held plan room) r left room') (to_z-of_z h) (to_z-of_z k) leaves in
+    subst₂ (λ (a b : ℤ). BandedLeaves flat_names (lent_listed source sizes m values a b counted field held plan room) r left room') (to_z-of_z {w = w64} h) (to_z-of_z {w = w64} k) leaves in
     record {
       report = ap (λ (x : BandedLeft ℕ). x.left.report) run.is;
       marks_are = ap (λ (x : BandedLeft ℕ). x.left.memory.marks) run.is;

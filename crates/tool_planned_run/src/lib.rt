@@ -1,3 +1,5 @@
+#![tactic(auto)]
+
 // A full run by bands of rows, for a program: the plan for as many rows as can be held, and the run under this plan.
 ghost use Rattle.std.specs.Prelude.{◌≡◌};
 ghost use Rattle.run_calls.specs.Calls.{memory};

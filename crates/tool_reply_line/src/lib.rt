@@ -1,3 +1,5 @@
+#![tactic(auto)]
+
 // The line for the reply to a source: `accepted`, or for example `refused 8 at 26`; and the line with the spelling's numbers after these,
 // `refused 8 at 26 1 26 1`.
 ghost use Rattle.std.specs.Prelude.{[], ◌∷◌, ◌+◌, ◌<◌, ◌≤◌, length};

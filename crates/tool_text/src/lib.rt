@@ -1,4 +1,9 @@
+#![tactic(auto)]
+
 // Text put into a buffer: each function puts something from a position on, and returns the position after it. What no longer fits is left out.
+ghost use Rattle.io.specs.Counts.{IsPrefixLen};
+
+use std::io::Read;
 use value::Value;
 
 pub fn put_byte(buffer: &mut [u8], at: usize, b: u8) -> usize {
@@ -39,4 +44,18 @@ fn put_signed(buffer: &mut [u8], at: usize, word: u32) -> usize {
 // Puts a value in decimal.
 pub fn put_value(buffer: &mut [u8], at: usize, n: i32) -> usize {
     put_signed(buffer, at, Value { n }.encode())
+}
+
+// Reads until a room is full, the input ends or a read fails; how many bytes are at the start of the room then.
+pub fn read_full<R: Read>(input: &mut R, room: &mut [u8]) -> usize
+    ensures { IsPrefixLen result room.new }
+{
+    let mut done = 0;
+    while done < room.len() {
+        match input.read(&mut room[done..]) {
+            Ok(0) | Err(_) => return done,
+            Ok(n) => done += n,
+        }
+    }
+    done
 }

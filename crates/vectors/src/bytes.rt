@@ -1,16 +1,15 @@
 // Numbers out of bytes, the lowest first.
 ghost use Rattle.std.specs.Prelude.{◌≤◌};
 
-use libc::STDIN_FILENO;
+use std::io::Read;
 use value::Value;
 
 // Reads so many bytes into the front of a room, and says whether there were so many, and room for them.
-pub fn read_part(room: &mut [u8], n: usize) -> bool {
+pub fn read_part(rt: &HostRuntime, room: &mut [u8], n: usize) -> bool {
     if room.len() < n {
         return false;
     }
-    let got = io::read_full(STDIN_FILENO, &mut room[..n]);
-    got == n
+    rt.stdin().read_exact(&mut room[..n]).is_ok()
 }
 
 fn wide(b: u8) -> u32

@@ -4,22 +4,22 @@ ghost use Rattle.value.specs.Limits.{table_words};
 ghost use Rattle.io.specs.Counts.{IsPrefixLen};
 
 use crate::line::write_front;
-use libc::STDIN_FILENO;
+use tool_text::read_full;
 use value::limits::{NAME_WORDS, TABLE_WORDS};
 
 // Reads so many bytes, or as many as there are and as there is room for; how many.
-fn read_some(room: &mut [u8], length: u32) -> usize
+fn read_some(rt: &HostRuntime, room: &mut [u8], length: u32) -> usize
     ensures { IsPrefixLen result room.new }
 {
     let kept = io::count(length as isize, room);
-    let got = io::read_full(STDIN_FILENO, &mut room[..kept]);
+    let got = read_full(&mut rt.stdin(), &mut room[..kept]);
     io::count(got as isize, room)
 }
 
 // Reads and drops n bytes, at most 65,536.
-fn skip(n: u32) {
+fn skip(rt: &HostRuntime, n: u32) {
     let mut rest = io::large_buffer();
-    read_some(&mut rest, n);
+    read_some(rt, &mut rest, n);
 }
 
 fn wide_word(w: u32) -> u64
@@ -80,11 +80,11 @@ fn put_next(lines: &mut [u8], at: usize, number: u64) -> usize {
 
 // Checks a source of so many bytes, of which one more than a source may have is enough to see that it is too long. Answers whether its
 // lines were written.
-pub fn answer_check(length: u32) -> bool {
+pub fn answer_check(rt: &HostRuntime, length: u32) -> bool {
     let mut source = io::large_buffer();
-    let n = read_some(&mut source, length);
+    let n = read_some(rt, &mut source, length);
     if 65536 < length {
-        skip(length - 65536);
+        skip(rt, length - 65536);
     }
     let mut words = [0u32; TABLE_WORDS];
     let mut names = [0u32; NAME_WORDS];
@@ -107,5 +107,5 @@ pub fn answer_check(length: u32) -> bool {
     let e = put_next(&mut lines, d, fit.number as u64);
     let f = put_next(&mut lines, e, fit.place as u64);
     let end = tool_text::put_byte(&mut lines, f, b'\n');
-    write_front(&lines, end)
+    write_front(rt, &lines, end)
 }

@@ -1,6 +1,5 @@
 // The line of a run, of a run in a manner, and of a writing. What no longer fits is left out.
 use crate::rooms::Left;
-use libc::STDOUT_FILENO;
 use list_writer::Written;
 use run_steps::Report;
 use tool_text::{put_byte, put_number, put_text, put_value};
@@ -91,15 +90,21 @@ fn put_bytes(line: &mut [u8], at: usize, bytes: &[u8]) -> usize {
 }
 
 // Writes the front of a line to standard output, and says whether it could.
-pub fn write_front(line: &[u8], end: usize) -> bool {
+pub fn write_front(rt: &HostRuntime, line: &[u8], end: usize) -> bool {
     if line.len() < end {
         return false;
     }
-    io::write_all(STDOUT_FILENO, &line[..end])
+    rt.write_all(&line[..end]).is_ok()
 }
 
 // Writes the line of a run to standard output, and says whether it could.
-pub fn write_run(report: Report, scratch: Left, marks: Left, grid: &[i32]) -> bool {
+pub fn write_run(
+    rt: &HostRuntime,
+    report: Report,
+    scratch: Left,
+    marks: Left,
+    grid: &[i32],
+) -> bool {
     let mut room = io::large_buffer();
     let line: &mut [u8] = &mut room;
     let a = put_report(line, report);
@@ -108,20 +113,26 @@ pub fn write_run(report: Report, scratch: Left, marks: Left, grid: &[i32]) -> bo
     let d = put_byte(line, c, b':');
     let e = put_values(line, d, grid);
     let f = put_byte(line, e, b'\n');
-    write_front(line, f)
+    write_front(rt, line, f)
 }
 
 // Writes counts, and the end of the line, to standard output, and says whether it could.
-fn write_counts(counts: &[u32]) -> bool {
+fn write_counts(rt: &HostRuntime, counts: &[u32]) -> bool {
     let mut room = io::large_buffer();
     let line: &mut [u8] = &mut room;
     let a = put_counts(line, 0, counts);
     let b = put_byte(line, a, b'\n');
-    write_front(line, b)
+    write_front(rt, line, b)
 }
 
 // Writes the line of a run in a manner, up to its counts, to standard output, and says whether it could.
-fn write_uncounted(report: Report, scratch: Left, grid: &[i32], marks: &[u8]) -> bool {
+fn write_uncounted(
+    rt: &HostRuntime,
+    report: Report,
+    scratch: Left,
+    grid: &[i32],
+    marks: &[u8],
+) -> bool {
     let mut room = io::large_buffer();
     let line: &mut [u8] = &mut room;
     let a = put_report(line, report);
@@ -131,23 +142,24 @@ fn write_uncounted(report: Report, scratch: Left, grid: &[i32], marks: &[u8]) ->
     let e = put_text(line, d, b" : ");
     let f = put_bytes(line, e, marks);
     let g = put_text(line, f, b" :");
-    write_front(line, g)
+    write_front(rt, line, g)
 }
 
 // Writes the line of a run in a manner to standard output, and says whether it could. It has two parts, each in a room of its own: 4,100 entries,
 // marks and counts fit so, whatever they are.
 pub fn write_call(
+    rt: &HostRuntime,
     report: Report,
     scratch: Left,
     grid: &[i32],
     marks: &[u8],
     counts: &[u32],
 ) -> bool {
-    write_uncounted(report, scratch, grid, marks) && write_counts(counts)
+    write_uncounted(rt, report, scratch, grid, marks) && write_counts(rt, counts)
 }
 
 // Writes the line of a writing to standard output, and says whether it could.
-pub fn write_writing(written: Written, room: &[u8]) -> bool {
+pub fn write_writing(rt: &HostRuntime, written: Written, room: &[u8]) -> bool {
     let mut buffer = io::large_buffer();
     let line: &mut [u8] = &mut buffer;
     let a = put_item(line, 0, written.number as u64);
@@ -156,5 +168,5 @@ pub fn write_writing(written: Written, room: &[u8]) -> bool {
     let d = put_text(line, c, b": ");
     let e = put_bytes(line, d, room);
     let f = put_byte(line, e, b'\n');
-    write_front(line, f)
+    write_front(rt, line, f)
 }

@@ -1,3 +1,5 @@
+#![tactic(auto)]
+
 // Stored checks, runs and writings, one after the other on standard input. A check is answered by two lines on standard output, a run by two lines, of
 // the full run and of the quiet one, a run in a manner by one line, and so is a writing.
 //
@@ -24,6 +26,6 @@ mod runs;
 mod ways;
 mod writings;
 
-fn main() {
-    answer::answer_all();
+fn main(rt: HostRuntime) {
+    answer::answer_all(&rt);
 }

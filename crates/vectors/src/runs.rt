@@ -5,6 +5,7 @@ use run_steps::Manner;
 
 // Runs the source full and then quiet.
 fn answer_both(
+    rt: &HostRuntime,
     source: &[u8],
     words: u32,
     names: u32,
@@ -20,7 +21,7 @@ fn answer_both(
         field: 0,
         rows: 0,
     };
-    if !answer_way(full, source, words, names, sizes, bytes, length, values) {
+    if !answer_way(rt, full, source, words, names, sizes, bytes, length, values) {
         return false;
     }
     let quiet = Way {
@@ -30,7 +31,9 @@ fn answer_both(
         field: 0,
         rows: 0,
     };
-    answer_way(quiet, source, words, names, sizes, bytes, length, values)
+    answer_way(
+        rt, quiet, source, words, names, sizes, bytes, length, values,
+    )
 }
 
 // The manner of a number.
@@ -45,6 +48,7 @@ fn manner_of(number: u32) -> Manner {
 
 // Reads the tail of a run in a manner, up to its marks, and runs the source so.
 fn answer_call(
+    rt: &HostRuntime,
     source: &[u8],
     words: u32,
     names: u32,
@@ -54,7 +58,7 @@ fn answer_call(
     values: &[u8],
 ) -> bool {
     let mut tail = [0u8; 16];
-    if !read_part(&mut tail, 16) {
+    if !read_part(rt, &mut tail, 16) {
         return false;
     }
     let manner = word_at(&tail, 0);
@@ -69,11 +73,12 @@ fn answer_call(
         field: word_at(&tail, 8),
         rows: word_at(&tail, 12),
     };
-    answer_way(way, source, words, names, sizes, bytes, length, values)
+    answer_way(rt, way, source, words, names, sizes, bytes, length, values)
 }
 
 // Runs the source as the case says.
 fn answer_asked(
+    rt: &HostRuntime,
     tailed: bool,
     source: &[u8],
     words: u32,
@@ -84,13 +89,14 @@ fn answer_asked(
     values: &[u8],
 ) -> bool {
     if tailed {
-        return answer_call(source, words, names, sizes, bytes, length, values);
+        return answer_call(rt, source, words, names, sizes, bytes, length, values);
     }
-    answer_both(source, words, names, sizes, bytes, length, values)
+    answer_both(rt, source, words, names, sizes, bytes, length, values)
 }
 
 // Reads the value list.
 fn answer_list(
+    rt: &HostRuntime,
     tailed: bool,
     source: &[u8],
     words: u32,
@@ -105,10 +111,11 @@ fn answer_list(
     }
     let n = count as usize;
     let mut room = [0u8; 4096];
-    if !read_part(&mut room, n) {
+    if !read_part(rt, &mut room, n) {
         return false;
     }
     answer_asked(
+        rt,
         tailed,
         source,
         words,
@@ -122,6 +129,7 @@ fn answer_list(
 
 // Reads the grid and what follows it, and where the case is tailed, as that of a run in a manner is, its tail.
 pub fn answer_grid(
+    rt: &HostRuntime,
     tailed: bool,
     source: &[u8],
     words: u32,
@@ -134,9 +142,11 @@ pub fn answer_grid(
     }
     let g = length as usize;
     let mut bytes = [0u8; 16428];
-    if !read_part(&mut bytes, 4 * g + 28) {
+    if !read_part(rt, &mut bytes, 4 * g + 28) {
         return false;
     }
     let count = word_at(&bytes, 4 * g + 24);
-    answer_list(tailed, source, words, names, sizes, &bytes, length, count)
+    answer_list(
+        rt, tailed, source, words, names, sizes, &bytes, length, count,
+    )
 }

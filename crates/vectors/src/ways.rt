@@ -6,7 +6,7 @@ use run_steps::{Manner, Report};
 
 // The way of a run: its manner, and whether the marks on entry are the next bytes of the case. Where they are, the line has the marks and the counts
 // that are left. Then, whether rows are counted, of which field, and how many counts follow the marks.
-#[derive(Drop)]
+#[derive(Clone, Copy)]
 pub struct Way {
     pub manner: Manner,
     pub lent: bool,
@@ -45,7 +45,7 @@ fn run_source(
 }
 
 // Makes the marks what they are on entry, and says whether it could. No more are read than a grid may have entries, so that the line holds them.
-fn enter_marks(lent: bool, marks: &mut [u8]) -> bool {
+fn enter_marks(rt: &HostRuntime, lent: bool, marks: &mut [u8]) -> bool {
     if !lent {
         fill_marks(marks);
         return true;
@@ -54,17 +54,17 @@ fn enter_marks(lent: bool, marks: &mut [u8]) -> bool {
     if 4100 < n {
         return false;
     }
-    read_part(marks, n)
+    read_part(rt, marks, n)
 }
 
 // Makes the counts what they are on entry, the next bytes of the case, and says whether it could.
-fn enter_counts(counts: &mut [u32]) -> bool {
+fn enter_counts(rt: &HostRuntime, counts: &mut [u32]) -> bool {
     let n = counts.len();
     if 4100 < n {
         return false;
     }
     let mut bytes = [0u8; 16400];
-    if !read_part(&mut bytes, 4 * n) {
+    if !read_part(rt, &mut bytes, 4 * n) {
         return false;
     }
     load_numbers(&bytes, counts);
@@ -72,13 +72,20 @@ fn enter_counts(counts: &mut [u32]) -> bool {
 }
 
 // Makes scratch, marks and counts what they are on entry, and says whether it could.
-fn enter_rooms(lent: bool, scratch: &mut [i32], marks: &mut [u8], counts: &mut [u32]) -> bool {
+fn enter_rooms(
+    rt: &HostRuntime,
+    lent: bool,
+    scratch: &mut [i32],
+    marks: &mut [u8],
+    counts: &mut [u32],
+) -> bool {
     fill_scratch(scratch);
-    enter_marks(lent, marks) && enter_counts(counts)
+    enter_marks(rt, lent, marks) && enter_counts(rt, counts)
 }
 
 // Writes the line of a run that left the rooms so.
 fn write_left(
+    rt: &HostRuntime,
     lent: bool,
     report: Report,
     scratch: &[i32],
@@ -89,13 +96,14 @@ fn write_left(
     let begun = began(report.number);
     let cleared = left_of_scratch(scratch, begun);
     if lent {
-        return write_call(report, cleared, grid, marks, counts);
+        return write_call(rt, report, cleared, grid, marks, counts);
     }
-    write_run(report, cleared, left_of_marks(marks, begun), grid)
+    write_run(rt, report, cleared, left_of_marks(marks, begun), grid)
 }
 
 // Runs a source in the rooms that are passed, and writes the line.
 fn answer_run(
+    rt: &HostRuntime,
     way: Way,
     source: &[u8],
     words: &mut [u32],
@@ -109,7 +117,7 @@ fn answer_run(
     steps: i64,
     counts: &mut [u32],
 ) -> bool {
-    if !enter_rooms(way.lent, scratch, marks, counts) {
+    if !enter_rooms(rt, way.lent, scratch, marks, counts) {
         return false;
     }
     let manner = way.manner;
@@ -129,11 +137,12 @@ fn answer_run(
         way.counted,
         way.field,
     );
-    write_left(way.lent, report, scratch, marks, grid, counts)
+    write_left(rt, way.lent, report, scratch, marks, grid, counts)
 }
 
 // Makes the counts.
 fn answer_rows(
+    rt: &HostRuntime,
     way: Way,
     source: &[u8],
     words: &mut [u32],
@@ -152,6 +161,7 @@ fn answer_rows(
     let mut room = [0u32; 4100];
     let n = way.rows as usize;
     answer_run(
+        rt,
         way,
         source,
         words,
@@ -169,6 +179,7 @@ fn answer_rows(
 
 // Makes the word table and the name list.
 fn answer_tables(
+    rt: &HostRuntime,
     way: Way,
     source: &[u8],
     words: u32,
@@ -192,6 +203,7 @@ fn answer_tables(
     let w = words as usize;
     let n = 4 * (names as usize);
     answer_rows(
+        rt,
         way,
         source,
         &mut word_room[..w],
@@ -208,6 +220,7 @@ fn answer_tables(
 
 // Makes scratch and marks.
 fn answer_rooms(
+    rt: &HostRuntime,
     way: Way,
     source: &[u8],
     words: u32,
@@ -231,6 +244,7 @@ fn answer_rooms(
     let s = scratch as usize;
     let m = marks as usize;
     answer_tables(
+        rt,
         way,
         source,
         words,
@@ -247,6 +261,7 @@ fn answer_rooms(
 
 // Runs a source on the grid that the bytes begin with, which are as many as a run has after its sizes and before its list.
 pub fn answer_way(
+    rt: &HostRuntime,
     way: Way,
     source: &[u8],
     words: u32,
@@ -268,6 +283,6 @@ pub fn answer_way(
     let start = long_at(bytes, 4 * g + 8);
     let steps = long_at(bytes, 4 * g + 16);
     answer_rooms(
-        way, source, words, names, sizes, grid, scratch, marks, values, start, steps,
+        rt, way, source, words, names, sizes, grid, scratch, marks, values, start, steps,
     )
 }

@@ -23,6 +23,7 @@ fn write_source(
 
 // Writes a list into the room that is passed, and writes the line.
 fn answer_writing(
+    rt: &HostRuntime,
     source: &[u8],
     words: &mut [u32],
     names: &mut [u32],
@@ -34,11 +35,12 @@ fn answer_writing(
 ) -> bool {
     fill_room(room);
     let written = write_source(source, words, names, sizes, earlier, later, time, room);
-    write_writing(written, room)
+    write_writing(rt, written, room)
 }
 
 // Makes the word table, the name list and the room.
 fn answer_written(
+    rt: &HostRuntime,
     source: &[u8],
     words: u32,
     names: u32,
@@ -64,6 +66,7 @@ fn answer_written(
     let n = 4 * (names as usize);
     let l = length as usize;
     answer_writing(
+        rt,
         source,
         &mut word_room[..w],
         &mut name_room[..n],
@@ -77,6 +80,7 @@ fn answer_written(
 
 // Reads the later grid and the two numbers after it.
 fn answer_later(
+    rt: &HostRuntime,
     source: &[u8],
     words: u32,
     names: u32,
@@ -89,7 +93,7 @@ fn answer_later(
     }
     let g = length as usize;
     let mut bytes = [0u8; 16412];
-    if !read_part(&mut bytes, 4 * g + 12) {
+    if !read_part(rt, &mut bytes, 4 * g + 12) {
         return false;
     }
     let mut room = [0i32; 4100];
@@ -97,22 +101,31 @@ fn answer_later(
     load_values(&bytes, later);
     let time = long_at(&bytes, 4 * g);
     let behind = word_at(&bytes, 4 * g + 8);
-    answer_written(source, words, names, sizes, earlier, later, time, behind)
+    answer_written(
+        rt, source, words, names, sizes, earlier, later, time, behind,
+    )
 }
 
 // Reads the earlier grid and the length of the later one.
-pub fn answer_earlier(source: &[u8], words: u32, names: u32, sizes: &[u32], length: u32) -> bool {
+pub fn answer_earlier(
+    rt: &HostRuntime,
+    source: &[u8],
+    words: u32,
+    names: u32,
+    sizes: &[u32],
+    length: u32,
+) -> bool {
     if 4100 < length {
         return false;
     }
     let g = length as usize;
     let mut bytes = [0u8; 16404];
-    if !read_part(&mut bytes, 4 * g + 4) {
+    if !read_part(rt, &mut bytes, 4 * g + 4) {
         return false;
     }
     let mut room = [0i32; 4100];
     let earlier: &mut [i32] = &mut room[..g];
     load_values(&bytes, earlier);
     let behind = word_at(&bytes, 4 * g);
-    answer_later(source, words, names, sizes, earlier, behind)
+    answer_later(rt, source, words, names, sizes, earlier, behind)
 }

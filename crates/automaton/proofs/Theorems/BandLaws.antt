@@ -1,10 +1,10 @@
 -- A step under an accepted plan is the step of the whole grid; and the planner's plan is accepted, exactly if there is one, and has the longest bands in turn.
 use Prim.Native.Nat.{ℕ, zero, suc, ◌+◌, ◌-◌, ◌*◌, ◌/◌, ◌%◌, ◌<◌, ◌≤◌, min}
-use native.Mathlib.Nat.{le_refl, le_trans, add-zero, zero-add, add-suc, add_assoc, mul-le-mul_right, mul-add-div_right, mul-add-mod_self_right, div-eq_of_lt, mod-eq_of_lt, div-lt_iff_lt-mul, mod-lt, div-add-mod', zero-mul, suc-mul, add-mul}
+use native.Mathlib.Nat.{le_trans, add-zero, zero-add, add-suc, add_assoc, mul-le-mul_right, mul-add-div_right, mul-add-mod_self_right, div-eq_of_lt, mod-eq_of_lt, div-lt_iff_lt-mul, mod-lt, div-add-mod', zero-mul, add-mul}
 use native.Mathlib.Omega.{arith}
 use mathlib.Core.Path.{◌≡◌, refl, sym, ap, ap₂, ◌∙◌, subst, fun_ext}
 use mathlib.Core.Logic.{◌⊎◌, inl, inr}
-use mathlib.Core.Bool.{Bool, true, false, ◌&&◌, cond, true≢false}
+use mathlib.Core.Bool.{Bool, true, false, ◌&&◌, cond}
 use mathlib.Core.List.{List, [], ◌∷◌, ◌++◌, append-nil, append_assoc, Memᴰ}
 use lib.ListN.{length, get_or}
 use lib.Dec.{eqb, leb, ltb}
@@ -12,12 +12,13 @@ use borrow.Author.Tests.{ltb-true, ltb-false, lt-ltb, le-ltb, leb-true, le-leb, 
 use lib.IntN.{ℤ, pos, negsuc, sub_ℕ, ◌+ℤ◌, +ℤ_assoc}
 use Rattle.value.specs.Number.{mod_z}
 use Rattle.value.specs.Worked.{wrap_of}
-use Rattle.value.proofs.Theorems.Laws.{and_both, wrap_below}
+use Rattle.value.proofs.Theorems.Laws.{and_both}
 use Rattle.automaton.specs.Listed.{list_of}
 use Rattle.automaton.specs.Promises.ListedLaws.{list_of_ext}
 use Rattle.automaton.specs.Step.{Outcome, result, fault, Fault, no_fault, fault_at, fault_of, state_or, or_else, first_fault, Step, grid_after, up_to, step_of}
 use Rattle.automaton.specs.Shape.{product, cell_number, coordinates, shift, neighbour, Bound}
-use Rattle.automaton.specs.Promises.ShapeLaws.{Inside, Positive, Alike, product_pos, coordinates_inside, number_lt, shift_inside, Within}
+use Rattle.automaton.specs.Promises.ShapeLaws.{Positive, Alike, Within}
+use Rattle.automaton.proofs.ShapeLaws.{product_pos, coordinates_inside, number_lt, shift_inside}
 use Rattle.automaton.proofs.Theorems.Quiet.{first_fault_ext, first_fault_none}
 use Rattle.automaton.specs.Grid.{cell_of, grid_of, CellRule, automaton}
 use Rattle.automaton.proofs.Theorems.GridLaws.{Bounded, cell_of_grid_of, some_field, cell_length}

@@ -1,12 +1,12 @@
 -- Calls of a quiet run one after the other, each from where the one before stopped: together they are one call, and if the first was fresh they agree with
 -- the definition.
-use Prim.Native.Nat.{ℕ, zero, suc, ◌+◌, ◌<◌, ◌≤◌}
+use Prim.Native.Nat.{ℕ, ◌+◌, ◌≤◌}
 use native.Mathlib.Omega.{arith}
 use mathlib.Core.Path.{◌≡◌, refl, sym, ap, ◌∙◌}
-use mathlib.Core.Bool.{Bool, true, false, true≢false}
+use mathlib.Core.Bool.{Bool, true≢false}
 use mathlib.Core.List.{List, [], ◌∷◌, ◌++◌}
 use Rattle.automaton.specs.Step.{Fault, no_fault, fault_at, Automaton, marked, Quiet, every_cell, Blocks, quiet_run, run_of, open_count, full_count}
-use Rattle.automaton.proofs.Theorems.Quiet.{Lawful, Settled, Agree, quiet_run_agrees, open_le_full}
+use Rattle.automaton.proofs.Theorems.Quiet.{Lawful, Settled, quiet_run_agrees, open_le_full}
 use Rattle.automaton.proofs.Theorems.Blocks.{Block, blocks_of, Between, Rises, Joined, lists_join, rises_right}
 use Rattle.automaton.proofs.Theorems.Pause.{joined, pause, pause_fault, resumed}
 

@@ -6,8 +6,8 @@ use native.Mathlib.Omega.{arith}
 use mathlib.Core.Path.{◌≡◌, refl, sym, ap, ap₂, ◌∙◌, fun_ext}
 use mathlib.Core.Bool.{Bool, true, ◌||◌}
 use mathlib.Core.List.{List}
-use Rattle.automaton.specs.Step.{Fault, no_fault, fault_at, Automaton, marks_of, how_many, Step, Run, Quiet, every_cell, no_cell, Blocks, one_more, one_more_quiet, step_of, quiet_step, touched, open_in, run_of, open_count, full_count, quiet_run}
-use Rattle.automaton.proofs.Theorems.Quiet.{Lawful, Keeps, quiet_step_agrees, quiet_then, quiet_from, quiet_run_from, run_go, run_stop, open_go, open_stop, full_go, full_stop}
+use Rattle.automaton.specs.Step.{Fault, no_fault, fault_at, Automaton, marks_of, how_many, Step, Quiet, every_cell, no_cell, Blocks, one_more, step_of, quiet_step, touched, open_in, run_of, open_count, full_count, quiet_run}
+use Rattle.automaton.proofs.Theorems.Quiet.{Lawful, quiet_step_agrees, quiet_then, quiet_from, quiet_run_from, run_go, run_stop, open_go, open_stop, full_go, full_stop}
 
 -- A quiet run before which k steps were done and c cells were counted.
 abbrev pub after : {Grid : Type 0} → ℕ → ℕ → Quiet Grid → Quiet Grid

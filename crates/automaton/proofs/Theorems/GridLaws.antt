@@ -15,7 +15,8 @@ use Rattle.value.proofs.Theorems.Laws.{eq_z_true, eq_z_refl}
 use Rattle.automaton.specs.Promises.ListedLaws.{length_list_of, get_d_list_of, list_of_ext}
 use Rattle.automaton.specs.Step.{result}
 use Rattle.automaton.specs.Shape.{product, neighbour, reach_of}
-use Rattle.automaton.specs.Promises.ShapeLaws.{Positive, zeros, neighbour_zeros}
+use Rattle.automaton.specs.Promises.ShapeLaws.{Positive, zeros}
+use Rattle.automaton.proofs.ShapeLaws.{neighbour_zeros}
 use Rattle.automaton.proofs.Theorems.Quiet.{Lawful, or_false}
 use Rattle.automaton.specs.Grid.{cell_of, grid_of, differ, CellRule, automaton}
 

@@ -1,15 +1,15 @@
 -- A quiet run of n steps and then, from its standing marks, of m steps is the quiet run of n + m steps with the joined blocks.
-use Prim.Native.Nat.{ℕ, zero, suc, ◌+◌, ◌<◌, ◌≤◌}
+use Prim.Native.Nat.{ℕ, zero, suc, ◌+◌, ◌<◌}
 use native.Mathlib.Nat.{zero-add, suc-add, add-suc, add-zero, add_assoc}
 use native.Mathlib.Omega.{arith}
-use mathlib.Core.Path.{◌≡◌, refl, sym, ap, ap₂, ◌∙◌, subst}
+use mathlib.Core.Path.{◌≡◌, refl, sym, ap, ◌∙◌, subst}
 use mathlib.Core.Logic.{◌⊎◌, inl, inr}
-use mathlib.Core.Bool.{Bool, true, false, ◌||◌, cond, true≢false}
-use mathlib.Core.List.{List, [], ◌∷◌, ◌++◌}
+use mathlib.Core.Bool.{Bool, true, false, ◌||◌, cond}
+use mathlib.Core.List.{List}
 use Rattle.automaton.specs.Promises.ListedLaws.{list_of_ext}
-use Rattle.automaton.specs.Step.{Fault, no_fault, fault_at, Automaton, any_of, changed, touched, open_in, marks_of, marked, Step, Run, Quiet, one_more, one_more_quiet, every_cell, no_cell, Blocks, quiet_step, quiet_run, run_of, open_count, full_count}
-use Rattle.automaton.proofs.Theorems.Quiet.{Lawful, quiet_then, quiet_from, quiet_run_from, any_none, marked_marks_of, Settled, Agree, quiet_run_agrees, open_le_full}
-use Rattle.automaton.proofs.Theorems.Blocks.{Block, blocks_of, Between, Rises, Joined, lists_join, rises_right}
+use Rattle.automaton.specs.Step.{Fault, no_fault, fault_at, Automaton, changed, touched, open_in, marks_of, marked, Step, Quiet, one_more_quiet, Blocks, quiet_step, quiet_run}
+use Rattle.automaton.proofs.Theorems.Quiet.{Lawful, quiet_then, quiet_from, quiet_run_from, any_none, marked_marks_of}
+use Rattle.automaton.proofs.Theorems.Blocks.{Joined}
 
 -- The results of two calls taken together: the later's answer, grid and marks, and the sums of the steps and of the counts.
 abbrev pub joined : {Grid : Type 0} → Quiet Grid → Quiet Grid → Quiet Grid

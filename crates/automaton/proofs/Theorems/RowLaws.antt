@@ -1,18 +1,16 @@
 -- What the row counts alone tell is what the grid tells; and how one cell that changes moves them.
-use Prim.Native.Nat.{ℕ, zero, suc, ◌+◌, ◌-◌, ◌*◌, ◌/◌, ◌%◌, ◌<◌, ◌≤◌}
-use native.Mathlib.Nat.{add-zero, add-suc, add_assoc, suc-mul, zero-mul, le-suc, le_trans, le_refl, mul-le-mul_right, mul-add-div_right, div-eq_of_lt}
+use Prim.Native.Nat.{ℕ, zero, suc, ◌+◌, ◌-◌, ◌*◌, ◌/◌, ◌<◌, ◌≤◌}
+use native.Mathlib.Nat.{add-zero, add-suc, add_assoc, zero-mul, le-suc, le_trans, le_refl, mul-add-div_right, div-eq_of_lt}
 use native.Mathlib.Omega.{arith}
 use mathlib.Core.Path.{◌≡◌, refl, sym, ap, ap₂, ◌∙◌, subst}
 use mathlib.Core.Logic.{◌⊎◌, inl, inr}
 use mathlib.Core.Bool.{Bool, true, false, ◌||◌, cond}
-use mathlib.Core.List.{List, [], ◌∷◌}
 use mathlib.Core.Option.{Option, none, some}
-use lib.ListN.{length, get_or, set, length-set}
+use lib.ListN.{get_or, set, length-set}
 use lib.Dec.{eqb}
 use borrow.Author.Tests.{eqb-true, eqb-false}
 use lib.Seq.{get_or-set_same, get_or-set_other, ext_get_or}
 use Rattle.value.proofs.Theorems.Truth.{or_true, or_no}
-use Rattle.automaton.specs.Listed.{list_of}
 use Rattle.automaton.specs.Promises.ListedLaws.{length_list_of, get_d_list_of, last_or_below}
 use Rattle.automaton.specs.Step.{how_many, non_zero}
 use Rattle.automaton.proofs.Theorems.Quiet.{how_many_ext}

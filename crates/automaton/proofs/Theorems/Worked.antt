@@ -1,18 +1,18 @@
 -- Worked examples of runs with blocks, of pausing and resuming, of bands and of row counts: by computation.
-use Prim.Native.Nat.{ℕ, zero, suc, ◌+◌}
+use Prim.Native.Nat.{ℕ}
 use mathlib.Core.Path.{◌≡◌, refl}
-use mathlib.Core.Bool.{Bool, true, false}
+use mathlib.Core.Bool.{true, false}
 use mathlib.Core.List.{List, [], ◌∷◌}
 use mathlib.Core.Option.{some, none}
 use lib.IntN.{ℤ, pos, negsuc}
 use lib.ListN.{set}
 use Rattle.automaton.specs.Listed.{list_of}
-use Rattle.automaton.specs.Step.{result, fault, no_fault, fault_at, Automaton, first_fault, how_many, any_of, marks_of, marked, Quiet, every_cell, Blocks, step_of, quiet_outcome, quiet_step, changed, touched, open_in, run_of, open_count, full_count, quiet_run}
+use Rattle.automaton.specs.Step.{result, no_fault, Automaton, first_fault, how_many, any_of, marks_of, marked, Quiet, every_cell, step_of, quiet_outcome, quiet_step, changed, touched, open_in, run_of, open_count, full_count, quiet_run}
 use Rattle.automaton.proofs.Theorems.Blocks.{no_blocks}
-use Rattle.automaton.specs.Shape.{neighbour, box_indices, reach_of, Bound}
+use Rattle.automaton.specs.Shape.{neighbour, box_indices, reach_of}
 use Rattle.automaton.specs.Grid.{cell_of, grid_of, CellRule, automaton}
 use Rattle.automaton.proofs.Theorems.Blocks.{Block, blocks_of}
-use Rattle.automaton.specs.Bands.{Band, runs_on, accepts, plannable, longest, plan_of, part_step, band_outcome, band_step}
+use Rattle.automaton.specs.Bands.{runs_on, accepts, plannable, longest, plan_of, part_step, band_outcome, band_step}
 use Rattle.automaton.specs.Promises.BandSteps.{rows_lent, bands_of, step_under}
 use Rattle.automaton.specs.Rows.{has_zero, counts_by, row_counts, in_rows, lowest, first_row}
 

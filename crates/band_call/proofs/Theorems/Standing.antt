@@ -1,16 +1,16 @@
 -- What 60 means: a band is right exactly if it stands in some accepted plan.
 use Prim.Native.Nat.{ℕ, zero, suc, ◌+◌, ◌-◌, ◌≤◌, ◌<◌}
 use native.Mathlib.Omega.{arith}
-use native.Mathlib.Nat.{add-zero, add-suc, le_refl}
+use native.Mathlib.Nat.{add-zero, le_refl}
 use mathlib.Core.Path.{◌≡◌, refl, sym, ap, ◌∙◌, subst}
 use mathlib.Core.Logic.{◌⊎◌, inl, inr}
 use mathlib.Core.Bool.{Bool, true, ◌&&◌}
 use mathlib.Core.List.Memᴰ
 use mathlib.Core.List.{List, [], ◌∷◌, ◌++◌, Memᴰ}
-use lib.Dec.{eqb, leb, ltb}
-use borrow.Author.Tests.{eq-eqb, eqb-true, le-leb, leb-true, lt-ltb}
+use lib.Dec.{eqb, leb}
+use borrow.Author.Tests.{eq-eqb, le-leb, leb-true}
 use Rattle.automaton.specs.Shape.{Bound}
-use Rattle.automaton.specs.Bands.{Band, rows_in, rows_with, runs_on, accepts}
+use Rattle.automaton.specs.Bands.{Band, rows_with, runs_on, accepts}
 use Rattle.band_meaning.specs.Plans.{band}
 use Rattle.band_step.proofs.AllBands.{and4, runs_within}
 use Rattle.band_call.specs.BandCall.{band_right}

@@ -1,5 +1,5 @@
 -- What the functions of a band's call promise.
-use Rattle.std.specs.Prelude.{◌≡◌, Bool, true, List, ℕ, suc, ◌+◌, ◌-◌, ◌*◌, ◌<◌, ◌≤◌, length, get_or, drop, ℤ}
+use Rattle.std.specs.Prelude.{◌≡◌, Bool, List, ℕ, ◌*◌, ◌<◌, ◌≤◌, length, get_or, drop, ℤ}
 use Rattle.value.specs.Limits.{most_cells}
 use Rattle.automaton.specs.Step as automaton
 use Rattle.automaton.specs.Shape.{product, Bound}
@@ -12,7 +12,6 @@ use Rattle.grammar.specs.Promises.Flat.{names_after}
 use Rattle.cell_meaning.specs.Evaluation.{evaluate}
 use Rattle.cell_meaning.specs.Promises.Stands.{Holds}
 use Rattle.program.specs.Promises.Fitting.{Sized}
-use Rattle.run_meaning.specs.Report as report
 use Rattle.run_calls.specs.Calls.{NameForm, SourceLent}
 use Rattle.run_steps.specs.declared.Report.{Report}
 use Rattle.run_steps.specs.Told.{told}

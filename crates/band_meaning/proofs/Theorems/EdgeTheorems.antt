@@ -11,7 +11,8 @@ use lib.ListN.{length, replicate, length-replicate}
 use lib.IntN.{ℤ, pos, negsuc}
 use Rattle.automaton.specs.Step.{step_of}
 use Rattle.automaton.specs.Shape.{Bound, box_indices}
-use Rattle.automaton.specs.Promises.ShapeLaws.{Positive, Alike, alike_length, Within, AllWithin, mem_box, box_alike, zeros, zeros_within}
+use Rattle.automaton.specs.Promises.ShapeLaws.{Positive, Alike, Within, AllWithin, zeros}
+use Rattle.automaton.proofs.ShapeLaws.{alike_length, mem_box, box_alike, zeros_within}
 use Rattle.automaton.specs.Bands.{Band, accepts}
 use Rattle.automaton.specs.Promises.BandSteps.{step_under}
 use Rattle.automaton.proofs.Theorems.BandLaws.{Edged, step_under_is}

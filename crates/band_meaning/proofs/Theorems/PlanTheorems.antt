@@ -11,7 +11,7 @@ use lib.Seq.{take_at, drop_at}
 use lib.Dec.{eqb, leb}
 use borrow.Author.Tests.{eqb-true, eqb-false, eq-eqb, leb-true, lt-ltb}
 use Rattle.value.proofs.Theorems.Laws.{never, and_both}
-use Rattle.value.specs.Choice.{if◌then◌else◌}
+use Rattle.std.specs.Prelude.{if◌then◌else◌}
 use Rattle.automaton.specs.Shape.{Bound, product}
 use Rattle.automaton.specs.Bands.{Band, accepts, plannable, longest, plan_of}
 use Rattle.automaton.proofs.Theorems.BandLaws.{plan_accepted, plan_needs, AsLong, plan_longest, plan_short}

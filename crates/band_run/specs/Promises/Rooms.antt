@@ -1,5 +1,5 @@
 -- What the functions promise that look at the room of a run under a plan.
-use Rattle.std.specs.Prelude.{◌≡◌, Bool, true, false, List, ℕ, ◌*◌, ◌<◌, length, get_or, drop, eqb}
+use Rattle.std.specs.Prelude.{◌≡◌, Bool, true, false, List, ℕ, ◌*◌, ◌<◌, get_or, drop, eqb}
 use Rattle.automaton.specs.Shape.{product}
 
 -- `room_fits`: whether the room is of as many rows as can be held, where the grid has so many fields a cell

@@ -14,7 +14,6 @@ use Rattle.cell_meaning.specs.Promises.Stands.{Holds}
 use Rattle.program.specs.Promises.Fitting.{Sized}
 use Rattle.run_meaning.proofs.Theorems.Locality.{Flagged}
 use Rattle.band_meaning.specs.Edge.{edge}
-use Rattle.band_meaning.specs.Bounds.{bound}
 use Rattle.band_meaning.specs.Plans.{plan_right}
 use Rattle.run_step.specs.declared.Step.{Step}
 use Rattle.run_step.specs.Promises.Stepping.{fault_in, count_in}

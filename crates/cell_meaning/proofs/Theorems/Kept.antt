@@ -7,7 +7,7 @@ use mathlib.Core.List.{List, [], ◌∷◌, ◌++◌}
 use mathlib.Core.Option.{some}
 use lib.ListN.{get_or, set, replicate}
 use lib.IntN.{ℤ, pos, ◌+ℤ◌}
-use Rattle.value.specs.Choice.{if◌then◌else◌}
+use Rattle.std.specs.Prelude.{if◌then◌else◌}
 use Rattle.value.specs.Worked.{span_of}
 use Rattle.automaton.specs.Step.{Outcome, result, fault}
 use Rattle.program.specs.Syntax.{no_range, Target, to_field, to_variable, Clause, Block, empty, assign, select, loop, exit, constant, Program}

@@ -2,7 +2,7 @@
 use Rattle.std.specs.Prelude.{◌≡◌, List, ℕ, ◌+◌, ◌*◌, ◌<◌, ◌≤◌, length, ℤ}
 use Rattle.value.specs.Limits.{most_tokens, most_names, most_open, most_dims, most_fields}
 use Rattle.value.specs.Promises.Buffers.{most_room}
-use Rattle.value.specs.Choice.{if◌then◌else◌}
+use Rattle.std.specs.Prelude.{if◌then◌else◌}
 use Rattle.value.specs.Worked.{value}
 use Rattle.value.specs.declared.Value.{Value}
 use Rattle.automaton.specs.Step.{Outcome, result, fault}

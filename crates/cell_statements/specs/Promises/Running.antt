@@ -2,7 +2,7 @@
 use Rattle.std.specs.Prelude.{◌≡◌, Bool, true, false, List, [], ◌∷◌, ◌++◌, ℕ, ◌+◌, ◌<◌, ◌≤◌, length, get_or, take, ℤ}
 use Rattle.std.proofs.Math.Option.{Option, none, some}
 use Rattle.value.specs.Promises.Buffers.{most_room}
-use Rattle.value.specs.Choice.{if◌then◌else◌}
+use Rattle.std.specs.Prelude.{if◌then◌else◌}
 use Rattle.value.specs.Worked.{span_of}
 use Rattle.automaton.specs.Step as Step
 use Rattle.automaton.specs.Shape.{product, coordinates, neighbour}

@@ -1,5 +1,5 @@
 -- A list that passes for a source that moves a pixel once sets no flag to 0, so that what is claimed of runs holds of runs with a list.
-use Prim.Native.Nat.{ℕ, zero, suc, ◌+◌, ◌*◌, ◌%◌, ◌<◌, ◌≤◌}
+use Prim.Native.Nat.{ℕ, zero, suc, ◌+◌, ◌*◌, ◌%◌, ◌<◌}
 use native.Mathlib.Nat.{mul-add-mod_self_right, mod-eq_of_lt}
 use native.Mathlib.Omega.{arith}
 use mathlib.Core.Path.{◌≡◌, refl, sym, ap, ◌∙◌, subst}
@@ -25,7 +25,8 @@ use Rattle.move_meaning.proofs.Theorems.Runs.{flag, Flags, KeepsFlags}
 use Rattle.list_meaning.specs.Lines.{Said, bad, time, cell, said}
 use Rattle.list_meaning.specs.ListChecking.{Limits, value_fits, all_fit, is_zero, clears, cell_line_number}
 use Rattle.list_meaning.specs.Setting.{store_values, set_lines, set_block}
-use Rattle.list_meaning.specs.Promises.Passing.{LinePasses, passes_first}
+use Rattle.list_meaning.specs.Promises.Passing.{LinePasses}
+use Rattle.list_meaning.proofs.Passing.{passes_first}
 use Rattle.list_meaning.proofs.Theorems.Kept.{right_cell}
 use Rattle.list_meaning.proofs.Theorems.RoundTrip.{store_length, Flagged, zero_or_one, flag_in_range}
 

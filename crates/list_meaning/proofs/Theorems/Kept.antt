@@ -12,7 +12,7 @@ use lib.Seq.{get_or-set_same, get_or-set_other}
 use lib.Dec.{eqb, ltb}
 use lib.IntN.{ℤ, pos}
 use borrow.Author.Tests.{eqb-true, ltb-false}
-use Rattle.value.specs.Choice.{if◌then◌else◌}
+use Rattle.std.specs.Prelude.{if◌then◌else◌}
 use Rattle.value.proofs.Theorems.Laws.{and_both}
 use Rattle.automaton.specs.Shape as shape
 use Rattle.program.specs.Syntax.{Range, no_range, Program}
@@ -21,7 +21,8 @@ use Rattle.run_meaning.proofs.Theorems.Ranges.{FieldsInRange, entry_in_range, al
 use Rattle.list_meaning.specs.Lines.{Said, bad, time, cell, said}
 use Rattle.list_meaning.specs.ListChecking.{Limits, inside, all_fit, clears, cell_line_number}
 use Rattle.list_meaning.specs.Setting.{store_values, set_lines, set_block}
-use Rattle.list_meaning.specs.Promises.Passing.{LinePasses, passes_first}
+use Rattle.list_meaning.specs.Promises.Passing.{LinePasses}
+use Rattle.list_meaning.proofs.Passing.{passes_first}
 
 -- ---- a cell's line that is right
 

@@ -7,20 +7,20 @@ use mathlib.Core.Logic.{◌⊎◌, inl, inr}
 use mathlib.Core.Bool.{Bool, true, false, not, ◌&&◌}
 use mathlib.Core.List.{List, [], ◌∷◌, ◌++◌, map}
 use mathlib.Core.Option.{Option, some, none}
-use lib.ListN.{length, get_or, set, length-set, length-map}
+use lib.ListN.{length, get_or, set, length-set}
 use lib.Seq.{get_or-set_same, get_or-set_other, ext_get_or}
 use lib.Dec.{eqb, leb, ltb}
 use lib.IntN.{ℤ, pos, negsuc, nat_abs, ◌+ℤ◌}
 use lib.Signed.{le_z}
-use borrow.Author.Tests.{ltb-true, ltb-false, eq-eqb, ne_eqb, eqb-true, eqb-false, lt-ltb, le-ltb, leb-true, not-false}
-use Rattle.value.specs.Choice.{if◌then◌else◌}
+use borrow.Author.Tests.{ltb-true, ltb-false, eq-eqb, ne_eqb, eqb-true, eqb-false, lt-ltb, le-ltb, leb-true}
+use Rattle.std.specs.Prelude.{if◌then◌else◌}
 use Rattle.value.specs.Number.{within}
 use Rattle.value.proofs.Theorems.Laws.{and_both, never}
 use Rattle.automaton.specs.Listed.{list_of}
 use Rattle.automaton.specs.Promises.ListedLaws.{length_list_of, get_d_list_of}
-use Rattle.automaton.specs.Shape as shape
 use Rattle.automaton.specs.Shape.{product, coordinates}
-use Rattle.automaton.specs.Promises.ShapeLaws.{Inside, inside_length, Positive, coordinates_inside, number_coordinates}
+use Rattle.automaton.specs.Promises.ShapeLaws.{Inside, Positive}
+use Rattle.automaton.proofs.ShapeLaws.{inside_length, coordinates_inside, number_coordinates}
 use Rattle.automaton.specs.Grid.{cell_of, differ}
 use Rattle.automaton.proofs.Theorems.GridLaws.{differ_false, cell_room}
 use Rattle.program.specs.Syntax.{Range, range, no_range, Program}
@@ -28,11 +28,12 @@ use Rattle.cell_meaning.specs.Evaluation.{in_field}
 use Rattle.program.specs.Refusal.{Refusal, refusal}
 use Rattle.run_meaning.specs.Admission.{Request, all_between, good_sizes, good_rooms, good_times, too_far, out_of_field, admission}
 use Rattle.cell_meaning.specs.Written.{written_in}
-use Rattle.list_meaning.specs.Lines.{Said, bad, time, cell, said}
-use Rattle.list_meaning.specs.ListChecking.{Limits, limits_of, inside, all_fit, cell_line_number, time_number, line_number, time_behind, Verdict, verdict, check_lines, check_list}
+use Rattle.list_meaning.specs.Lines.{Said, time, cell, said}
+use Rattle.list_meaning.specs.ListChecking.{Limits, limits_of, inside, all_fit, cell_line_number, time_number, line_number, time_behind, verdict, check_lines, check_list}
 use Rattle.list_meaning.specs.Setting.{store_values, set_lines, set_block}
-use Rattle.list_meaning.specs.Writing.{print_number, cell_line, shown, cells_text, written_text, Wanted, as_run, lower, writing_admission}
-use Rattle.list_meaning.specs.Promises.Rereading.{All, all_append, Small, Writable, WritableField, said_time, said_cell, said_nothing}
+use Rattle.list_meaning.specs.Writing.{cell_line, shown, cells_text, written_text, Wanted, as_run, lower, writing_admission}
+use Rattle.list_meaning.specs.Promises.Rereading.{All, Small, Writable, WritableField}
+use Rattle.list_meaning.proofs.Rereading.{all_append, said_time, said_cell, said_nothing}
 use Rattle.list_meaning.specs.Promises.Showing.{length_shown, writable_shown, fit_shown, kept_shown, ZeroToo, store_shown}
 
 -- ---- storing the values of a cell
@@ -71,11 +72,15 @@ all_list_of P f (suc n) h = all_append P (list_of f n) (f n ∷ []) (all_list_of
 inside_small : (ns is : List ℕ) → Inside ns is → All (λ n. n ≤ 4096) ns → All Small is
 inside_small [] [] h b = tt
 inside_small (n ∷ ns) (i ∷ is) h b = (let x = h.0 in let y = b.0 in omega arith, inside_small ns is h.1 b.1)
+inside_small [] (i ∷ is) h b = elim h [ ]
+inside_small (n ∷ ns) [] h b = elim h [ ]
 
 inside_true : (ns is : List ℕ) → Inside ns is → inside ns is ≡ true
 unfolding inside
 inside_true [] [] h = refl
 inside_true (n ∷ ns) (i ∷ is) h = rw (lt-ltb i n h.0) (inside_true ns is h.1)
+inside_true [] (i ∷ is) h = elim h [ ]
+inside_true (n ∷ ns) [] h = elim h [ ]
 
 fit_true : (rs : List Range) (vs : List ℤ) → ((k : ℕ) → k < length rs → k < length vs → in_field (get_or rs k no_range) (get_or vs k (pos 0)) ≡ true) → all_fit rs (map some vs) ≡ true
 unfolding all_fit

@@ -8,7 +8,7 @@ use lib.ListN.{length}
 use Rattle.grammar.specs.Reader.{ok}
 use Rattle.grammar.specs.Source.{Accepted, parse}
 use Rattle.grammar.specs.Checking.{accepted, read_source}
-use Rattle.read_links.proofs.Theorems.Accepted.{Parsed, parsed}
+use Rattle.read_links.proofs.Theorems.Accepted.{parsed}
 use Rattle.move_meaning.specs.Profile.{profile_flag}
 use Rattle.move_meaning.proofs.Theorems.InProfile.{accepted_parsed, flag_moves}
 use Rattle.list_meaning.specs.Writing.{Wanted, writing_admission}

@@ -1,8 +1,8 @@
 -- In every source that is accepted, `exit` stands in a loop.
 use Prim.Native.Nat.{ℕ, zero, suc, ◌+◌, ◌<◌, ◌≤◌}
 use native.Mathlib.Omega.{arith}
-use mathlib.Core.Path.{◌≡◌, refl, sym, ap, ◌∙◌, subst}
-use mathlib.Core.Bool.{Bool, true, false, ◌&&◌}
+use mathlib.Core.Path.{◌≡◌, sym, subst}
+use mathlib.Core.Bool.{Bool, ◌&&◌}
 use mathlib.Core.List.{List, [], ◌∷◌, ◌++◌}
 use lib.Dec.{ltb}
 use lib.ListN.{length}
@@ -10,14 +10,14 @@ use borrow.Author.Tests.{ltb-true}
 use Rattle.value.specs.Limits.{most_open}
 use Rattle.value.proofs.Theorems.Laws.{and_both}
 use Rattle.token.specs.Kind.{keyword}
-use Rattle.program.specs.Syntax.{Expr, Block, empty, assign, select, loop, exit, constant, Program}
-use Rattle.grammar.specs.Reader.{Input, State, ok, Reader, ◌>>=◌, ◌>>◌, ◌<<◌, ◌▷◌, return, Turn, again, done, repeat, turns, is_kind, is_name, token_of}
-use Rattle.grammar.specs.Expressions.{Cell, read_expression}
-use Rattle.grammar.specs.Statements.{Arm, choices, arm_end, arm_turn, read_if, read_forall, read_exit, read_assignment, Parts, put_after, statement_turn, read_block}
-use Rattle.grammar.specs.Source.{input_of, Accepted, accepted_as, parse}
+use Rattle.program.specs.Syntax.{Expr, Block, empty, assign, loop, exit, constant}
+use Rattle.grammar.specs.Reader.{Input, State, ok, Reader, again, done, turns, is_kind, is_name, token_of}
+use Rattle.grammar.specs.Expressions.{Cell}
+use Rattle.grammar.specs.Statements.{Arm, choices, arm_end, arm_turn, read_if, read_forall, read_exit, read_assignment, Parts, statement_turn, read_block}
+use Rattle.grammar.specs.Source.{input_of, Accepted, parse}
 use Rattle.grammar.proofs.Theorems.Ends.{Gives, bind}
-use Rattle.read_links.proofs.Theorems.Steps.{made, gave, choose, refused, repeated, Turned, given_as, at_token}
-use Rattle.read_links.proofs.Theorems.Accepted.{Parsed, parsed}
+use Rattle.read_links.proofs.Theorems.Steps.{made, gave, choose, refused, repeated, Turned, at_token}
+use Rattle.read_links.proofs.Theorems.Accepted.{parsed}
 use Rattle.move_meaning.proofs.Theorems.Moving.{Enclosed}
 
 -- a statement keeps this of those after it

@@ -1,22 +1,21 @@
 -- A source in the profile has a program that moves once: what its tokens say holds of its tree.
-use Prim.Native.Nat.{ℕ, zero, suc, ◌+◌, ◌<◌, ◌≤◌}
-use native.Mathlib.Nat.{le_refl}
+use Prim.Native.Nat.{ℕ, zero, suc, ◌+◌, ◌<◌}
 use native.Mathlib.Omega.{arith}
-use mathlib.Core.Path.{◌≡◌, refl, sym, ap, ap₂, ◌∙◌, subst}
+use mathlib.Core.Path.{◌≡◌, refl, sym, ap, ◌∙◌, subst}
 use mathlib.Core.Logic.{◌⊎◌, inl, inr}
 use mathlib.Core.Bool.{Bool, true, false, ◌&&◌, ◌||◌}
 use mathlib.Core.List.{List, [], ◌∷◌}
 use mathlib.Core.Option.{Option, none, some}
 use lib.ListN.{length, get_or}
 use lib.Dec.{eqb, ltb}
-use lib.IntN.{ℤ, pos}
-use borrow.Author.Tests.{eqb-true, eqb-false}
-use Rattle.value.specs.Choice.{if◌then◌else◌}
+use lib.IntN.{pos}
+use borrow.Author.Tests.{eqb-true}
+use Rattle.std.specs.Prelude.{if◌then◌else◌}
 use Rattle.value.specs.Worked.{decode_of}
 use Rattle.value.proofs.Theorems.Laws.{never, and_both}
 use Rattle.token.specs.Kind.{kind, keyword, relation, delimiter, level_of}
 use Rattle.program.specs.Syntax.{Expr, number, field, binary, Target, to_field, Clause, Block, empty, assign, select, loop, exit, constant}
-use Rattle.cell_meaning.specs.Promises.Stands.{is_sign_kind, is_unary, Decoded, parsed, nothing, then_decode, decode_expression, decode_chain, decode_operand, decode_primary, ExprAt, target_in, first_clause, GuardAt, ClausesAt, ElseAt, ArmAt, assigns, Stands}
+use Rattle.cell_meaning.specs.Promises.Stands.{is_sign_kind, is_unary, Decoded, parsed, then_decode, decode_expression, decode_chain, decode_operand, ExprAt, target_in, first_clause, GuardAt, ClausesAt, assigns, Stands}
 use Rattle.cell_meaning.specs.Links.{Table, begins}
 use Rattle.move_meaning.specs.Profile.{kinds_at, Tokens, digit_at, opens_at, closes_at, past_constants, last_statement, moves_once}
 use Rattle.move_meaning.proofs.Theorems.Moving.{Blank, Sets, LastSets, Once, Moves}

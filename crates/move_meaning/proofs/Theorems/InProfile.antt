@@ -1,30 +1,30 @@
 -- A source in the profile is accepted, and its program moves once.
-use Prim.Native.Nat.{ℕ, zero, suc, ◌<◌, ◌≤◌}
+use Prim.Native.Nat.{ℕ, suc, ◌<◌, ◌≤◌}
 use native.Mathlib.Omega.{arith}
-use mathlib.Core.Path.{◌≡◌, refl, sym, ap, ap₂, ◌∙◌, subst}
+use mathlib.Core.Path.{◌≡◌, refl, sym, ap, ◌∙◌, subst}
 use mathlib.Core.Bool.{Bool, true, false, not, ◌&&◌}
-use mathlib.Core.List.{List, [], ◌∷◌}
+use mathlib.Core.List.{List}
 use mathlib.Core.Option.{Option, none, some}
 use lib.ListN.{length, get_or, get_or-eq_default}
-use lib.Dec.{eqb, ltb}
-use lib.IntN.{ℤ, pos}
+use lib.Dec.{ltb}
+use lib.IntN.{pos}
 use borrow.Author.Tests.{ltb-true, ltb-false, le-ltb}
 use Rattle.value.specs.Limits.{most_bytes}
-use Rattle.value.specs.Choice.{if◌then◌else◌}
+use Rattle.std.specs.Prelude.{if◌then◌else◌}
 use Rattle.value.specs.Number.{eq_z}
 use Rattle.value.proofs.Theorems.Laws.{never, and_both, eq_z_true}
 use Rattle.token.specs.Scanning.{scan}
 use Rattle.names.specs.declared.Entry.{Entry}
 use Rattle.names.specs.Names.{name_kind, is, entry_at}
-use Rattle.program.specs.Syntax.{Range, range, no_range, Program}
-use Rattle.grammar.specs.Reader.{Result, ok, fail, State, ◌>>=◌, position}
-use Rattle.grammar.specs.Source.{Accepted, input_of, start_state, parse}
+use Rattle.program.specs.Syntax.{Range, range, no_range}
+use Rattle.grammar.specs.Reader.{Result, ok, fail, ◌>>=◌, position}
+use Rattle.grammar.specs.Source.{Accepted, parse}
 use Rattle.grammar.specs.Checking.{SourceRead, turned_away, refused, accepted, source_read, read_source}
 use Rattle.cell_meaning.specs.Promises.Stands.{Stands}
 use Rattle.cell_meaning.specs.Links.{word_in, table_of}
 use Rattle.read_links.proofs.Theorems.Accepted.{Parsed, parsed, holds}
-use Rattle.move_meaning.specs.Profile.{is_flag, flag_of, flag_in, moved_slot, flag_field, moves_once, read_head, position_in, statements_at, tokens_of, if_moves, profile_flag, Answer, rule_missed, missed, answer_of, one_move}
-use Rattle.move_meaning.proofs.Theorems.Moving.{OneMove, Moves}
+use Rattle.move_meaning.specs.Profile.{is_flag, flag_of, flag_in, moved_slot, flag_field, moves_once, read_head, statements_at, tokens_of, if_moves, profile_flag, Answer, rule_missed, missed, answer_of, one_move}
+use Rattle.move_meaning.proofs.Theorems.Moving.{OneMove}
 use Rattle.move_meaning.proofs.Theorems.Exits.{enclosed}
 use Rattle.move_meaning.proofs.Theorems.Found.{moves}
 

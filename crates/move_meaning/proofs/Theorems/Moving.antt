@@ -9,7 +9,7 @@ use mathlib.Core.Option.{none, some}
 use lib.ListN.{length, get_or, set, replicate, length-set}
 use lib.Seq.{get_or-set_same}
 use lib.IntN.{ℤ, pos, ◌+ℤ◌}
-use Rattle.value.specs.Choice.{if◌then◌else◌}
+use Rattle.std.specs.Prelude.{if◌then◌else◌}
 use Rattle.value.specs.Number.{eq_z}
 use Rattle.value.proofs.Theorems.Laws.{eq_z_true}
 use Rattle.value.specs.Worked.{span_of}
@@ -146,6 +146,10 @@ module _ (env : Env) where
   unfolding exec
   exec_blank vs empty h fr = refl
   exec_blank vs (constant rest) h fr = exec_blank vs rest h fr
+  exec_blank vs (assign _ _ _) h fr = elim h [ ]
+  exec_blank vs (select _ _ _ _) h fr = elim h [ ]
+  exec_blank vs (loop _ _ _) h fr = elim h [ ]
+  exec_blank vs (exit _) h fr = elim h [ ]
 
   -- a statement by itself keeps the number of fields
   abbrev Long : ℕ → List ℤ → Type 0
@@ -198,6 +202,7 @@ module _ (env : Env) where
         (λ g e' same. exec_sets vs rest s h.1 g (roomy vs (loop r d empty) fr turns refl same l) e')
     exec_sets vs (exit rest) s h fr l e = absurd (let z = h.0 in omega arith)
     exec_sets vs (constant rest) s h fr l e = exec_sets vs rest s h fr l e
+    exec_sets vs empty s h fr l e = elim s [ ]
 
 -- ---- a cell
 
@@ -229,6 +234,10 @@ module _ (f : ℕ) (env : Env) where
       nothing =
           rw (h.0.condition, h.0.no_else, flag_result env fr.vars f h.0.place, not_zero own_flag set) refl
   exec_still (constant rest) h set fr q = exec_still rest h set fr q
+  exec_still empty h set fr q = elim h [ ]
+  exec_still (assign _ _ _) h set fr q = elim h [ ]
+  exec_still (loop _ _ _) h set fr q = elim h [ ]
+  exec_still (exit _) h set fr q = elim h [ ]
 
   -- where it is 0: the statements, and then the flag is 1
   exec_moved : (room : in_field (get_or env.fields f no_range) (pos 1) ≡ true) (b : Block) → Moves f b → Enclosed 0 b → own_flag ≡ pos 0 → (fr : Frame) → f < length fr.next
@@ -243,6 +252,10 @@ module _ (f : ℕ) (env : Env) where
       chosen : choice_outcome env [] c d e fr ≡ exec env [] d fr
       chosen = rw (h.0.condition, flag_result env fr.vars f h.0.place, clear) refl
   exec_moved room (constant rest) h inside clear fr l q = exec_moved room rest h inside clear fr l q
+  exec_moved room empty h inside clear fr l q = elim h [ ]
+  exec_moved room (assign _ _ _) h inside clear fr l q = elim h [ ]
+  exec_moved room (loop _ _ _) h inside clear fr l q = elim h [ ]
+  exec_moved room (exit _) h inside clear fr l q = elim h [ ]
 
 module _ (f : ℕ) (p : Program) (h : OneMove f p) (look : List ℤ → List ℤ) (t : ℕ) where
   -- the own cell's fields

@@ -3,28 +3,26 @@
 use Prim.Native.Nat.{ℕ, zero, suc, ◌+◌, ◌*◌, ◌/◌, ◌%◌, ◌<◌, ◌≤◌}
 use native.Mathlib.Nat.{le_refl, div-add-mod', mod-lt, div-lt_iff_lt-mul}
 use native.Mathlib.Omega.{arith}
-use mathlib.Core.Path.{◌≡◌, refl, sym, ap, ap₂, ◌∙◌, subst}
+use mathlib.Core.Path.{◌≡◌, refl, sym, ap, ◌∙◌, subst}
 use mathlib.Core.Logic.{◌⊎◌, inl, inr}
-use mathlib.Core.Bool.{Bool, true, false}
-use mathlib.Core.List.{List, [], ◌∷◌}
+use mathlib.Core.List.{List}
 use mathlib.Core.Option.{Option, none, some}
 use lib.ListN.{length, get_or, length-set}
 use lib.Seq.{ext_get_or}
 use lib.IntN.{ℤ, pos}
-use Rattle.value.proofs.Theorems.Laws.{never}
-use Rattle.automaton.specs.Listed.{list_of}
 use Rattle.automaton.specs.Promises.ListedLaws.{length_list_of, get_d_list_of, list_of_ext}
-use Rattle.automaton.specs.Step.{Outcome, result, fault, Fault, no_fault, fault_at, fault_of, state_or, first_fault, Automaton, Step, Run, one_more, grid_after, step_of, run_of}
+use Rattle.automaton.specs.Step.{Outcome, result, fault, Fault, no_fault, fault_at, fault_of, state_or, first_fault, Automaton, Run, one_more, grid_after, step_of, run_of}
 use Rattle.automaton.proofs.Theorems.Blocks.{no_blocks}
 use Rattle.automaton.proofs.Theorems.Quiet.{first_fault_none, run_go, run_stop}
 use Rattle.automaton.specs.Shape.{product, neighbour}
-use Rattle.automaton.specs.Promises.ShapeLaws.{Positive, neighbour_zeros}
+use Rattle.automaton.specs.Promises.ShapeLaws.{Positive}
+use Rattle.automaton.proofs.ShapeLaws.{neighbour_zeros}
 use Rattle.automaton.specs.Grid.{cell_of, grid_of, automaton}
 use Rattle.automaton.proofs.Theorems.GridLaws.{cell_of_grid_of, some_field, cell_length}
-use Rattle.program.specs.Syntax.{Range, range, no_range, Program}
+use Rattle.program.specs.Syntax.{Program}
 use Rattle.cell_meaning.specs.Evaluation.{entry, evaluate}
 use Rattle.cell_meaning.specs.Places.{own_place}
-use Rattle.run_meaning.specs.Reach.{reach, running}
+use Rattle.run_meaning.specs.Reach.{running}
 use Rattle.cell_meaning.proofs.Theorems.Kept.{evaluate_keeps}
 use Rattle.run_meaning.proofs.Theorems.Locality.{own_zeros}
 use Rattle.move_meaning.proofs.Theorems.Moving.{OneMove, still, moved}

@@ -3,7 +3,6 @@ use Rattle.std.specs.Prelude.{◌≡◌, List, Bool, ◌&&◌, ℕ}
 use Rattle.std.proofs.Math.Option.{Option}
 use Rattle.value.specs.Limits.{most_names}
 use Rattle.token.specs.Bytes.{as_bytes, same}
-use Rattle.names.specs.declared.Entry.{Entry}
 use Rattle.names.specs.declared.Found.{Found}
 use Rattle.names.specs.Names.{is_field, entry_at, letters}
 use Rattle.names.specs.Promises.Finding.{found_of, Below}

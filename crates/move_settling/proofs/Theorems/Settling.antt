@@ -2,25 +2,24 @@
 use Prim.Native.Nat.{ℕ, zero, suc, ◌+◌, ◌*◌, ◌<◌, ◌≤◌}
 use native.Mathlib.Omega.{arith}
 use mathlib.Core.Path.{◌≡◌, refl, sym, ap, ◌∙◌, subst}
-use mathlib.Core.Bool.{Bool, true, false}
+use mathlib.Core.Bool.{Bool, true}
 use mathlib.Core.List.{List, []}
-use mathlib.Core.Option.{Option, some, none}
+use mathlib.Core.Option.{Option, some}
 use lib.ListN.{length}
 use lib.Dec.{eqb, leb}
 use lib.IntN.{ℤ, pos, nat_abs}
 use borrow.Author.Tests.{eqb-true}
 use Rattle.value.proofs.Theorems.Laws.{and_both}
-use Rattle.automaton.specs.Step.{result, Fault, no_fault, fault_at, Automaton, Blocks, Run, step_of, run_of}
+use Rattle.automaton.specs.Step.{Fault, no_fault, fault_at, Automaton, Blocks, Run, step_of, run_of}
 use Rattle.automaton.proofs.Theorems.Quiet.{run_go, run_stop}
 use Rattle.automaton.specs.Grid.{automaton}
 use Rattle.automaton.specs.Shape.{product}
 use Rattle.automaton.specs.Promises.ShapeLaws.{Positive}
 use Rattle.program.specs.Syntax.{Program}
-use Rattle.grammar.specs.Source.{Accepted}
-use Rattle.grammar.specs.Checking.{accepted, read_source}
+use Rattle.grammar.specs.Checking.{read_source}
 use Rattle.run_meaning.specs.Reach.{running}
 use Rattle.run_meaning.specs.Admission.{all_between, good_sizes, admission}
-use Rattle.run_meaning.specs.Report.{Manner, full, quiet, pausing, resuming, Report, ended, count_of}
+use Rattle.run_meaning.specs.Report.{Manner, full, quiet, pausing, resuming, Report, ended}
 use Rattle.run_meaning.proofs.Theorems.Ranges.{admitted_dims, admitted_in_range}
 use Rattle.move_meaning.proofs.Theorems.InProfile.{InProfile}
 use Rattle.move_meaning.proofs.Theorems.Moving.{OneMove}
@@ -38,7 +37,7 @@ use Rattle.run_calls.specs.Services.{run_read, run_source, run_begins}
 use Rattle.run_source.specs.Promises.Agreement.{Agree}
 use Rattle.run_joining.specs.Joins.{GoesOn, all_at_once, all_together, last_marks, Chain}
 use Rattle.run_joining.proofs.Theorems.Joining.{chain_joins, link_agrees}
-use Rattle.move_settling.specs.Settles.{first_steps, next_step, next_of, fields_of, flag_at, Fresh, MovesOnce, Settled, Settles}
+use Rattle.move_settling.specs.Settles.{first_steps, flag_at, Fresh, MovesOnce, Settled, Settles}
 
 -- ---- the first steps of a run
 

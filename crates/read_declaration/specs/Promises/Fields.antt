@@ -1,7 +1,7 @@
 -- What reading the cell declaration promises: how the fields follow from the code's place of reading and the word table.
 use Rattle.std.specs.Prelude.{◌≡◌, Bool, true, ◌&&◌, List, ℕ, ◌+◌, ◌*◌, ◌≤◌, ◌<◌, min, length, get_or, eqb, leb, ltb, ℤ}
 use Rattle.value.specs.Limits.{most_dims, most_fields}
-use Rattle.value.specs.Choice.{if◌then◌else◌}
+use Rattle.std.specs.Prelude.{if◌then◌else◌}
 use Rattle.value.specs.Worked.{decode_of, encode_of}
 use Rattle.token.specs.declared.Token.{Token}
 use Rattle.token.specs.Kind.{keyword}

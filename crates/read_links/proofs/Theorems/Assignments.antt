@@ -10,10 +10,10 @@ use mathlib.Core.Option.{none, some}
 use lib.Dec.{eqb}
 use lib.ListN.{length}
 use borrow.Author.Tests.{eqb-true, eqb-false}
-use Rattle.value.specs.Choice.{if◌then◌else◌}
+use Rattle.std.specs.Prelude.{if◌then◌else◌}
 use Rattle.token.specs.Kind.{kind, keyword, delimiter}
 use Rattle.names.specs.Names.{name_kind, is, entry_at, variables_in}
-use Rattle.program.specs.Syntax.{Range, Expr, Target, to_field, to_variable, Clause, Block, assign}
+use Rattle.program.specs.Syntax.{Range, Expr, Target, to_field, to_variable, Clause, Block}
 use Rattle.grammar.specs.Reader.{Input, State, Reader, return, Turn, again, done, repeat, turns, token_of, is_kind, is_name, by_name}
 use Rattle.grammar.specs.Expressions.{Cell}
 use Rattle.grammar.specs.Statements.{old_variable, new_variable, named_target, field_target, read_target, target_number, clause, when_clause, clause_end, clause_turn, read_assignment}
@@ -21,7 +21,7 @@ use Rattle.grammar.proofs.Theorems.Ends.{Gives, bind}
 use Rattle.cell_meaning.specs.Promises.Stands.{ExprAt, target_in, first_clause, ClausesAt, assigns, Stands}
 use Rattle.cell_meaning.specs.Links.{Table, table_of, word_in}
 use Rattle.cell_meaning.specs.Written.{relatives_in_expr, relatives_in_condition, relatives_in_clauses, relatives_in_block}
-use Rattle.read_links.proofs.Theorems.Steps.{advanced, written, named, gave, refused, refused_last, made, regroup, choose, at_position, at_token, at_state, at_entry, over, wrote, wrote_both, named_it, by_found, expected, forbidden, Turned, repeated}
+use Rattle.read_links.proofs.Theorems.Steps.{advanced, written, gave, refused, refused_last, made, regroup, choose, at_position, at_token, at_state, at_entry, over, wrote, wrote_both, named_it, by_found, expected, forbidden, Turned, repeated}
 use Rattle.read_links.proofs.Theorems.Runs.{tokens, Text, Sound, Run, stay, join, go_on, write_first, word_other}
 use Rattle.read_links.proofs.Theorems.Naming.{of_kind, head_is, name_it}
 use Rattle.read_links.proofs.Theorems.Constants.{is_name_inside, fresh_gives}

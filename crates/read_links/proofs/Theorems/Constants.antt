@@ -1,24 +1,24 @@
 -- What constants, ranges and constant declarations keep.
-use Prim.Native.Nat.{ℕ, zero, suc, ◌+◌, ◌-◌, ◌*◌, ◌≤◌, ◌<◌}
+use Prim.Native.Nat.{ℕ, zero, suc, ◌+◌, ◌*◌, ◌≤◌, ◌<◌}
 use native.Mathlib.Nat.{le_refl}
 use native.Mathlib.Omega.{arith}
 use mathlib.Core.Path.{◌≡◌, refl, sym, ap, ◌∙◌, subst, subst₂}
 use mathlib.Core.Logic.{◌⊎◌, inl, inr}
-use mathlib.Core.Bool.{Bool, true, false, not, ◌&&◌, ◌||◌}
+use mathlib.Core.Bool.{Bool, true, false, not, ◌||◌}
 use mathlib.Core.List.{List}
-use lib.Dec.{eqb, leb, ltb}
-use lib.IntN.{ℤ, pos, negsuc, neg_ℤ, ◌-ℤ◌}
+use lib.Dec.{eqb, leb}
+use lib.IntN.{ℤ, pos, negsuc, neg_ℤ}
 use lib.ListN.{length}
-use borrow.Author.Tests.{lt-ltb, ltb-true, ltb-false, leb-true, leb-false, le-leb, eqb-true, not-false}
+use borrow.Author.Tests.{lt-ltb, leb-true, leb-false, le-leb, eqb-true, not-false}
 use Rattle.value.proofs.Theorems.Truth.{or_either, or_true}
 use Rattle.value.specs.Limits.{most_names}
-use Rattle.value.specs.Choice.{if◌then◌else◌}
+use Rattle.std.specs.Prelude.{if◌then◌else◌}
 use Rattle.value.specs.Number.{in_range, within}
 use Rattle.value.specs.Worked.{decode_of, encode_of, opposite_of, span_of}
-use Rattle.value.proofs.Theorems.Laws.{and_both, decode_encode}
+use Rattle.value.proofs.Theorems.Laws.{decode_encode}
 use Rattle.token.specs.Kind.{kind, keyword, operation, delimiter}
 use Rattle.names.specs.declared.Entry.{Entry}
-use Rattle.names.specs.Names.{name_kind, is, entry_at}
+use Rattle.names.specs.Names.{name_kind, entry_at}
 use Rattle.program.specs.Syntax.{Range, range}
 use Rattle.program.specs.Table.{word_at}
 use Rattle.grammar.specs.Reader.{Input, State, Result, ok, fail, Reader, and_then, ◌>>=◌, ◌>>◌, ◌▷◌, return, next_token, unit, is_kind, again, done, turns, token_of, position, advance, put, is_name, entry_in, fresh, use_name}

@@ -4,17 +4,17 @@ use native.Mathlib.Nat.{le_refl}
 use native.Mathlib.Omega.{arith}
 use mathlib.Core.Path.{◌≡◌, refl, sym, ap, ap₂, ◌∙◌, subst, subst₂}
 use mathlib.Core.Logic.{◌⊎◌, inl, inr}
-use mathlib.Core.Bool.{Bool, true, false, not, ◌&&◌, ◌||◌}
+use mathlib.Core.Bool.{Bool, true, false, ◌&&◌, ◌||◌}
 use mathlib.Core.List.{List, []}
 use lib.Dec.{eqb, ltb}
 use lib.IntN.{ℤ}
 use borrow.Author.Tests.{not-true, eqb-true, eqb-false, ltb-false, lt-ltb}
-use Rattle.value.specs.Choice.{if◌then◌else◌}
+use Rattle.std.specs.Prelude.{if◌then◌else◌}
 use Rattle.value.specs.Worked.{decode_of}
-use Rattle.value.proofs.Theorems.Laws.{never, and_both}
+use Rattle.value.proofs.Theorems.Laws.{never}
 use Rattle.token.specs.Kind.{kind, relation, operation, delimiter, level_of}
 use Rattle.names.specs.declared.Entry.{Entry}
-use Rattle.names.specs.Names.{name_kind, is, entry_at, is_field, in_space}
+use Rattle.names.specs.Names.{name_kind, entry_at, is_field, in_space}
 use Rattle.program.specs.Syntax.{Range, Expr, number, time, variable, index, element, unary, binary}
 use Rattle.grammar.specs.Reader.{Input, State, Reader, ◌>>◌, return, done, turns, token_of, refuse}
 use Rattle.grammar.specs.Constants.{is_sign as is-sign-token}

@@ -11,12 +11,12 @@ use lib.IntN.{ℤ}
 use lib.ListN.{length, length-append}
 use borrow.Author.Tests.{eqb-true, eqb-false, not-true}
 use Rattle.value.proofs.Theorems.Truth.{or_either}
-use Rattle.value.specs.Choice.{if◌then◌else◌}
+use Rattle.std.specs.Prelude.{if◌then◌else◌}
 use Rattle.value.specs.Worked.{decode_of, encode_of}
 use Rattle.value.proofs.Theorems.Laws.{and_both}
 use Rattle.token.specs.Kind.{kind, operation, delimiter}
 use Rattle.names.specs.declared.Entry.{Entry}
-use Rattle.names.specs.Names.{name_kind, is, entry_at, letters}
+use Rattle.names.specs.Names.{name_kind, entry_at, letters}
 use Rattle.token.specs.Bytes.{same}
 use Rattle.program.specs.Syntax.{Range, Index, fixed, moving, Expr, field}
 use Rattle.grammar.specs.Reader.{Input, State, Reader, ◌>>◌, unit, again, done, turns, token_of, is_kind, is_name, forbid}

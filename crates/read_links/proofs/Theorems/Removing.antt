@@ -9,9 +9,9 @@ use lib.Dec.{eqb, ltb}
 use lib.ListN.{length, get_or, take, drop, replicate, length-append, length-drop, length-replicate, get_or-replicate, get_or-append}
 use lib.Seq.{length-take-le, get_or-append-add, get_or-take, get_or-drop}
 use borrow.Author.Tests.{eqb-true, eqb-false, ltb-true, ltb-false, eq-eqb, ne_eqb}
-use Rattle.value.specs.Choice.{if◌then◌else◌}
+use Rattle.std.specs.Prelude.{if◌then◌else◌}
 use Rattle.names.specs.declared.Entry.{Entry}
-use Rattle.names.specs.Names.{name_kind, is, entry_at, without_entry, variables_in}
+use Rattle.names.specs.Names.{name_kind, entry_at, without_entry, variables_in}
 
 -- ---- a name taken out
 

@@ -9,7 +9,7 @@ use lib.ListN.{length, take, drop, get_or, length-drop}
 use lib.Seq.{drop-cons, drop-drop}
 use borrow.Author.Tests.{not-true, eqb-true, eqb-false, ltb-true, ltb-false, leb-false, ne_eqb}
 use Rattle.token.proofs.Extents.{extent_within}
-use Rattle.value.specs.Choice.{if◌then◌else◌}
+use Rattle.std.specs.Prelude.{if◌then◌else◌}
 use Rattle.value.proofs.Theorems.Laws.{never, and_both}
 use Rattle.token.specs.declared.Token.{Token}
 use Rattle.token.specs.Bytes.{byte_kind, member, kind_of, fold, same}

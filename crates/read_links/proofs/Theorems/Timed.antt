@@ -10,7 +10,7 @@ use lib.Dec.{eqb, ltb}
 use lib.IntN.{ℤ}
 use borrow.Author.Tests.{eqb-true, eqb-false, ltb-true}
 use Rattle.value.proofs.Theorems.Truth.{neither}
-use Rattle.value.specs.Choice.{if◌then◌else◌}
+use Rattle.std.specs.Prelude.{if◌then◌else◌}
 use Rattle.value.proofs.Theorems.Laws.{never}
 use Rattle.value.specs.Worked.{decode_of}
 use Rattle.token.specs.Kind.{kind, keyword, delimiter, level_of}

@@ -6,7 +6,7 @@ use mathlib.Core.List.{List}
 use lib.Dec.{eqb, leb}
 use lib.IntN.{ℤ}
 use lib.ListN.{length}
-use Rattle.value.specs.Choice.{if◌then◌else◌}
+use Rattle.std.specs.Prelude.{if◌then◌else◌}
 use Rattle.value.proofs.Theorems.Laws.{never}
 use Rattle.value.specs.Worked.{span_of}
 use Rattle.names.specs.declared.Entry.{Entry}

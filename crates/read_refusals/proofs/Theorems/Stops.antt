@@ -11,7 +11,7 @@ use borrow.Author.Tests.{eqb-true, ltb-true, leb-true}
 use Rattle.token.proofs.Extents.{extent_within}
 use Rattle.token.proofs.Blanks.{blanks_within}
 use Rattle.value.specs.Limits.{most_tokens}
-use Rattle.value.specs.Choice.{if◌then◌else◌}
+use Rattle.std.specs.Prelude.{if◌then◌else◌}
 use Rattle.value.proofs.Theorems.Laws.{never, and_both}
 use Rattle.token.specs.Bytes.{byte_kind, kind_of, fold, same}
 use Rattle.token.specs.Kind.{kind}

@@ -1,8 +1,8 @@
 -- Worked cases: what is asked, what the definitions are to give, and the test of a list of them.
-use mathlib.Core.Bool.{Bool, true, false, not, ◌&&◌}
-use mathlib.Core.List.{List, [], ◌∷◌}
+use mathlib.Core.Bool.{Bool, not, ◌&&◌}
+use mathlib.Core.List.{List, []}
 use mathlib.Core.Option.{some, none}
-use Prim.Native.Nat.{ℕ, suc, ◌*◌}
+use Prim.Native.Nat.{ℕ, ◌*◌}
 use lib.ListN.{length}
 use lib.Dec.{eqb}
 use lib.IntN.{ℤ}
@@ -30,7 +30,6 @@ use Rattle.cell_meaning.specs.Places
 use Rattle.cell_meaning.specs.Links
 use Rattle.run_meaning.specs.Reach
 use Rattle.run_meaning.specs.Admission
-use Rattle.run_meaning.specs.Report
 use Rattle.move_meaning.specs.Profile
 use Rattle.list_meaning.specs.Text
 use Rattle.list_meaning.specs.Lines

@@ -1,15 +1,13 @@
 -- What an admitted run has, and what a run gives by whether it is admitted.
 use mathlib.Core.Path.{◌≡◌, refl, sym, ap, ◌∙◌}
 use mathlib.Core.Bool.{Bool, true, false}
-use mathlib.Core.List.{List}
 use mathlib.Core.Option.{Option, none}
 use Prim.Native.Nat.{ℕ}
 use native.Mathlib.Omega.{arith}
 use lib.Dec.{eqb}
 use borrow.Author.Tests.{eqb-true, eqb-false, eq-eqb, ne_eqb}
 use Rattle.program.specs.Syntax.{Program}
-use Rattle.program.specs.Refusal.{Refusal, refusal}
-use Rattle.run_meaning.specs.Admission.{Request, admission}
+use Rattle.run_meaning.specs.Admission.{admission}
 use Rattle.run_meaning.specs.Report.{Manner, refused}
 use Rattle.list_meaning.specs.Lines.{said}
 use Rattle.list_meaning.specs.ListChecking.{Turned, Verdict, limits_of, check_list, admission_with}

@@ -1,16 +1,13 @@
 -- Calls of a run that is paused and resumed give together what the run at once gives; and where they lead back to a fresh run, they agree with the full run.
 use mathlib.Core.Path.{◌≡◌, refl, sym, ap, ap₂, ◌∙◌, subst, subst₂, transport}
-use mathlib.Core.Bool.{Bool, true, false}
+use mathlib.Core.Bool.{Bool, true}
 use mathlib.Core.List.{List, [], ◌∷◌}
 use Prim.Native.Nat.{ℕ, ◌+◌, ◌≤◌}
-use native.Mathlib.Omega.{arith}
-use lib.ListN.{length}
-use lib.Dec.{eqb}
 use lib.IntN.{ℤ, nat_abs}
 use borrow.Author.Tests.{eqb-true, eq-eqb}
-use Rattle.value.specs.Choice.{if◌then◌else◌}
+use Rattle.std.specs.Prelude.{if◌then◌else◌}
 use Rattle.value.proofs.Theorems.Laws.{never}
-use Rattle.automaton.specs.Step.{Fault, no_fault, fault_at, Run, Quiet, every_cell, marked, run_of, open_count, full_count, quiet_run}
+use Rattle.automaton.specs.Step.{Fault, no_fault, fault_at, Run, Quiet, every_cell, marked}
 use Rattle.automaton.proofs.Theorems.Quiet as property
 use Rattle.automaton.proofs.Theorems.Quiet.{Lawful, Settled, quiet_run_agrees, open_le_full}
 use Rattle.automaton.proofs.Theorems.Pause.{joined}
@@ -19,11 +16,11 @@ use Rattle.grammar.specs.Source.{Accepted}
 use Rattle.grammar.specs.Checking as checking
 use Rattle.grammar.specs.Checking.{SourceRead, turned_away, accepted, read_source}
 use Rattle.run_meaning.specs.Reach.{running}
-use Rattle.run_meaning.specs.Report.{Manner, full, quiet, pausing, resuming, pending_of, Report, ended}
+use Rattle.run_meaning.specs.Report.{Manner, full, quiet, pausing, resuming, Report, ended}
 use Rattle.run_meaning.proofs.Theorems.Covering.{running_lawful}
 use Rattle.run_meaning.proofs.Theorems.Ranges.{admitted_dims}
 use Rattle.move_meaning.specs.Profile.{profile_flag}
-use Rattle.run_calls.specs.Running.{Asked, admitted, blocks, report_of, run, standing}
+use Rattle.run_calls.specs.Running.{Asked, admitted, blocks, report_of, standing}
 use Rattle.run_calls.proofs.Theorems.RunningLaws.{request_admitted, run_admitted}
 use Rattle.run_calls.specs.Services.{run_read, run_source, run_begins, when_begun, marks_admitted, marks_after}
 use Rattle.run_calls.proofs.Theorems.AcceptedSources.{accepted_flagged}

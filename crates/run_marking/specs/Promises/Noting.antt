@@ -2,7 +2,7 @@
 use Rattle.std.specs.Prelude.{◌≡◌, cond, List, [], ◌∷◌, ◌++◌, ℕ, zero, suc, ◌+◌, ◌-◌, ◌*◌, ◌/◌, ◌%◌, ◌<◌, ◌≤◌, min, length, get_or, set, ℤ, ltb}
 use Rattle.value.specs.Limits.{most_dims, most_cells}
 use Rattle.value.specs.Promises.Buffers.{place_words}
-use Rattle.value.specs.Choice.{if◌then◌else◌}
+use Rattle.std.specs.Prelude.{if◌then◌else◌}
 use Rattle.automaton.specs.Listed.{list_of}
 use Rattle.automaton.specs.Shape.{product, coordinates, Bound, width}
 use Rattle.automaton.specs.Promises.ShapeLaws.{Positive}

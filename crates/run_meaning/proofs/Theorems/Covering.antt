@@ -4,26 +4,27 @@ use native.Mathlib.Nat.{le_refl, le_trans}
 use native.Mathlib.Omega.{arith}
 use mathlib.Core.Path.{◌≡◌, refl, sym, ap, ap₂, ◌∙◌, subst}
 use mathlib.Core.Logic.{◌⊎◌, inl, inr}
-use mathlib.Core.Bool.{Bool, true, false, not, ◌||◌}
+use mathlib.Core.Bool.{Bool, true, false, not}
 use mathlib.Core.List.Memᴰ
 use mathlib.Core.List.{List, [], ◌∷◌, ◌++◌, map, Memᴰ}
 use mathlib.Core.Option.{Option, none, some}
-use lib.ListN.{length, get_or, set, replicate, length-set, length-replicate, get_or-eq_default}
+use lib.ListN.{length, get_or, set, length-set, length-replicate, get_or-eq_default}
 use lib.Dec.{eqb, leb, ltb}
 use borrow.Author.Tests.{leb-true, le-leb, eq-eqb, ltb-true, ltb-false, not-true}
 use lib.IntN.{ℤ, pos, negsuc, nat_abs, ◌+ℤ◌, ◌-ℤ◌, +ℤ_comm, -ℤ-+ℤ_cancel}
 use lib.Signed.{le_z}
 use Rattle.value.proofs.Theorems.Truth.{or_either, or_second}
 use Rattle.value.specs.Limits.{most_places}
-use Rattle.value.specs.Choice.{if◌then◌else◌}
+use Rattle.std.specs.Prelude.{if◌then◌else◌}
 use Rattle.value.specs.Worked.{span_of}
 use Rattle.value.proofs.Theorems.Laws.{never, and_both, gap, sub_le}
 use Rattle.automaton.specs.Listed.{list_of}
-use Rattle.automaton.specs.Promises.ListedLaws.{length_list_of, get_d_list_of, mem_list_of, of_mem_list_of}
-use Rattle.automaton.specs.Step.{Automaton, Blocks}
+use Rattle.automaton.specs.Promises.ListedLaws.{length_list_of, get_d_list_of, mem_list_of}
+use Rattle.automaton.specs.Step.{Blocks}
 use Rattle.automaton.proofs.Theorems.Quiet.{Lawful, QuietAgrees, quiet_agrees}
-use Rattle.automaton.specs.Shape.{cell_number, coordinates, Bound, box_indices}
-use Rattle.automaton.specs.Promises.ShapeLaws.{Inside, number_lt, coordinates_number, Within, AllWithin, mem_box}
+use Rattle.automaton.specs.Shape.{cell_number, Bound, box_indices}
+use Rattle.automaton.specs.Promises.ShapeLaws.{Inside, Within, AllWithin}
+use Rattle.automaton.proofs.ShapeLaws.{number_lt, coordinates_number, mem_box}
 use Rattle.automaton.specs.Grid.{differ}
 use Rattle.automaton.proofs.Theorems.GridLaws.{differ_false}
 use Rattle.program.specs.Syntax.{Range, no_range, Index, fixed, moving, Program}
@@ -31,7 +32,7 @@ use Rattle.cell_meaning.specs.Evaluation.{entry, offset, offsets, in_field}
 use Rattle.cell_meaning.specs.Written.{Relative, relatives_in, Written, values_of, written_in_index, written_of, written_in}
 use Rattle.cell_meaning.specs.Places.{uses, used_range, used_ranges, span, values_at, choice_at, choice_count, vectors_of, has_place, add_place, add_places, add_relative, add_relatives, own_place, places}
 use Rattle.run_meaning.specs.Reach.{below, above, widen, own_only, widened, box, reach_from, reach, running}
-use Rattle.run_meaning.proofs.Theorems.Locality.{All, all_left, all_right, InRanges, in_at, in_push, ReadsIn, Covers, own_offsets, Flagged, reaching, reaching_lawful}
+use Rattle.run_meaning.proofs.Theorems.Locality.{All, all_left, all_right, InRanges, in_at, in_push, ReadsIn, Covers, Flagged, reaching_lawful}
 
 -- ---- bounds
 
@@ -210,10 +211,14 @@ numbers_in (r ∷ rs) (v ∷ vs) = number_in r v ∷ numbers_in rs vs
 numbers_inside : (rs : List Range) (vs : List ℤ) → InRanges rs vs → Inside (map span rs) (numbers_in rs vs)
 numbers_inside [] [] h = tt
 numbers_inside (r ∷ rs) (v ∷ vs) h = (number_lt_span r v h.0, numbers_inside rs vs h.1)
+numbers_inside [] (v ∷ vs) h = elim h [ ]
+numbers_inside (r ∷ rs) [] h = elim h [ ]
 
 values_numbers : (rs : List Range) (vs : List ℤ) → InRanges rs vs → values_at rs (numbers_in rs vs) ≡ vs
 values_numbers [] [] h = refl
 values_numbers (r ∷ rs) (v ∷ vs) h = ap₂ (λ (x : ℤ) (xs : List ℤ). x ∷ xs) (value_number r v h.0) (values_numbers rs vs h.1)
+values_numbers [] (v ∷ vs) h = elim h [ ]
+values_numbers (r ∷ rs) [] h = elim h [ ]
 
 -- values in ranges are one of the choices
 pub chosen : (rs : List Range) (vs : List ℤ) → InRanges rs vs → (e : ℕ) × (e < choice_count rs) × (choice_at rs e ≡ vs)
@@ -245,6 +250,8 @@ kept_in loops vs h is = in_list_of (used_range loops is) (kept vs is) (length lo
 pub in_length : (rs : List Range) (vs : List ℤ) → InRanges rs vs → length vs ≡ length rs
 in_length [] [] h = refl
 in_length (r ∷ rs) (v ∷ vs) h = ap suc (in_length rs vs h.1)
+in_length [] (v ∷ vs) h = elim h [ ]
+in_length (r ∷ rs) [] h = elim h [ ]
 
 -- a variable that stands there keeps its value
 kept_entry : (loops : List Range) (vs : List ℤ) → InRanges loops vs → (is : List Index) (k : ℕ) → uses k is ≡ true

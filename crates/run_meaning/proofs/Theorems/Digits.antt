@@ -7,7 +7,8 @@ use mathlib.Core.List.{List, [], ◌∷◌}
 use lib.ListN.{length, get_or, drop}
 use lib.Seq.{drop-cons, drop-length}
 use Rattle.automaton.specs.Shape.{product, cell_number, coordinates}
-use Rattle.automaton.specs.Promises.ShapeLaws.{Inside, Positive, product_pos, coordinates_number}
+use Rattle.automaton.specs.Promises.ShapeLaws.{Inside, Positive}
+use Rattle.automaton.proofs.ShapeLaws.{product_pos, coordinates_number}
 
 pub size_positive : (ns : List ℕ) → Positive ns → (k : ℕ) → k < length ns → 0 < get_or ns k 0
 size_positive [] h k l = absurd (not-suc-le-zero l)

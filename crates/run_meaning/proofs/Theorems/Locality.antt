@@ -1,27 +1,25 @@
 -- A cell reads nothing but the cells in its reach, and its next fields fit. So property 3 holds of every program whose flag `timed` is set
 -- where `time` stands in its statements. It is argued once, over any list of index vectors that has the own cell and every place read.
-use Prim.Native.Nat.{ℕ, zero, suc, ◌+◌, ◌≤◌, ◌<◌}
-use native.Mathlib.Nat.{le_refl, le_trans}
+use Prim.Native.Nat.{ℕ, zero, suc, ◌+◌, ◌<◌}
 use native.Mathlib.Omega.{arith}
 use mathlib.Core.Path.{◌≡◌, refl, sym, ap, ap₂, ◌∙◌, subst, fun_ext}
 use mathlib.Core.Bool.{Bool, true, false, ◌||◌, cond}
 use mathlib.Core.List.{List, [], ◌∷◌, ◌++◌, Memᴰ}
 use mathlib.Core.Option.{Option, none, some}
-use lib.ListN.{length, get_or, set, replicate, length-set, length-replicate}
-use borrow.Author.Tests.{leb-true}
+use lib.ListN.{length, get_or, set, replicate, length-set}
 use lib.IntN.{ℤ, pos, nat_abs, ◌+ℤ◌, ◌-ℤ◌, +ℤ_assoc, +ℤ_idr}
 use lib.Signed.{le_z}
-use Rattle.value.specs.Choice.{if◌then◌else◌}
+use Rattle.std.specs.Prelude.{if◌then◌else◌}
 use Rattle.value.specs.Worked.{truth, span_of}
-use Rattle.value.proofs.Theorems.Laws.{never, and_both, offset_within}
+use Rattle.value.proofs.Theorems.Laws.{never, offset_within}
 use Rattle.automaton.specs.Step.{Outcome, result, Blocks, Automaton}
 use Rattle.automaton.specs.Grid.{automaton}
 use Rattle.automaton.proofs.Theorems.Quiet.{Lawful, QuietAgrees, quiet_agrees}
 use Rattle.automaton.specs.Promises.ShapeLaws.{zeros}
 use Rattle.automaton.proofs.Theorems.GridLaws.{Bounded, lawful}
-use Rattle.program.specs.Syntax.{Range, no_range, Index, fixed, moving, Expr, number, time, variable, index, field, element, unary, binary, Target, Clause, Block, empty, assign, select, loop, exit, constant, Program}
+use Rattle.program.specs.Syntax.{Range, no_range, Index, Expr, number, time, variable, index, field, element, unary, binary, Target, Clause, Block, empty, assign, select, loop, exit, constant, Program}
 use Rattle.cell_meaning.specs.Operators.{placed, apply_unary, apply_binary}
-use Rattle.cell_meaning.specs.Evaluation.{Env, bind, entry, offset, offsets, element_at, eval, Frame, frame, onward, in_field, store, met, assign_first, each, exec, evaluate}
+use Rattle.cell_meaning.specs.Evaluation.{Env, bind, entry, offsets, element_at, eval, Frame, frame, onward, in_field, store, met, assign_first, each, exec, evaluate}
 use Rattle.cell_meaning.proofs.Theorems.Kept.{evaluate_keeps}
 use Rattle.cell_meaning.specs.Written.{Relative, relative_of, relatives_in_expr, relatives_in_condition, relatives_in_clauses, relatives_in_block, relatives_in}
 use Rattle.cell_meaning.specs.Places.{own_place}
@@ -92,15 +90,21 @@ pub in_at : (rs : List Range) (zs : List ℤ) → InRanges rs zs → (k : ℕ) �
 in_at [] [] h k = refl
 in_at (r ∷ rs) (z ∷ zs) h zero = h.0
 in_at (r ∷ rs) (z ∷ zs) h (suc k) = in_at rs zs h.1 k
+in_at [] (z ∷ zs) h k = elim h [ ]
+in_at (r ∷ rs) [] h k = elim h [ ]
 
 pub in_push : (rs : List Range) (zs : List ℤ) (r : Range) (z : ℤ) → InRanges rs zs → in_field r z ≡ true → InRanges (rs ++ (r ∷ [])) (zs ++ (z ∷ []))
 in_push [] [] r z h e = (e, tt)
 in_push (q ∷ rs) (y ∷ zs) r z h e = (h.0, in_push rs zs r z h.1 e)
+in_push [] (y ∷ zs) r z h e = elim h [ ]
+in_push (q ∷ rs) [] r z h e = elim h [ ]
 
 in_set : (rs : List Range) (zs : List ℤ) (k : ℕ) (z : ℤ) → in_field (get_or rs k no_range) z ≡ true → InRanges rs zs → InRanges rs (set zs k z)
 in_set [] [] k z e h = tt
 in_set (r ∷ rs) (y ∷ zs) zero z e h = (e, h.1)
 in_set (r ∷ rs) (y ∷ zs) (suc k) z e h = (h.0, in_set rs zs k z e h.1)
+in_set [] (y ∷ zs) k z e h = elim h [ ]
+in_set (r ∷ rs) [] k z e h = elim h [ ]
 
 -- the values that a loop goes through lie in its range
 

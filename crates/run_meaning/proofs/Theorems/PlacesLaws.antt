@@ -1,5 +1,5 @@
 -- The list of a program's places: it has exactly the index vectors that the relative indices can take, each once, at most 256 of them, and all in the box.
-use Prim.Native.Nat.{ℕ, zero, suc, ◌+◌, ◌*◌, ◌≤◌, ◌<◌}
+use Prim.Native.Nat.{ℕ, zero, suc, ◌*◌, ◌≤◌, ◌<◌}
 use native.Mathlib.Omega.{arith}
 use mathlib.Core.Path.{◌≡◌, refl, sym, ap, ◌∙◌, subst}
 use mathlib.Core.Logic.{◌⊎◌, inl, inr, ◌↔◌}
@@ -10,22 +10,22 @@ use mathlib.Core.Option.{Option, none, some}
 use lib.ListN.{length, get_or, length-append, get_or-eq_default}
 use lib.Dec.{eqb, leb, ltb}
 use borrow.Author.Tests.{eq-eqb, leb-false, ltb-true, ltb-false, le-leb}
-use lib.IntN.{ℤ, pos, negsuc, ◌+ℤ◌}
+use lib.IntN.{ℤ, pos, negsuc}
 use Rattle.automaton.proofs.Theorems.GridLaws.{differ_self}
 use Rattle.value.proofs.Theorems.Truth.{or_second}
 use Rattle.value.specs.Limits.{most_places}
-use Rattle.value.specs.Choice.{if◌then◌else◌}
 use Rattle.value.proofs.Theorems.Laws.{never}
 use Rattle.automaton.specs.Listed.{list_of}
 use Rattle.automaton.specs.Promises.ListedLaws.{length_list_of, get_d_list_of, mem_list_of, of_mem_list_of}
 use Rattle.automaton.specs.Shape.{product, coordinates, Bound, width, indices_at, box_indices}
-use Rattle.automaton.specs.Promises.ShapeLaws.{Inside, coordinates_inside, Positive, AllWithin, mem_box}
+use Rattle.automaton.specs.Promises.ShapeLaws.{Inside, Positive, AllWithin}
+use Rattle.automaton.proofs.ShapeLaws.{coordinates_inside, mem_box}
 use Rattle.automaton.specs.Grid.{differ}
 use Rattle.program.specs.Syntax.{Range, no_range, Index, fixed, moving, Program}
-use Rattle.cell_meaning.specs.Evaluation.{entry, offset, offsets, in_field}
-use Rattle.cell_meaning.specs.Written.{Relative, relatives_in, values_of, written_in_index, written_of, written_in}
+use Rattle.cell_meaning.specs.Evaluation.{entry, offsets, in_field}
+use Rattle.cell_meaning.specs.Written.{Relative, relatives_in, written_in_index, written_of, written_in}
 use Rattle.cell_meaning.specs.Places.{uses, used_range, used_ranges, span, values_at, choice_at, choice_count, vectors_of, has_place, add_place, add_places, add_relative, add_relatives, own_place, places}
-use Rattle.run_meaning.specs.Reach.{own_only, box}
+use Rattle.run_meaning.specs.Reach.{box}
 use Rattle.run_meaning.proofs.Theorems.Locality.{All, all_left, all_right, InRanges, in_at, span_within}
 use Rattle.run_meaning.proofs.Theorems.Covering.{Covered, Taken, In, offsets_within, widened_covers, box_length, relatives_kept, relative_added, added, if_few, chosen}
 
@@ -196,6 +196,8 @@ positive_of (suc n ∷ ns) e l = (omega arith, positive_of ns 0 (by (product ns)
 values_in : (rs : List Range) (ks : List ℕ) → Inside (map span rs) ks → InRanges rs (values_at rs ks)
 values_in [] [] h = tt
 values_in (r ∷ rs) (k ∷ ks) h = (span_within r k h.0, values_in rs ks h.1)
+values_in [] (k ∷ ks) h = elim h [ ]
+values_in (r ∷ rs) [] h = elim h [ ]
 
 pub choice_in : (rs : List Range) (e : ℕ) → e < choice_count rs → InRanges rs (choice_at rs e)
 choice_in rs e l = values_in rs _ (coordinates_inside (map span rs) e (positive_of (map span rs) e l) l)
@@ -239,6 +241,7 @@ taken_listed : (dims : ℕ) (rs : List Relative) (o : Option (List (List ℤ))) 
 unfolding add_relatives
 taken_listed dims (r ∷ rs) o x (inl t) = relatives_kept dims rs (add_relative dims o r) x (relative_added dims o r x ((vectors_exact dims r x).1 t))
 taken_listed dims (r ∷ rs) o x (inr t) = taken_listed dims rs (add_relative dims o r) x t
+taken_listed dims [] o x x3 = elim x3 [ ]
 
 -- what a program can read: the own cell, and the index vectors that its relative indices can take
 abbrev pub Readable : Program → List ℤ → Type 0

@@ -1,5 +1,5 @@
 -- Where no list of places is given, there are more than 256.
-use Prim.Native.Nat.{ℕ, zero, suc, ◌+◌, ◌≤◌, ◌<◌}
+use Prim.Native.Nat.{ℕ, zero, suc, ◌≤◌, ◌<◌}
 use native.Mathlib.Omega.{arith}
 use mathlib.Core.Path.{◌≡◌, refl, sym, ap, ap₂, ◌∙◌, subst}
 use mathlib.Core.Logic.{◌⊎◌, inl, inr}
@@ -13,19 +13,19 @@ use lib.Dec.{eqb, leb, ltb}
 use borrow.Author.Tests.{eqb-true, leb-true, ltb-true, ltb-false}
 use lib.IntN.{ℤ, pos, negsuc, ◌+ℤ◌, ◌-ℤ◌, +ℤ_comm, +ℤ-neg_ℤ_cancel}
 use Rattle.value.specs.Limits.{most_places}
-use Rattle.value.specs.Choice.{if◌then◌else◌}
 use Rattle.value.proofs.Theorems.Laws.{never, and_both}
 use Rattle.automaton.specs.Listed.{list_of}
-use Rattle.automaton.specs.Promises.ListedLaws.{length_list_of, get_d_list_of, last_or_below, of_mem_list_of}
-use Rattle.automaton.specs.Shape.{product, cell_number, coordinates}
-use Rattle.automaton.specs.Promises.ShapeLaws.{Inside, coordinates_inside, number_coordinates}
+use Rattle.automaton.specs.Promises.ListedLaws.{length_list_of, get_d_list_of, of_mem_list_of}
+use Rattle.automaton.specs.Shape.{cell_number}
+use Rattle.automaton.specs.Promises.ShapeLaws.{Inside}
+use Rattle.automaton.proofs.ShapeLaws.{coordinates_inside, number_coordinates}
 use Rattle.program.specs.Syntax.{Range, no_range, Index, fixed, moving, Program}
-use Rattle.cell_meaning.specs.Evaluation.{entry, offset, offsets, in_field}
+use Rattle.cell_meaning.specs.Evaluation.{entry, offsets, in_field}
 use Rattle.cell_meaning.specs.Written.{Relative, relatives_in}
 use Rattle.cell_meaning.specs.Places.{uses, used_range, used_ranges, span, values_at, choice_at, choice_count, vectors_of, has_place, add_place, add_places, add_relative, add_relatives, own_place, places}
 use Rattle.run_meaning.proofs.Theorems.Locality.{All, InRanges, in_at}
 use Rattle.run_meaning.proofs.Theorems.Covering.{added, if_few, in_length}
-use Rattle.run_meaning.proofs.Theorems.PlacesLaws.{Distinct, distinct_more, not_place, positive_of, choice_in, Readable, taken_all, TakenIn}
+use Rattle.run_meaning.proofs.Theorems.PlacesLaws.{Distinct, distinct_more, not_place, positive_of, choice_in, Readable, taken_all}
 
 -- ---- the index vectors of one relative index are pairwise different
 
@@ -86,6 +86,10 @@ numbers_same (r ∷ rs) (k ∷ ks) (j ∷ js) h g e =
     let first : r.low +ℤ pos k ≡ r.low +ℤ pos j = cc in
     let rest : values_at rs ks ≡ values_at rs js = cc in
     ap₂ (λ (x : ℕ) (xs : List ℕ). x ∷ xs) (add_same r.low k j first) (numbers_same rs ks js h.1 g.1 rest)
+numbers_same [] [] (j ∷ js) h g e = elim g [ ]
+numbers_same [] (k ∷ ks) js h g e = elim h [ ]
+numbers_same (r ∷ rs) [] js h g e = elim h [ ]
+numbers_same (r ∷ rs) (k ∷ ks) [] h g e = elim g [ ]
 
 choices_differ : (rs : List Range) (e e' : ℕ) → e < choice_count rs → e' < choice_count rs → choice_at rs e ≡ choice_at rs e' → e ≡ e'
 choices_differ rs e e' l l' q =

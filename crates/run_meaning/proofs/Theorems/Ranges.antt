@@ -10,13 +10,13 @@ use lib.ListN.{length, get_or}
 use lib.Dec.{eqb, leb}
 use lib.IntN.{ℤ, pos}
 use borrow.Author.Tests.{eqb-true, eq-eqb}
-use Rattle.value.specs.Choice.{if◌then◌else◌}
+use Rattle.std.specs.Prelude.{if◌then◌else◌}
 use Rattle.value.proofs.Theorems.Laws.{never, and_both}
 use Rattle.automaton.specs.Promises.ListedLaws.{length_list_of, get_d_list_of}
 use Rattle.automaton.specs.Step.{Outcome, result, fault, Fault, no_fault, fault_at, Blocks, Step, Quiet, marks_of, touched, open_in, state_or, marked, grid_after, step_of, quiet_outcome, quiet_step, run_of, quiet_run}
 use Rattle.automaton.proofs.Theorems.Quiet.{run_go, run_stop, quiet_then, quiet_run_from}
 use Rattle.automaton.specs.Shape.{product, neighbour}
-use Rattle.automaton.specs.Promises.ShapeLaws.{alike_length, neighbour_lt}
+use Rattle.automaton.proofs.ShapeLaws.{alike_length, neighbour_lt}
 use Rattle.automaton.specs.Grid.{cell_of, grid_of, automaton}
 use Rattle.automaton.proofs.Theorems.GridLaws.{some_field, positive_of}
 use Rattle.program.specs.Syntax.{Range, no_range, Program}
@@ -164,7 +164,7 @@ module _ (p : Program) (sizes : List ℕ) where
       unfolding quiet_run
       quiet_run_keeps o zero t g h = kept t g h
       quiet_run_keeps o (suc n) t g h =
-          subst (λ (r : Quiet (List ℤ)). FieldsInRange p sizes r.run.grid) (sym (quiet_run_from (running p sizes) block o (suc n) t g)) (by s.fault (quiet_run_keeps _ n (suc t) s.grid after))
+          subst (λ (r : Quiet (List ℤ)). FieldsInRange p sizes r.run.grid) (sym (quiet_run_from (running p sizes) block o (suc n) t g)) (by s.fault (quiet_run_keeps (touched (running p sizes) (block t g) s.grid) n (suc t) s.grid after))
         where
           s : Step (List ℤ)
           s = quiet_step (running p sizes) (marks_of (open_in (running p sizes) o g (block t g)) (running p sizes).cells) (block t g) t

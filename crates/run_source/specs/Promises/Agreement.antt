@@ -1,7 +1,6 @@
 -- How the report of a run stands to that of the full run.
 use Rattle.std.specs.Prelude.{◌≡◌, false, ◌≤◌}
-use Rattle.run_meaning.specs.Report.{full, quiet, Report}
-use Rattle.run_calls.specs.Running.{run}
+use Rattle.run_meaning.specs.Report.{Report}
 use Rattle.run_steps.specs.declared.Manner.{Manner as Way}
 use Rattle.run_source.specs.Promises.Public.{is_resumed}
 

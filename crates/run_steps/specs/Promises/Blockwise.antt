@@ -1,5 +1,5 @@
 -- What setting the block that is due promises.
-use Rattle.std.specs.Prelude.{◌≡◌, Bool, true, false, ◌&&◌, List, ℕ, ◌≤◌, ◌<◌, length, eqb, ℤ}
+use Rattle.std.specs.Prelude.{◌≡◌, Bool, true, false, ◌&&◌, List, ℕ, ◌≤◌, length, eqb, ℤ}
 use Rattle.value.specs.Limits.{most_fields}
 use Rattle.token.specs.Promises.Promises.{Sorts}
 use Rattle.run_meaning.specs.declared.Bounds.{Bounds}

@@ -1,0 +1,7 @@
+use Rattle.cellang.proofs.Telling.{tells_run, tells_ranges, tells_agrees}
+use Rattle.cellang.proofs.exports.telling.run_told.Goals as goal
+
+pub returns : goal.returns
+returns c =
+    let t = tells_run c.ranges.start c.ranges.steps c.run-told.ensures.run_leaves c.told_part-part.ensures c.put_report.ensures in
+    record { tells_run = t; ranges = tells_ranges t; agrees = tells_agrees c.args.manner t }

@@ -1,0 +1,58 @@
+// Running a source with a value list.
+ghost use Rattle.std.specs.Prelude.{false, []};
+ghost use Rattle.run_meaning.specs.Report.{full, quiet};
+ghost use Rattle.run_calls.specs.Calls.{flat_names, memory, lent, asked, read_lent, run_report};
+ghost use Rattle.run_calls.specs.RangesKept.{RangesKept};
+ghost use Rattle.run_source.specs.Promises.Agreement.{Agree};
+ghost use Rattle.cellang.specs.Promises.Told.{TellsRun};
+
+// Runs a source on a grid with the blocks of a value list. Each step evaluates every cell. Returns the reply's number.
+// `report` is written as by the run without a list.
+#[unsafe(no_mangle)]
+pub extern "C" fn cellang_run_full_list(
+    source: &[u8],
+    list: &[u8],
+    words: &mut [u32],
+    names: &mut [u32],
+    sizes: &[u32],
+    grid: &mut [i32],
+    scratch: &mut [i32],
+    marks: &mut [u8],
+    values: &[u8],
+    start: i64,
+    steps: i64,
+    report: &mut [u64],
+) -> u32
+    ensures tells_run { TellsRun full (lent source.now list.now sizes.now (memory words.old names.old grid.old scratch.old marks.old []) values.now start steps false 0) report.old result (memory words.new names.new grid.new scratch.new marks.new []) report.new }
+    ensures ranges { RangesKept source.now (read_lent flat_names (lent source.now list.now sizes.now (memory words.old names.old grid.old scratch.old marks.old []) values.now start steps false 0)) (asked (lent source.now list.now sizes.now (memory words.old names.old grid.old scratch.old marks.old []) values.now start steps false 0)) grid.new }
+{
+    cellang::cellang_run_full_list(
+        source, list, words, names, sizes, grid, scratch, marks, values, start, steps, report,
+    )
+}
+
+// Runs a source on a grid with the blocks of a value list. Each step evaluates the open cells alone. Returns the reply's number.
+// `report` is written as by the full run; but for the count its numbers are the full run's, and so is the grid.
+#[unsafe(no_mangle)]
+pub extern "C" fn cellang_run_quiet_list(
+    source: &[u8],
+    list: &[u8],
+    words: &mut [u32],
+    names: &mut [u32],
+    sizes: &[u32],
+    grid: &mut [i32],
+    scratch: &mut [i32],
+    marks: &mut [u8],
+    values: &[u8],
+    start: i64,
+    steps: i64,
+    report: &mut [u64],
+) -> u32
+    ensures tells_run { TellsRun quiet (lent source.now list.now sizes.now (memory words.old names.old grid.old scratch.old marks.old []) values.now start steps false 0) report.old result (memory words.new names.new grid.new scratch.new marks.new []) report.new }
+    ensures ranges { RangesKept source.now (read_lent flat_names (lent source.now list.now sizes.now (memory words.old names.old grid.old scratch.old marks.old []) values.now start steps false 0)) (asked (lent source.now list.now sizes.now (memory words.old names.old grid.old scratch.old marks.old []) values.now start steps false 0)) grid.new }
+    ensures agrees { Agree (run_report flat_names quiet (lent source.now list.now sizes.now (memory words.old names.old grid.old scratch.old marks.old []) values.now start steps false 0)) (run_report flat_names full (lent source.now list.now sizes.now (memory words.old names.old grid.old scratch.old marks.old []) values.now start steps false 0)) }
+{
+    cellang::cellang_run_quiet_list(
+        source, list, words, names, sizes, grid, scratch, marks, values, start, steps, report,
+    )
+}

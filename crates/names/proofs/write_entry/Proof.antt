@@ -1,6 +1,0 @@
-use borrow.Author.Rules.{rules}
-use Rattle.names.proofs.write_entry.Statement.{statement}
-use Rattle.names.proofs.write_entry.Tie as tie
-
-pub write_entry_spec : {M : Type 1} → statement M
-write_entry_spec = tie.close (tie.spec (λ c. search rules) (λ c κs. search rules) (λ c. search rules) (λ c. search rules))

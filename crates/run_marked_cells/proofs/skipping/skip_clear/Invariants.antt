@@ -1,0 +1,11 @@
+use Prim.Native.Nat.{◌-◌}
+use mathlib.Core.Path.{◌≡◌}
+use lib.ListN.{length}
+use Rattle.run_marked_cells.specs.Promises.Clear.{Clear}
+use Rattle.run_marked_cells.proofs.skipping.skip_clear.Given as goal
+
+abbrev pub invariant-loop-at : goal.invariant-loop-at
+invariant-loop-at l = Clear l.marks l.from l.at × (l.cells ≡ length l.marks)
+
+abbrev pub decreases-loop-at : goal.decreases-loop-at
+decreases-loop-at l = l.cells - l.at

@@ -1,0 +1,18 @@
+use Prim.Native.Nat.{◌-◌}
+use native.Mathlib.Omega.{arith}
+use Rattle.run_meaning.proofs.Theorems.Cutting.{counting_small, counting_done}
+use Rattle.run_marking.proofs.WayLaws.{box_start, box_more}
+use borrow.Author.Rules.{rules}
+use Rattle.run_marking.proofs.ways.box_count.Goals as goal
+
+pub loop-k-init : goal.loop-k-init
+loop-k-init c = box_start c.args.bounds c.args.dims
+
+pub times-total-requires : goal.times-total-requires
+times-total-requires c = (omega (arith, c.width_at.ensures), counting_small _ c.loop-k.total c.loop-k.k c.loop-k.invariant)
+
+pub loop-k-preserved : goal.loop-k-preserved
+loop-k-preserved c = box_more c.args.bounds c.args.dims c.loop-k.total c.loop-k.k (c.loop-k.k - 1) c.loop-k.invariant (omega (arith, c.loop-k-test.true)) c.width_at.ensures c.times-total.ensures
+
+pub returns : goal.returns
+returns c = counting_done _ c.loop-k.total c.loop-k.k c.loop-k.invariant (search rules)
