@@ -29,7 +29,7 @@ compare op a b =
     else if eqb op relation.less then less_of a b
     else if eqb op relation.greater then greater_of a b
     else if eqb op relation.at_most then at_most_of a b
-    else if eqb op relation.at_least_lem then at_least_of a b
+    else if eqb op relation.at_least then at_least_of a b
     else if eqb op operation.and then and_of a b
     else or_of a b
 

@@ -35,7 +35,7 @@ use Rattle.list_reader.specs.declared.points.Point.{Point}
 use Rattle.list_reader.specs.declared.points.Point.TheVariants as point
 use Rattle.list_reader.specs.Promises.Points.{point_in, point_with, point_of, PointOnward, ReadsPoint}
 use Rattle.list_reader.specs.declared.values.Given.{Given}
-use Rattle.list_reader.specs.declared.values.Given.TheVariants as goal
+use Rattle.list_reader.specs.declared.values.Given.TheVariants as given
 use Rattle.list_reader.specs.declared.values.Valued.{Valued}
 use Rattle.list_reader.specs.declared.values.Valued.TheVariants as valued
 use Rattle.list_reader.specs.Promises.Values.{line_values, given_of, valued_of, ValuedOnward, ReadsValue}
@@ -70,7 +70,7 @@ is_placed (placed out c ps) = true
 
 -- ---- one value
 
-pub store_number : (g : List ℤ) (e : ℕ) {v : Given} {z : Value} {h : List ℤ} → v ≡ goal.Number z → h ≡ set g e z.n → h ≡ store_one g e (given_of v)
+pub store_number : (g : List ℤ) (e : ℕ) {v : Given} {z : Value} {h : List ℤ} → v ≡ given.Number z → h ≡ set g e z.n → h ≡ store_one g e (given_of v)
 store_number g e q s = s ∙ ap (λ (x : Given). store_one g e (given_of x)) (sym q)
 
 -- ---- the values of a line

@@ -31,7 +31,7 @@ use Rattle.list_reader.specs.declared.Lexed.{Lexed}
 use Rattle.list_reader.specs.declared.Lexed.TheVariants.{Literal, Sign, End, Unreadable}
 use Rattle.list_reader.specs.Promises.Promises.{line_tokens, LineOnward, Lexes}
 use Rattle.list_reader.specs.declared.values.Given.{Given}
-use Rattle.list_reader.specs.declared.values.Given.TheVariants as goal
+use Rattle.list_reader.specs.declared.values.Given.TheVariants as given
 use Rattle.list_reader.specs.declared.values.Signed.{Signed}
 use Rattle.list_reader.specs.declared.values.Signed.TheVariants as signed
 use Rattle.list_reader.specs.declared.values.Valued.{Valued}
@@ -194,10 +194,10 @@ module _ (line : List ℕ) (at : ℕ) where
     pub value_unreadable : x ≡ Unreadable → ReadsValue line at valued.Bad
     value_unreadable e = record { is = ap line_values (tokens_are e); onward = tt }
 
-    pub value_end : x ≡ End → ReadsValue line at (valued.Last goal.Missing)
+    pub value_end : x ≡ End → ReadsValue line at (valued.Last given.Missing)
     value_end e = record { is = ap line_values (tokens_are e) ∙ values_end; onward = tt }
 
-    pub value_literal : {n next : ℕ} {v : Value} {y : Valued} → x ≡ Literal n next → v ≡ value (decode_of n) → ReadsBehind line (goal.Number v) next y → ReadsValue line at y
+    pub value_literal : {n next : ℕ} {v : Value} {y : Valued} → x ≡ Literal n next → v ≡ value (decode_of n) → ReadsBehind line (given.Number v) next y → ReadsValue line at y
     value_literal {n} {next} {v} {y} e f h =
         let o : LineOnward line at (Literal n next) = subst (LineOnward line at) e w.onward in
         let p : value (decode_of n) ≡ value (pos n) = rw (lt-ltb n 2147483648 o.2) in
@@ -211,7 +211,7 @@ module _ (line : List ℕ) (at : ℕ) where
       sign_onward : (at < next) × (next ≤ length line)
       sign_onward = subst (LineOnward line at) e w.onward
 
-      pub value_missing : b ≡ 44 → ReadsValue line at (valued.More goal.Missing next)
+      pub value_missing : b ≡ 44 → ReadsValue line at (valued.More given.Missing next)
       value_missing d =
           record {
             is = ap line_values (tokens_are e) ∙ ap (λ (y : ℕ). line_values (with_piece (sign y) (pieces 0 (drop next line)))) d ∙ values_comma (pieces 0 (drop next line));
@@ -223,7 +223,7 @@ module _ (line : List ℕ) (at : ℕ) where
         value_bad f =
             record { is = ap line_values (tokens_are e) ∙ values_sign b (pieces 0 (drop next line)) d ∙ r.is ∙ ap (signed_of line) f; onward = tt }
 
-        pub value_signed : {v : Value} {past : ℕ} {y : Valued} → s ≡ signed.Number v past → ReadsBehind line (goal.Number v) past y → ReadsValue line at y
+        pub value_signed : {v : Value} {past : ℕ} {y : Valued} → s ≡ signed.Number v past → ReadsBehind line (given.Number v) past y → ReadsValue line at y
         value_signed {v} {past} {y} f h =
             let o : SignedOnward line next (signed.Number v past) = subst (SignedOnward line next) f r.onward in
             record {
@@ -275,10 +275,10 @@ module _ (words : List ℕ) (rule : Rule) (k : ℕ) (v : Given) where
   head_is : k < rule.fields → head_fits (drop k (fields_in words rule)) (given_of v) ≡ value_fits (get_or (fields_in words rule) k no_range) (given_of v)
   head_is l = ap (λ (rs : List Range). head_fits rs (given_of v)) (field_at (fields_in words rule) k (let n = fields_length words rule in omega arith))
 
-  pub still_missing : {fit : Bool} → not fit ≡ false → k < rule.fields → v ≡ goal.Missing → StillFits (fields_in words rule) k v fit true
+  pub still_missing : {fit : Bool} → not fit ≡ false → k < rule.fields → v ≡ given.Missing → StillFits (fields_in words rule) k v fit true
   still_missing {fit} e l m = from fit true e (sym (head_is l ∙ ap (λ (x : Given). value_fits (get_or (fields_in words rule) k no_range) (given_of x)) m))
 
-  pub still_number : {fit : Bool} {z : Value} {r : Bool} → not fit ≡ false → k < rule.fields → v ≡ goal.Number z
+  pub still_number : {fit : Bool} {z : Value} {r : Bool} → not fit ≡ false → k < rule.fields → v ≡ given.Number z
       → r ≡ in_field (get_or (fields_in words rule) k no_range) z.n → StillFits (fields_in words rule) k v fit r
   still_number {fit} {z} {r} e l m h = from fit r e (h ∙ sym (head_is l ∙ ap (λ (x : Given). value_fits (get_or (fields_in words rule) k no_range) (given_of x)) m))
 
@@ -298,10 +298,10 @@ module _ (flag k : ℕ) (v : Given) where
   pub kept_other : {kept : Bool} → not kept ≡ false → (k ≡ flag → ⊥) → StillKept flag k v kept true
   kept_other {kept} e d = kept_from kept true e (rw (ne_eqb k flag d))
 
-  pub kept_missing : {kept : Bool} → not kept ≡ false → k ≡ flag → v ≡ goal.Missing → StillKept flag k v kept true
+  pub kept_missing : {kept : Bool} → not kept ≡ false → k ≡ flag → v ≡ given.Missing → StillKept flag k v kept true
   kept_missing {kept} e d m = kept_from kept true e (rw (eq-eqb k flag d, m))
 
-  pub kept_number : {kept : Bool} {z : Value} {r : Bool} → not kept ≡ false → k ≡ flag → v ≡ goal.Number z → r ≡ not (eq_z z.n (pos 0)) → StillKept flag k v kept r
+  pub kept_number : {kept : Bool} {z : Value} {r : Bool} → not kept ≡ false → k ≡ flag → v ≡ given.Number z → r ≡ not (eq_z z.n (pos 0)) → StillKept flag k v kept r
   kept_number {kept} {z} {r} e d m h = kept_from kept r e (h ∙ rw (eq-eqb k flag d, m))
 
 pub ruleset Kepts = (kept_not, kept_other, kept_missing, kept_number)

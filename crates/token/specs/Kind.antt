@@ -13,8 +13,8 @@ abbrev pub keyword :
 keyword =
     record { const = 5; dimensions = 6; else = 7; elsif = 8; end = 9; exit = 10; for = 11; forall = 12; if = 13; of = 14; otherwise = 15; then = 16; when = 17 }
 
-abbrev pub relation : record { equal : ℕ; unequal : ℕ; less : ℕ; greater : ℕ; at_most : ℕ; at_least_lem : ℕ }
-relation = record { equal = 61; unequal = 132; less = 60; greater = 62; at_most = 130; at_least_lem = 131 }
+abbrev pub relation : record { equal : ℕ; unequal : ℕ; less : ℕ; greater : ℕ; at_most : ℕ; at_least : ℕ }
+relation = record { equal = 61; unequal = 132; less = 60; greater = 62; at_most = 130; at_least = 131 }
 
 abbrev pub operation : record { plus : ℕ; minus : ℕ; times : ℕ; slash : ℕ; percent : ℕ; and : ℕ; or : ℕ; not : ℕ }
 operation = record { plus = 43; minus = 45; times = 42; slash = 47; percent = 37; and = 38; or = 124; not = 33 }
@@ -27,6 +27,6 @@ unfoldable pub level_of : ℕ → ℕ
 level_of k =
     if eqb k operation.times || eqb k operation.slash || eqb k operation.percent then 4
     else if eqb k operation.plus || eqb k operation.minus then 3
-    else if eqb k relation.equal || eqb k relation.unequal || eqb k relation.less || eqb k relation.greater || eqb k relation.at_most || eqb k relation.at_least_lem then 2
+    else if eqb k relation.equal || eqb k relation.unequal || eqb k relation.less || eqb k relation.greater || eqb k relation.at_most || eqb k relation.at_least then 2
     else if eqb k operation.and || eqb k operation.or then 1
     else 0

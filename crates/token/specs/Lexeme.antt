@@ -33,7 +33,7 @@ is_built_in list = same list built_in_names
 
 abbrev pub two_byte_tokens : List Spelled
 two_byte_tokens =
-    spelled ":=" delimiter.assign ∷ spelled ".." delimiter.dots ∷ spelled "<=" relation.at_most ∷ spelled ">=" relation.at_least_lem
+    spelled ":=" delimiter.assign ∷ spelled ".." delimiter.dots ∷ spelled "<=" relation.at_most ∷ spelled ">=" relation.at_least
     ∷ spelled "!=" relation.unequal ∷ spelled "->" kind.refused ∷ spelled "+%" kind.refused ∷ spelled "-%" kind.refused ∷ []
 
 -- the kind of a spelling in a table, and `other` if it is not there

@@ -52,7 +52,7 @@ level_most : (k : ℕ) → level_of k < 5
 unfolding level_of
 level_most k =
     pick (eqb k operation.times || eqb k operation.slash || eqb k operation.percent) (eqb k operation.plus || eqb k operation.minus)
-    (eqb k relation.equal || eqb k relation.unequal || eqb k relation.less || eqb k relation.greater || eqb k relation.at_most || eqb k relation.at_least_lem) (eqb k operation.and || eqb k operation.or)
+    (eqb k relation.equal || eqb k relation.unequal || eqb k relation.less || eqb k relation.greater || eqb k relation.at_most || eqb k relation.at_least) (eqb k operation.and || eqb k operation.or)
   where
     pick : (a b c d : Bool) → (if a then 4 else if b then 3 else if c then 2 else if d then 1 else 0) < 5
     pick true b c d = omega arith
