@@ -1,6 +1,5 @@
 -- Two grids compared, without a source: where they differ, what a comparison returns, and what it leaves in the room lent for the list.
-use Rattle.std.specs.Prelude.{Bool, ◌&&◌, List, [], ◌∷◌, ◌++◌, ℕ, ◌+◌, ◌*◌, length, take, drop, eqb, leb, ℤ, pos}
-use Rattle.std.specs.Prelude.{if◌then◌else◌}
+use Rattle.std.specs.Prelude.{Bool, ◌&&◌, List, [], ◌∷◌, ◌++◌, ℕ, ◌+◌, ◌*◌, length, take, drop, eqb, leb, ℤ, pos, if◌then◌else◌}
 use Rattle.value.specs.Number.{eq_z}
 use Rattle.api_comparison.specs.declared.Comparison.{Comparison}
 

@@ -38,10 +38,10 @@ length_from : (flat : List ℕ) (k n : ℕ) → length (rows_from flat k n) ≡ 
 length_from flat k zero = refl
 length_from flat k (suc n) = ap suc (length_from flat (suc k) n)
 
-get_d_from : (flat : List ℕ) (j n k : ℕ) → k < n → get_or (rows_from flat j n) k no_name ≡ row_at flat (j + k)
-get_d_from flat j zero k l = absurd (not-suc-le-zero l)
-get_d_from flat j (suc n) zero l = ap (row_at flat) (sym (add-zero j))
-get_d_from flat j (suc n) (suc k) l = get_d_from flat (suc j) n k (le_of_suc-le-suc l) ∙ ap (row_at flat) (suc-add j k ∙ sym (add-suc j k))
+get_or_from : (flat : List ℕ) (j n k : ℕ) → k < n → get_or (rows_from flat j n) k no_name ≡ row_at flat (j + k)
+get_or_from flat j zero k l = absurd (not-suc-le-zero l)
+get_or_from flat j (suc n) zero l = ap (row_at flat) (sym (add-zero j))
+get_or_from flat j (suc n) (suc k) l = get_or_from flat (suc j) n k (le_of_suc-le-suc l) ∙ ap (row_at flat) (suc-add j k ∙ sym (add-suc j k))
 
 pub length_rows : (flat : List ℕ) → length (rows_of flat) ≡ 256
 unfolding rows_of
@@ -49,7 +49,7 @@ length_rows flat = length_from flat 0 256
 
 pub rows_at : (flat : List ℕ) (k : ℕ) → k < 256 → get_or (rows_of flat) k no_name ≡ row_at flat k
 unfolding rows_of
-rows_at flat k l = get_d_from flat 0 256 k l ∙ ap (row_at flat) (zero-add k)
+rows_at flat k l = get_or_from flat 0 256 k l ∙ ap (row_at flat) (zero-add k)
 
 -- a turn of the loop that makes them
 pub next_row : (rows₀ rows : List Name) (flat : List ℕ) (k : ℕ) (r : Name) → k < 256 → rows ≡ filled rows₀ (rows_of flat) k → r ≡ row_at flat k
@@ -69,18 +69,18 @@ past_end (n ∷ ns) zero l = absurd (not-suc-le-zero l)
 past_end (n ∷ ns) (suc k) l = past_end ns k (le_of_suc-le-suc l)
 
 -- ---- zero words are records where no name is declared
-get_d_zeros : (n k : ℕ) → ◌≡◌ {A = ℕ} (get_or (replicate n 0) k 0) 0
-get_d_zeros zero k = refl
-get_d_zeros (suc n) zero = refl
-get_d_zeros (suc n) (suc k) = get_d_zeros n k
+get_or_zeros : (n k : ℕ) → ◌≡◌ {A = ℕ} (get_or (replicate n 0) k 0) 0
+get_or_zeros zero k = refl
+get_or_zeros (suc n) zero = refl
+get_or_zeros (suc n) (suc k) = get_or_zeros n k
 
 zero_row : (n k : ℕ) → row_at (replicate n 0) k ≡ no_name
 zero_row n k =
     λ i. record {
-      start = get_d_zeros n (4 * k) i;
-      length = get_d_zeros n (4 * k + 1) i;
-      kind = get_d_zeros n (4 * k + 2) i;
-      value = decode_of (get_d_zeros n (4 * k + 3) i);
+      start = get_or_zeros n (4 * k) i;
+      length = get_or_zeros n (4 * k + 1) i;
+      kind = get_or_zeros n (4 * k + 2) i;
+      value = decode_of (get_or_zeros n (4 * k + 3) i);
     }
 
 zero_rows : (n k m : ℕ) → rows_from (replicate n 0) k m ≡ replicate m no_name

@@ -1,7 +1,6 @@
 -- The name list as a row of records: 256 records, of which each has four of the flat words.
-use Rattle.std.specs.Prelude.{◌≡◌, Bool, true, false, not, ◌&&◌, ◌||◌, List, [], ◌∷◌, ℕ, zero, suc, ◌+◌, ◌*◌, ◌<◌, ◌≤◌, eqb, pos, get_or}
+use Rattle.std.specs.Prelude.{◌≡◌, Bool, true, false, not, ◌&&◌, ◌||◌, List, [], ◌∷◌, ℕ, zero, suc, ◌+◌, ◌*◌, ◌<◌, ◌≤◌, eqb, pos, get_or, if◌then◌else◌}
 use Rattle.value.specs.Limits.{most_names}
-use Rattle.std.specs.Prelude.{if◌then◌else◌}
 use Rattle.value.specs.Worked.{encode_of, decode_of}
 use Rattle.names.specs.Names.{name_kind}
 use Rattle.api_records.specs.declared.Name.{Name}

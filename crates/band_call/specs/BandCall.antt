@@ -1,6 +1,5 @@
 -- One band's call: what is lent to it, whether it is refused, and what it leaves.
-use Rattle.std.specs.Prelude.{Bool, not, ◌&&◌, List, ℕ, ◌+◌, ◌*◌, length, get_or, drop, replicate, eqb, leb, ltb, ℤ, pos, nat_abs}
-use Rattle.std.specs.Prelude.{if◌then◌else◌}
+use Rattle.std.specs.Prelude.{Bool, not, ◌&&◌, List, ℕ, ◌+◌, ◌*◌, length, get_or, drop, replicate, eqb, leb, ltb, ℤ, pos, nat_abs, if◌then◌else◌}
 use Rattle.automaton.specs.Step.{Fault, no_fault, fault_at, Step}
 use Rattle.automaton.specs.Shape.{product, Bound}
 use Rattle.automaton.specs.Bands.{Band, rows_in, rows_with, band_step}

@@ -1,6 +1,5 @@
 -- How many border rows a band has, as a call: what it answers, and what it leaves of what is lent to it.
-use Rattle.std.specs.Prelude.{Bool, List, ℕ, eqb}
-use Rattle.std.specs.Prelude.{if◌then◌else◌}
+use Rattle.std.specs.Prelude.{Bool, List, ℕ, eqb, if◌then◌else◌}
 use Rattle.program.specs.Syntax.{Program}
 use Rattle.grammar.specs.Checking.{read_source}
 use Rattle.cell_meaning.specs.Written.{written_in}

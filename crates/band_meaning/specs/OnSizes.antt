@@ -1,6 +1,5 @@
 -- How a call begins that is lent a source and sizes: the source is read first, and then the sizes are tried.
-use Rattle.std.specs.Prelude.{List, ℕ}
-use Rattle.std.specs.Prelude.{if◌then◌else◌}
+use Rattle.std.specs.Prelude.{List, ℕ, if◌then◌else◌}
 use Rattle.program.specs.Syntax.{Program}
 use Rattle.grammar.specs.Checking.{SourceRead, by_outcome}
 use Rattle.run_meaning.specs.Admission.{good_sizes}

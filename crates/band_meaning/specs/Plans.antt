@@ -1,7 +1,6 @@
 -- Plans as they are lent, two entries a band: the plan check and the planner. Bands and the planner's plan are those of `Bands`, of the automaton.
-use Rattle.std.specs.Prelude.{Bool, false, not, List, [], ◌∷◌, ◌++◌, ℕ, ◌*◌, length, get_or, drop, eqb}
+use Rattle.std.specs.Prelude.{Bool, false, not, List, [], ◌∷◌, ◌++◌, ℕ, ◌*◌, length, get_or, drop, eqb, if◌then◌else◌}
 use Rattle.std.proofs.Math.Option.{Option, none, some}
-use Rattle.std.specs.Prelude.{if◌then◌else◌}
 use Rattle.automaton.specs.Shape.{Bound}
 use Rattle.automaton.specs.Bands.{Band, accepts, plannable, plan_of}
 use Rattle.program.specs.Syntax.{Program}

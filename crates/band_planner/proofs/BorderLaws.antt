@@ -14,7 +14,7 @@ use Rattle.value.specs.Limits.{most_places}
 use Rattle.std.specs.Prelude.{if◌then◌else◌}
 use Rattle.value.specs.Worked.{decode_of}
 use Rattle.automaton.specs.Listed.{list_of}
-use Rattle.automaton.specs.Promises.ListedLaws.{get_d_list_of}
+use Rattle.automaton.specs.Promises.ListedLaws.{get_or_list_of}
 use Rattle.automaton.specs.Shape.{Bound, box_indices}
 use Rattle.program.specs.Syntax.{range}
 use Rattle.run_meaning.specs.declared.Reach.{Reach}
@@ -46,7 +46,7 @@ first_is (d ∷ ds) = refl
 -- the first index of a place is that of its first word
 place_first : (places : List ℕ) (dims k : ℕ) → 0 < dims → first_index (place_at places dims k) ≡ decode_of (get_or places (3 * k) 0)
 place_first places dims k l =
-    first_is (place_at places dims k) ∙ get_d_list_of _ dims 0 (pos 0) l ∙ ap (λ (i : ℕ). decode_of (get_or places i 0)) (add-zero (3 * k))
+    first_is (place_at places dims k) ∙ get_or_list_of _ dims 0 (pos 0) l ∙ ap (λ (i : ℕ). decode_of (get_or places i 0)) (add-zero (3 * k))
 
 pub no_places : (places : List ℕ) (dims : ℕ) → bound 0 0 ≡ edge_of (list_of (place_at places dims) 0)
 unfolding list_of edge_of

@@ -1,7 +1,6 @@
 -- A full run under a plan of bands of rows: what is lent to it beside a run, whether it is refused, and what it leaves.
-use Rattle.std.specs.Prelude.{Bool, not, ◌&&◌, List, ℕ, ◌*◌, length, drop, replicate, eqb, ℤ, pos}
+use Rattle.std.specs.Prelude.{Bool, not, ◌&&◌, List, ℕ, ◌*◌, length, drop, replicate, eqb, ℤ, pos, if◌then◌else◌}
 use Rattle.std.proofs.Math.Option.{Option}
-use Rattle.std.specs.Prelude.{if◌then◌else◌}
 use Rattle.automaton.specs.Shape.{product}
 use Rattle.program.specs.Syntax.{Program}
 use Rattle.grammar.specs.Checking.{SourceRead, by_outcome, words_after}

@@ -1,7 +1,6 @@
 -- The next fields of one cell of an accepted program, or its first fault.
-use Rattle.std.specs.Prelude.{Bool, true, false, List, [], ◌∷◌, ◌++◌, ℕ, zero, suc, length, get_or, set, replicate, ltb, ℤ, pos, negsuc, ◌+ℤ◌}
+use Rattle.std.specs.Prelude.{Bool, true, false, List, [], ◌∷◌, ◌++◌, ℕ, zero, suc, length, get_or, set, replicate, ltb, ℤ, pos, negsuc, ◌+ℤ◌, if◌then◌else◌}
 use Rattle.std.proofs.Math.Option.{Option, none, some}
-use Rattle.std.specs.Prelude.{if◌then◌else◌}
 use Rattle.value.specs.Number.{within}
 use Rattle.value.specs.Worked.{truth, span_of}
 use Rattle.automaton.specs.Step.{Outcome, result, fault}

@@ -3,8 +3,7 @@ pub mod Operators
 pub mod Evaluation
 pub mod Written
 pub mod Places
--- Which faults an operator gives.
--- What it is for a program to stand in the word table, and what its leaf table is.
-pub mod Links
 -- The relative indices, as they stand in the word table.
+pub mod Links
+-- What it is for a program to stand in the word table, and what its leaf table is.
 pub mod Promises

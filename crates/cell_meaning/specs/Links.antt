@@ -1,6 +1,5 @@
 -- The word table as it is read after reading: past the last token every word is 0, and a link leads forward.
-use Rattle.std.specs.Prelude.{Bool, ◌||◌, List, ℕ, ◌%◌, eqb, ltb}
-use Rattle.std.specs.Prelude.{if◌then◌else◌}
+use Rattle.std.specs.Prelude.{Bool, ◌||◌, List, ℕ, ◌%◌, eqb, ltb, if◌then◌else◌}
 use Rattle.token.specs.Kind.{kind, keyword}
 use Rattle.program.specs.Table.{word_at}
 

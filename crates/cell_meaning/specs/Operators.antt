@@ -1,6 +1,5 @@
 -- What an operator gives, by its kind of token. Relations and logic give 0 or 1.
-use Rattle.std.specs.Prelude.{ℕ, eqb, ℤ}
-use Rattle.std.specs.Prelude.{if◌then◌else◌}
+use Rattle.std.specs.Prelude.{ℕ, eqb, ℤ, if◌then◌else◌}
 use Rattle.value.specs.declared.Value.{Value}
 use Rattle.value.specs.declared.Worked.{Worked}
 use Rattle.value.specs.declared.Worked.TheVariants.{Number, OutOfRange, ZeroDivisor}

@@ -1,8 +1,7 @@
 -- The places that a program can read: the index vectors that its relative indices can take, the own cell's included, each once before wrapping.
-use Rattle.std.specs.Prelude.{Bool, false, not, ◌||◌, List, [], ◌∷◌, ◌++◌, map, ℕ, length, get_or, eqb, leb, ltb, ℤ, pos, ◌+ℤ◌}
+use Rattle.std.specs.Prelude.{Bool, false, not, ◌||◌, List, [], ◌∷◌, ◌++◌, map, ℕ, length, get_or, eqb, leb, ltb, ℤ, pos, ◌+ℤ◌, if◌then◌else◌}
 use Rattle.std.proofs.Math.Option.{Option, none, some}
 use Rattle.value.specs.Limits.{most_places}
-use Rattle.std.specs.Prelude.{if◌then◌else◌}
 use Rattle.value.specs.Worked.{span_of}
 use Rattle.automaton.specs.Listed.{list_of}
 use Rattle.automaton.specs.Shape.{product, coordinates}

@@ -16,7 +16,7 @@ use Rattle.value.specs.Worked.{value, encode_of, decode_of, wrap_of}
 use Rattle.value.specs.declared.Value.{Value}
 use Rattle.value.specs.Number.{mod_z}
 use Rattle.value.proofs.Theorems.Laws.{sub_le, sub_lt}
-use Rattle.automaton.specs.Promises.ListedLaws.{length_list_of, get_d_list_of}
+use Rattle.automaton.specs.Promises.ListedLaws.{length_list_of, get_or_list_of}
 use Rattle.automaton.specs.Shape.{product, cell_number, shift}
 use Rattle.automaton.specs.Promises.ShapeLaws.{Inside, Positive, Alike}
 use Rattle.automaton.proofs.ShapeLaws.{inside_length, product_pos, number_lt, shift_inside}
@@ -85,7 +85,7 @@ front_past zs d k l = ap value (sym (get_or-eq_default (take d zs) (pos 0) (omeg
 -- the fields of a cell
 pub field_entry : (grid : List ℤ) (cell fields f : ℕ) → f < fields → entry (cell_of fields grid cell) f ≡ entry grid (cell * fields + f)
 unfolding cell_of
-field_entry grid cell fields f l = get_d_list_of (λ k. get_or grid (cell * fields + k) (pos 0)) fields f (pos 0) l
+field_entry grid cell fields f l = get_or_list_of (λ k. get_or grid (cell * fields + k) (pos 0)) fields f (pos 0) l
 
 pub field_past : (grid : List ℤ) (cell fields f : ℕ) → fields ≤ f → value (pos 0) ≡ value (entry (cell_of fields grid cell) f)
 unfolding cell_of

@@ -16,7 +16,7 @@ use Rattle.value.specs.Number.{within}
 use Rattle.value.specs.Worked.{value, truth, decode_of}
 use Rattle.value.specs.declared.Value.{Value}
 use Rattle.automaton.specs.Step.{Outcome, result}
-use Rattle.automaton.specs.Promises.ListedLaws.{length_list_of, get_d_list_of}
+use Rattle.automaton.specs.Promises.ListedLaws.{length_list_of, get_or_list_of}
 use Rattle.program.specs.Syntax.{Range, no_range, Expr, Target, Clause}
 use Rattle.cell_meaning.specs.Evaluation.{Env, bind, eval, Frame, frame, in_field, store, met, assign_first}
 use Rattle.cell_meaning.specs.Promises.Stands.{range_in, ranges_in, ExprAt, target_in, first_clause, GuardAt, ClausesAt}
@@ -60,7 +60,7 @@ front_same d l i z h = sym (set_out (take d l) i z (omega (arith, length-take d 
 -- ---- the range of a field
 
 pub range_known : (t : Table) (base n f : ℕ) → f < n → get_or (ranges_in t base n) f no_range ≡ range_in t (base + f)
-range_known t base n f l = get_d_list_of (λ k. range_in t (base + k)) n f no_range l
+range_known t base n f l = get_or_list_of (λ k. range_in t (base + k)) n f no_range l
 
 pub range_none : (t : Table) (base n f : ℕ) → n ≤ f → get_or (ranges_in t base n) f no_range ≡ no_range
 range_none t base n f l = get_or-eq_default (ranges_in t base n) no_range (omega (arith, length_list_of (λ k. range_in t (base + k)) n))
@@ -117,7 +117,7 @@ module _ (t : Table) (env : Env) (vs : List ℤ) (here : ℕ) (vars : List ℤ) 
       go none x = refl
       go (some e) x = absurd (x.1 (sym ew ∙ h))
 
-  module _ (some-there : w ≡ 0 → ⊥) {n l : ℕ} (el : l ≡ t.inner here) {told : Told} (ev : EvalsExpression t env vars vs n l 1 told) where
+  module _ (some_there : w ≡ 0 → ⊥) {n l : ℕ} (el : l ≡ t.inner here) {told : Told} (ev : EvalsExpression t env vars vs n l 1 told) where
     said : (e : Expr) (m : ℕ) → ExprAt t e (t.inner here) m → told ≡ told_of (eval env vars vs e) m
     said e m x = answer ev (subst (λ (i : ℕ). ExprAt t e i m) (sym el) x)
 
@@ -125,12 +125,12 @@ module _ (t : Table) (env : Env) (vs : List ℤ) (here : ℕ) (vars : List ℤ) 
     guard_fault {k} {p} h = record { says = go; asked = λ e. let z : ◌≡◌ {A = ℕ} 0 1 = cc in absurd (omega arith) }
       where
         go : (o : Option Expr) → ConditionAt t o here → met env vars vs o ≡ guarded (Said.Faulted k p)
-        go none x = absurd (some-there (ew ∙ x))
+        go none x = absurd (some_there (ew ∙ x))
         go (some e) x = rw (fault_of (eval env vars vs e) x.0 (sym h ∙ said e x.0 x.2)) refl
 
     module _ {v : Value} {m : ℕ} (h : told ≡ Found v m) {b : Bool} (eb : b ≡ truth v.n) where
       decided : (o : Option Expr) → ConditionAt t o here → met env vars vs o ≡ result b
-      decided none x = absurd (some-there (ew ∙ x))
+      decided none x = absurd (some_there (ew ∙ x))
       decided (some e) x = rw ((result_of (eval env vars vs e) x.0 (sym h ∙ said e x.0 x.2)).0, ← eb) refl
 
       pub guard_holds : b ≡ true → Guards t env vs here vars Said.Holds
@@ -142,7 +142,7 @@ module _ (t : Table) (env : Env) (vs : List ℤ) (here : ℕ) (vars : List ℤ) 
       pub guard_fails : b ≡ false → Guards t env vs here vars Said.Fails
       guard_fails y = record {
         says = λ o x. decided o x ∙ ap result y;
-        asked = λ e u. some-there (ew ∙ u);
+        asked = λ e u. some_there (ew ∙ u);
       }
 
 -- ---- the clauses of an assignment

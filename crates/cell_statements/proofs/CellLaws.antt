@@ -60,11 +60,11 @@ module _ {leaves words : List ℕ} {rule : Rule} {sizes point : List ℕ} {cell 
   look ds = cell_of rule.fields grid (neighbour sizes cell ds)
 
   -- where a run of the statements begins
-  module _ {vs next ix vs' next' ix' : List ℤ} {r : Going} (zero-vars : vs ≡ replicate rule.slots (pos 0)) (old : next ≡ cell_of fields grid cell)
+  module _ {vs next ix vs' next' ix' : List ℤ} {r : Going} (zero_vars : vs ≡ replicate rule.slots (pos 0)) (old : next ≡ cell_of fields grid cell)
       (run : RunsBlock (site_table words sizes site) (env_of words sizes grid site) 0 rule.body vs next ix vs' next' ix' r) where
     start_is : (p : Program) → Holds words rule p → frame false vs next ≡ frame false (replicate p.slots (pos 0)) (look (offsets p.dims [] []))
     start_is p h =
-        ap₂ (λ (a b : List ℤ). frame false a b) (zero-vars ∙ ap (λ (n : ℕ). replicate n (pos 0)) (sym h.slots))
+        ap₂ (λ (a b : List ℤ). frame false a b) (zero_vars ∙ ap (λ (n : ℕ). replicate n (pos 0)) (sym h.slots))
         (old ∙ ap₂ (λ (n c : ℕ). cell_of n grid c) (sym fit.lent) (sym (own_is (ready fit) [])) ∙ ap (λ (n : ℕ). look (offsets n [] [])) (fit.shaped.dims ∙ sym h.dims))
 
     env_is : (p : Program) → Holds words rule p → env_of words sizes grid site ≡ record { dims = p.dims; fields = p.fields; time = time; look = look }

@@ -159,11 +159,11 @@ module _ (t : Table) (env : Env) (vs : List ℤ) (depth n at : ℕ) (vars : List
 
         pub choice_end : (k ≡ 7 → ⊥) → (k ≡ 8 → ⊥) → Chooses t env vs depth n at vars Went.Nothing
         unfolding exec
-        choice_end not-else not-elsif =
+        choice_end not_else not_elsif =
             by_arm tt
             (λ c d e x next.
             decided y c d e x next
-            ∙ ap (λ (q : Block). exec env vs q (frame false vars next)) (x.rest.AtEnd (λ u. not-else (there ∙ u)) (λ u. not-elsif (there ∙ u))))
+            ∙ ap (λ (q : Block). exec env vs q (frame false vars next)) (x.rest.AtEnd (λ u. not_else (there ∙ u)) (λ u. not_elsif (there ∙ u))))
 
         pub arms_more : k ≡ 8 → arm < o → o < n → Arms o
         unfolding Elsif exec

@@ -1,7 +1,6 @@
 -- Whether a row of records has room, and how many records are stored in it.
-use Rattle.std.specs.Prelude.{Bool, not, ◌&&◌, List, ℕ, eqb, ltb}
+use Rattle.std.specs.Prelude.{Bool, not, ◌&&◌, List, ℕ, eqb, ltb, if◌then◌else◌}
 use Rattle.value.specs.Limits.{most_bytes, table_words, most_names}
-use Rattle.std.specs.Prelude.{if◌then◌else◌}
 use Rattle.token.specs.Lexeme.{is_built_in}
 use Rattle.cellang.specs.Left.{rows_fit}
 

@@ -1,6 +1,5 @@
 -- The line that the program writes for a checked source: `accepted`, or for example `refused 8 at 26`, and a line feed.
-use Rattle.std.specs.Prelude.{List, ◌++◌, ℕ, eqb}
-use Rattle.std.specs.Prelude.{if◌then◌else◌}
+use Rattle.std.specs.Prelude.{List, ◌++◌, ℕ, eqb, if◌then◌else◌}
 use Rattle.token.specs.Bytes.{as_bytes}
 use Rattle.program.specs.Refusal.{Refusal}
 use Rattle.grammar.specs.Decimal.{digits_of}

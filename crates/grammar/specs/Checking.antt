@@ -1,7 +1,6 @@
 -- What checking a source gives, and what the lent memory holds afterwards.
-use Rattle.std.specs.Prelude.{Bool, not, ◌&&◌, List, ℕ, length, replicate, eqb, ltb}
+use Rattle.std.specs.Prelude.{Bool, not, ◌&&◌, List, ℕ, length, replicate, eqb, ltb, if◌then◌else◌}
 use Rattle.value.specs.Limits.{most_bytes, table_words, name_words}
-use Rattle.std.specs.Prelude.{if◌then◌else◌}
 use Rattle.program.specs.Refusal.{Refusal, refusal, no_refusal}
 use Rattle.grammar.specs.Reader.{Result, ok, fail}
 use Rattle.grammar.specs.Source.{Accepted, parse}

@@ -1,7 +1,6 @@
 -- Constants, ranges and constant declarations.
-use Rattle.std.specs.Prelude.{Bool, true, false, ◌||◌, ℕ, ◌+◌, eqb, leb, ℤ, pos}
+use Rattle.std.specs.Prelude.{Bool, true, false, ◌||◌, ℕ, ◌+◌, eqb, leb, ℤ, pos, if◌then◌else◌}
 use Rattle.value.specs.Limits.{most_elements}
-use Rattle.std.specs.Prelude.{if◌then◌else◌}
 use Rattle.value.specs.Number.{within}
 use Rattle.value.specs.Worked.{decode_of, encode_of, opposite_of, span_of}
 use Rattle.token.specs.declared.Token.{Token}

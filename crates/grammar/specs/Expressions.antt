@@ -1,6 +1,5 @@
 -- Expressions. The levels of operators, the loosest first: 1 `&` and `|`, 2 the relations, 3 binary `+` and `-`, 4 `*`, `/` and `%`.
-use Rattle.std.specs.Prelude.{Bool, true, false, not, ◌&&◌, ◌||◌, List, [], ◌∷◌, ◌++◌, ℕ, zero, suc, ◌+◌, length, eqb, ltb, ℤ}
-use Rattle.std.specs.Prelude.{if◌then◌else◌}
+use Rattle.std.specs.Prelude.{Bool, true, false, not, ◌&&◌, ◌||◌, List, [], ◌∷◌, ◌++◌, ℕ, zero, suc, ◌+◌, length, eqb, ltb, ℤ, if◌then◌else◌}
 use Rattle.value.specs.Worked.{decode_of, encode_of}
 use Rattle.token.specs.declared.Token.{Token}
 use Rattle.token.specs.Kind.{kind, operation, delimiter, level_of}

@@ -1,6 +1,5 @@
 -- How the reply is chosen among refusals: the smallest place wins, then the lowest number; but 40 to 45 go behind 9 and before 12.
-use Rattle.std.specs.Prelude.{Bool, ◌&&◌, ◌||◌, ℕ, ◌+◌, ◌*◌, eqb, leb, ltb}
-use Rattle.std.specs.Prelude.{if◌then◌else◌}
+use Rattle.std.specs.Prelude.{Bool, ◌&&◌, ◌||◌, ℕ, ◌+◌, ◌*◌, eqb, leb, ltb, if◌then◌else◌}
 use Rattle.program.specs.Refusal.{Refusal, refusal}
 use Rattle.token.specs.declared.Token.{Token}
 use Rattle.token.specs.Kind.{kind}

@@ -3,10 +3,9 @@
 -- Nearly every rule refuses the token that reading stands at, so that the first refusal met is the reply. Two rules speak of the
 -- token after something (an array constant without `[`, and too few values of an array): their refusal is noted and reading goes on;
 -- what is refused at that very token with a lower number goes before it.
-use Rattle.std.specs.Prelude.{Bool, false, not, ◌||◌, List, ℕ, zero, suc, ◌+◌, ◌-◌, eqb, leb}
+use Rattle.std.specs.Prelude.{Bool, false, not, ◌||◌, List, ℕ, zero, suc, ◌+◌, ◌-◌, eqb, leb, if◌then◌else◌}
 use Rattle.std.proofs.Math.Option.{Option, none, some}
 use Rattle.value.specs.Limits.{most_names}
-use Rattle.std.specs.Prelude.{if◌then◌else◌}
 use Rattle.token.specs.declared.Token.{Token}
 use Rattle.token.specs.declared.Scan.{Scan}
 use Rattle.token.specs.Kind.{kind}

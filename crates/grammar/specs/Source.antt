@@ -1,7 +1,6 @@
 -- The whole source: constants, one cell declaration, statements.
-use Rattle.std.specs.Prelude.{Bool, true, false, not, ◌&&◌, ◌||◌, List, [], ◌++◌, ℕ, zero, suc, ◌+◌, ◌-◌, length, replicate, eqb, leb, ltb, ℤ, pos}
+use Rattle.std.specs.Prelude.{Bool, true, false, not, ◌&&◌, ◌||◌, List, [], ◌++◌, ℕ, zero, suc, ◌+◌, ◌-◌, length, replicate, eqb, leb, ltb, ℤ, pos, if◌then◌else◌}
 use Rattle.value.specs.Limits.{name_words, most_open, most_dims, most_fields}
-use Rattle.std.specs.Prelude.{if◌then◌else◌}
 use Rattle.value.specs.Number.{within}
 use Rattle.value.specs.Worked.{encode_of}
 use Rattle.token.specs.declared.Token.{Token}

@@ -1,8 +1,7 @@
 -- Statements.
-use Rattle.std.specs.Prelude.{Bool, true, false, ◌&&◌, List, [], ◌∷◌, ◌++◌, ℕ, zero, suc, ◌+◌, length, eqb, ltb}
+use Rattle.std.specs.Prelude.{Bool, true, false, ◌&&◌, List, [], ◌∷◌, ◌++◌, ℕ, zero, suc, ◌+◌, length, eqb, ltb, if◌then◌else◌}
 use Rattle.std.proofs.Math.Option.{Option, none, some}
 use Rattle.value.specs.Limits.{most_turns}
-use Rattle.std.specs.Prelude.{if◌then◌else◌}
 use Rattle.value.specs.Worked.{encode_of}
 use Rattle.token.specs.declared.Token.{Token}
 use Rattle.token.specs.Kind.{kind, keyword, delimiter}

@@ -1,9 +1,8 @@
 -- A text walked line by line and a line token by token, from a position on: what a loop over them says of the definitions.
-use Rattle.std.specs.Prelude.{ℕ, zero, suc, ◌+◌, ◌*◌, ◌<◌, ◌≡◌, refl, Bool, true, false, not, ◌&&◌, ◌||◌, List, [], ◌∷◌, map, length, get_or, take, drop, ℤ, eqb, ltb}
+use Rattle.std.specs.Prelude.{ℕ, zero, suc, ◌+◌, ◌*◌, ◌<◌, ◌≡◌, refl, Bool, true, false, not, ◌&&◌, ◌||◌, List, [], ◌∷◌, map, length, get_or, take, drop, ℤ, eqb, ltb, if◌then◌else◌}
 use Rattle.std.proofs.Common.{add-zero, zero-add, add_assoc, add-mul, mul_assoc, mul-one, arith, sym, ap, ap₂, ◌∙◌, ne_eqb, eq-eqb, eqb-true, lt-ltb}
 use Rattle.std.proofs.Math.Option.{Option, some, none}
 use Rattle.std.proofs.Math.Dec.{eqb-suc-suc, leb-suc-suc}
-use Rattle.std.specs.Prelude.{if◌then◌else◌}
 use Rattle.automaton.specs.Shape as shape
 use Rattle.automaton.specs.Shape.{product}
 use Rattle.token.specs.Bytes.{byte_kind, kind_of}

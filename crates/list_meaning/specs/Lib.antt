@@ -1,4 +1,4 @@
--- Timed value lists. Read in this order; Printing and what follows are theorems.
+-- Timed value lists. Read in this order.
 pub mod Text
 pub mod Lines
 pub mod ListChecking

@@ -3,9 +3,8 @@
 --     time       →  literal
 --     cell       →  [ literal { , literal } ] = value { , value }
 --     value      →  literal | + literal | - literal | (missing)
-use Rattle.std.specs.Prelude.{Bool, ◌||◌, List, [], ◌∷◌, map, ℕ, eqb, ℤ, pos, neg_ℤ}
+use Rattle.std.specs.Prelude.{Bool, ◌||◌, List, [], ◌∷◌, map, ℕ, eqb, ℤ, pos, neg_ℤ, if◌then◌else◌}
 use Rattle.std.proofs.Math.Option.{Option, some, none}
-use Rattle.std.specs.Prelude.{if◌then◌else◌}
 use Rattle.token.specs.Kind.{relation, operation, delimiter}
 use Rattle.list_meaning.specs.Text.{Line, lines, Piece, literal, sign, pieces}
 

@@ -1,7 +1,6 @@
 -- The check of a value list: replies 50 to 56 and 58, each with its line.
-use Rattle.std.specs.Prelude.{Bool, true, false, not, ◌&&◌, List, [], ◌∷◌, ℕ, suc, ◌+◌, length, get_or, eqb, ltb, ℤ, pos, nat_abs}
+use Rattle.std.specs.Prelude.{Bool, true, false, not, ◌&&◌, List, [], ◌∷◌, ℕ, suc, ◌+◌, length, get_or, eqb, ltb, ℤ, pos, nat_abs, if◌then◌else◌}
 use Rattle.std.proofs.Math.Option.{Option, some, none}
-use Rattle.std.specs.Prelude.{if◌then◌else◌}
 use Rattle.value.specs.Number.{eq_z}
 use Rattle.program.specs.Syntax.{Range, Program}
 use Rattle.cell_meaning.specs.Evaluation.{in_field}

@@ -1,7 +1,6 @@
 -- The text of a value list: its lines, and the tokens of a line. Bytes, separators, literals and line ends are those of a source.
-use Rattle.std.specs.Prelude.{Bool, true, false, not, List, [], ◌∷◌, ℕ, zero, suc, ◌-◌, eqb}
+use Rattle.std.specs.Prelude.{Bool, true, false, not, List, [], ◌∷◌, ℕ, zero, suc, ◌-◌, eqb, if◌then◌else◌}
 use Rattle.std.proofs.Math.Option.{Option, some, none}
-use Rattle.std.specs.Prelude.{if◌then◌else◌}
 use Rattle.token.specs.Bytes.{byte_kind, kind_of}
 use Rattle.token.specs.Kind.{kind}
 use Rattle.token.specs.Lexeme.{Lexeme, in_literal, extent, digits}

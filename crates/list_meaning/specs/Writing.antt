@@ -1,7 +1,6 @@
 -- The writer: the text that leads from one grid to another at a time.
-use Rattle.std.specs.Prelude.{Bool, true, false, List, [], ◌∷◌, ◌++◌, map, ℕ, zero, suc, length, drop, eqb, ltb, ℤ, pos, negsuc, nat_abs}
+use Rattle.std.specs.Prelude.{Bool, true, false, List, [], ◌∷◌, ◌++◌, map, ℕ, zero, suc, length, drop, eqb, ltb, ℤ, pos, negsuc, nat_abs, if◌then◌else◌}
 use Rattle.std.proofs.Math.Option.{Option, some, none}
-use Rattle.std.specs.Prelude.{if◌then◌else◌}
 use Rattle.value.specs.Number.{eq_z}
 use Rattle.automaton.specs.Shape.{product, coordinates}
 use Rattle.automaton.specs.Grid.{cell_of, differ}

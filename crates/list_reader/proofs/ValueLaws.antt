@@ -16,7 +16,7 @@ use Rattle.value.specs.Number.{within, eq_z}
 use Rattle.value.proofs.Theorems.Laws.{never}
 use Rattle.value.specs.Worked.{value, decode_of}
 use Rattle.value.specs.declared.Value.{Value}
-use Rattle.automaton.specs.Promises.ListedLaws.{length_list_of, get_d_list_of}
+use Rattle.automaton.specs.Promises.ListedLaws.{length_list_of, get_or_list_of}
 use Rattle.program.specs.Syntax.{Range, no_range}
 use Rattle.program.specs.declared.Rule.{Rule}
 use Rattle.cell_meaning.specs.Evaluation.{in_field}
@@ -250,7 +250,7 @@ pub field_known : (words : List ℕ) (rule : Rule) (f : ℕ) (v : Value) {a b : 
 unfolding fields_in
 field_known words rule f v l ea el eb eh er =
     er ∙ ap₂ (λ (x y : Value). within x.n y.n v.n) (el ∙ ap (λ (i : ℕ). value (decode_of i)) ea) (eh ∙ ap (λ (i : ℕ). value (decode_of i)) eb)
-    ∙ sym (ap (λ (x : Range). in_field x v.n) (get_d_list_of (λ k. range_in (rule_table words rule) (rule.base + k)) rule.fields f no_range l))
+    ∙ sym (ap (λ (x : Range). in_field x v.n) (get_or_list_of (λ k. range_in (rule_table words rule) (rule.base + k)) rule.fields f no_range l))
 
 pub fields_length : (words : List ℕ) (rule : Rule) → length (fields_in words rule) ≡ rule.fields
 unfolding fields_in

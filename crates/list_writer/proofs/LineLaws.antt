@@ -12,7 +12,7 @@ use lib.Seq.{length-take-le, ext_get_or, get_or-take, get_or-drop}
 use lib.IntN.{ℤ, pos}
 use borrow.Author.Tests.{not-true, not-false}
 use Rattle.automaton.specs.Listed.{list_of}
-use Rattle.automaton.specs.Promises.ListedLaws.{length_list_of, get_d_list_of}
+use Rattle.automaton.specs.Promises.ListedLaws.{length_list_of, get_or_list_of}
 use Rattle.automaton.specs.Shape.{product, coordinates}
 use Rattle.automaton.proofs.ShapeLaws.{inside_length, coordinates_inside}
 use Rattle.automaton.specs.Grid.{cell_of, differ}
@@ -68,7 +68,7 @@ cell_part fields g c l =
     size = length-take-le fields (drop (c * fields) g) (omega (arith, length-drop (c * fields) g))
 
     at : (k : ℕ) → k < fields → get_or (take fields (drop (c * fields) g)) k (pos 0) ≡ get_or (list_of (λ j. get_or g (c * fields + j) (pos 0)) fields) k (pos 0)
-    at k h = get_or-take fields (drop (c * fields) g) k (pos 0) h ∙ get_or-drop (c * fields) g k (pos 0) ∙ sym (get_d_list_of _ fields k (pos 0) h)
+    at k h = get_or-take fields (drop (c * fields) g) k (pos 0) h ∙ get_or-drop (c * fields) g k (pos 0) ∙ sym (get_or_list_of _ fields k (pos 0) h)
 
 module _ {sizes : List ℕ} {fields : ℕ} {earlier later : List ℤ} (w : Grids sizes fields earlier later) {c : ℕ} (l : c < product sizes) where
   pub changed_within : (c * fields + fields ≤ length earlier) × (length earlier ≤ 8388608) × (length later ≡ length earlier)

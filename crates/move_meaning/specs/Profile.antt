@@ -1,8 +1,7 @@
 -- The profile of sources that move a pixel once: its three rules, and the first that a source misses.
-use Rattle.std.specs.Prelude.{Bool, true, ◌&&◌, ◌||◌, List, [], ◌∷◌, ℕ, zero, suc, ◌+◌, ◌/◌, length, get_or, eqb, pos}
+use Rattle.std.specs.Prelude.{Bool, true, ◌&&◌, ◌||◌, List, [], ◌∷◌, ℕ, zero, suc, ◌+◌, ◌/◌, length, get_or, eqb, pos, if◌then◌else◌}
 use Rattle.std.proofs.Math.Option.{Option, none, some}
 use Rattle.value.specs.Limits.{most_names}
-use Rattle.std.specs.Prelude.{if◌then◌else◌}
 use Rattle.value.specs.Number.{eq_z}
 use Rattle.token.specs.Bytes.{as_bytes}
 use Rattle.token.specs.Kind.{kind, keyword, relation, delimiter}

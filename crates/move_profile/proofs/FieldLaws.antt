@@ -16,7 +16,7 @@ use Rattle.value.specs.declared.Value.{Value}
 use Rattle.std.specs.Prelude.{if◌then◌else◌}
 use Rattle.value.specs.Worked.{value, decode_of}
 use Rattle.value.proofs.Tests.{eq_bits, zero_yes, zero_no}
-use Rattle.automaton.specs.Promises.ListedLaws.{length_list_of, get_d_list_of}
+use Rattle.automaton.specs.Promises.ListedLaws.{length_list_of, get_or_list_of}
 use Rattle.token.specs.Bytes.{as_bytes, fold, same}
 use Rattle.names.specs.declared.Entry.{Entry}
 use Rattle.names.specs.declared.Found.{Found}
@@ -222,7 +222,7 @@ module _ (source words names : List ℕ) (rule : Rule) {found : Found} (m : Move
 
       module _ (l : e.word < rule.fields) {t : Bool} (p : IsFlag words rule.tokens (rule.base + e.word) t) where
         here : get_or (ranges_in (rule_table words rule) rule.base rule.fields) e.word no_range ≡ range_in (rule_table words rule) (rule.base + e.word)
-        here = get_d_list_of _ rule.fields e.word no_range l
+        here = get_or_list_of _ rule.fields e.word no_range l
 
         pub field_other : t ≡ false → FlagField source words names rule rule.fields
         field_other d = tested _ here (rw (← p.is rule.dims, d) refl)

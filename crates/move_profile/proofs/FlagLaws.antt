@@ -168,12 +168,12 @@ module _ {source ws ns : List ℕ} {known : Bool} {rule : Rule} {n place : ℕ} 
     pub told_missed : {r : ℕ} → RuleMissed source ws' ns' rule r → CheckOneMove (rooms_fit (length ws) (length ns)) source ws ns (profile r 0 0) ws' ns'
     unfolding one_move
     told_missed {r} m =
-        let Known-so = not-false known sure in
-        let t = (loaded.given Known-so).0 in
-        let e = loaded.reads Known-so t in
+        let known_so = not-false known sure in
+        let t = (loaded.given known_so).0 in
+        let e = loaded.reads known_so t in
         record {
           answer =
-              ap (λ (x : ℕ). missed x 0 0) (m.is (accepted_by t) (stood checked loaded Known-so (accepted_by t) e))
+              ap (λ (x : ℕ). missed x 0 0) (m.is (accepted_by t) (stood checked loaded known_so (accepted_by t) e))
               ∙ ap (answer_of source) (sym e);
           words = checked.words;
           names = checked.names;

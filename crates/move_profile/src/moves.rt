@@ -1,7 +1,6 @@
 // Rule 3: the statement, off the word table.
-ghost use Rattle.std.specs.Prelude.{◌≡◌, ◌&&◌, ◌*◌, ◌/◌, ◌≤◌, eqb, length};
+ghost use Rattle.std.specs.Prelude.{◌≡◌, ◌&&◌, ◌*◌, ◌/◌, ◌≤◌, eqb, length, if◌then◌else◌};
 ghost use Rattle.value.specs.Limits.{most_tokens};
-ghost use Rattle.std.specs.Prelude.{if◌then◌else◌};
 ghost use Rattle.token.specs.Kind.{keyword};
 ghost use Rattle.cell_meaning.specs.Links.{word_in};
 ghost use Rattle.move_profile.specs.Promises.Moves.{KindsAt, OpensAt, ClosesAt, PastConstants, LastStatement, DecidesMove};

@@ -3,9 +3,8 @@
 --
 -- While a source is read, the value of a variable is its number among the variables, that of an index its loop's depth, and that of an
 -- array constant the position of its declaring name: what the word table notes where the name is used.
-use Rattle.std.specs.Prelude.{Bool, not, ◌&&◌, ◌||◌, List, [], ◌∷◌, ◌++◌, ℕ, zero, suc, ◌+◌, ◌*◌, get_or, set, take, drop, replicate, eqb}
+use Rattle.std.specs.Prelude.{Bool, not, ◌&&◌, ◌||◌, List, [], ◌∷◌, ◌++◌, ℕ, zero, suc, ◌+◌, ◌*◌, get_or, set, take, drop, replicate, eqb, if◌then◌else◌}
 use Rattle.std.proofs.Math.Option.{Option, none, some}
-use Rattle.std.specs.Prelude.{if◌then◌else◌}
 use Rattle.token.specs.Bytes.{fold, same}
 use Rattle.names.specs.declared.Entry.{Entry}
 

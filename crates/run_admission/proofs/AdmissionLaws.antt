@@ -15,7 +15,7 @@ use mir.Facts.{to_z-of_z}
 use borrow.Author.Tests.{eq-eqb, ne_eqb, ltb-false}
 use Rattle.value.specs.Limits.{most_cells}
 use Rattle.std.specs.Prelude.{if◌then◌else◌}
-use Rattle.automaton.specs.Promises.ListedLaws.{get_d_list_of}
+use Rattle.automaton.specs.Promises.ListedLaws.{get_or_list_of}
 use Rattle.automaton.proofs.Theorems.Quiet.{or_false}
 use Rattle.automaton.specs.Shape.{Bound}
 use Rattle.automaton.specs.Promises.ShapeLaws.{Shaped}
@@ -121,7 +121,7 @@ none_within (m ∷ sizes) (suc n) (suc k) = none_within sizes n k
 pub near_of : (sizes : List ℕ) (r : Bounds) (dims : ℕ) (ws : List Written) → length sizes ≡ dims → (too_far sizes ws).number ≡ 0 → bounds_of r dims ≡ widened (replicate dims own_only) ws → Near sizes r
 near_of sizes r dims ws e z b k l =
     let w = widened_within sizes ws (replicate dims own_only) z (none_within sizes dims) k in
-    let same : bound_at r k ≡ get_or (widened (replicate dims own_only) ws) k own_only = sym (get_d_list_of (bound_at r) dims k own_only (omega arith)) ∙ ap (λ (bs : List Bound). get_or bs k own_only) b in
+    let same : bound_at r k ≡ get_or (widened (replicate dims own_only) ws) k own_only = sym (get_or_list_of (bound_at r) dims k own_only (omega arith)) ∙ ap (λ (bs : List Bound). get_or bs k own_only) b in
     rw same w
 
 -- ---- the ways through

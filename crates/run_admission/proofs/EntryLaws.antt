@@ -12,7 +12,7 @@ use lib.IntN.{ℤ, pos}
 use Rattle.value.specs.Number.{within}
 use Rattle.value.specs.Worked.{value, decode_of}
 use Rattle.value.specs.declared.Value.{Value}
-use Rattle.automaton.specs.Promises.ListedLaws.{length_list_of, get_d_list_of}
+use Rattle.automaton.specs.Promises.ListedLaws.{length_list_of, get_or_list_of}
 use Rattle.program.specs.Syntax.{Range, no_range}
 use Rattle.cell_meaning.specs.Evaluation.{in_field}
 use Rattle.cell_meaning.specs.Promises.Stands.{range_in, ranges_in, rule_table}
@@ -39,7 +39,7 @@ module _ (t : Table) (base n f : ℕ) (z : ℤ) where
   fits_known {low = low} {high = high} l ea el eb eh ev er =
       er ∙ ap (λ (x : Value). within low.n high.n x.n) ev
       ∙ ap₂ (λ (x y : Value). within x.n y.n z) (el ∙ ap (λ (i : ℕ). value (decode_of i)) ea) (eh ∙ ap (λ (i : ℕ). value (decode_of i)) eb)
-      ∙ sym (ap (λ (x : Range). in_field x z) (get_d_list_of (λ k. range_in t (base + k)) n f no_range l))
+      ∙ sym (ap (λ (x : Range). in_field x z) (get_or_list_of (λ k. range_in t (base + k)) n f no_range l))
 
 module _ (fields : List Range) (grid : List ℤ) (e : ℕ) where
   past : e ≡ length grid → out_of_field fields e (drop e grid) ≡ refusal 0 0

@@ -300,9 +300,9 @@ module _ (rule : Rule) (sizes : List ℕ) (entries scratch marks : ℕ) (start s
     unfolding sizes_of
     refuse_cells z = refuse_sizes (rw (eq-eqb (length sizes) rule.dims ed) (no_cells sizes (sym en ∙ z)))
 
-    module _ (some-there : n ≡ 0 → ⊥) {b : Bool} (eb : b ≡ rooms_of n rule.fields entries scratch marks) where
+    module _ (some_there : n ≡ 0 → ⊥) {b : Bool} (eb : b ≡ rooms_of n rule.fields entries scratch marks) where
       right : (all_between 1 4096 sizes ≡ true) × (product sizes ≤ 1048576)
-      right = some_cells sizes (λ z. some-there (en ∙ z))
+      right = some_cells sizes (λ z. some_there (en ∙ z))
 
       right_sizes : sizes_of rule.dims sizes ≡ true
       unfolding sizes_of

@@ -1,7 +1,6 @@
 -- A run of a program: what is asked of it, whether it is admitted, and its report.
-use Rattle.std.specs.Prelude.{Bool, true, false, not, ◌&&◌, List, ℕ, length, get_or, eqb, ltb, ℤ, nat_abs}
+use Rattle.std.specs.Prelude.{Bool, true, false, not, ◌&&◌, List, ℕ, length, get_or, eqb, ltb, ℤ, nat_abs, if◌then◌else◌}
 use Rattle.std.proofs.Math.Option.{Option, some, none}
-use Rattle.std.specs.Prelude.{if◌then◌else◌}
 use Rattle.automaton.specs.Step.{Blocks, quiet_run}
 use Rattle.program.specs.Syntax.{Program}
 use Rattle.run_meaning.specs.Reach.{running}

@@ -1,7 +1,6 @@
 -- Running a source on a grid: what it gives, and what the lent memory holds afterwards.
-use Rattle.std.specs.Prelude.{Bool, false, List, ℕ, length, replicate, eqb}
+use Rattle.std.specs.Prelude.{Bool, false, List, ℕ, length, replicate, eqb, if◌then◌else◌}
 use Rattle.std.proofs.Math.Option.{Option, some, none}
-use Rattle.std.specs.Prelude.{if◌then◌else◌}
 use Rattle.automaton.specs.Rows.{row_counts}
 use Rattle.grammar.specs.Source.{Accepted}
 use Rattle.grammar.specs.Checking.{SourceRead, by_outcome, read_source}

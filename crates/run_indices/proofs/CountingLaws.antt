@@ -11,7 +11,7 @@ use lib.Seq.{get_or-set_same, get_or-set_other, ext_get_or}
 use borrow.Author.Tests.{lt-ltb, le-ltb, eq-eqb, ne_eqb, eqb-true, eqb-false}
 use Rattle.std.specs.Prelude.{if◌then◌else◌}
 use Rattle.value.specs.Worked.{decode_of}
-use Rattle.automaton.specs.Promises.ListedLaws.{length_list_of, get_d_list_of}
+use Rattle.automaton.specs.Promises.ListedLaws.{length_list_of, get_or_list_of}
 use Rattle.automaton.specs.Shape.{Bound}
 use Rattle.program.specs.Syntax.{Range}
 use Rattle.run_meaning.specs.declared.Bounds.{Bounds}
@@ -132,10 +132,10 @@ counts_tallied sizes dims {s} {r} {place} {dim} {low} {high} {v} c l m e =
     at : (k : ℕ) → k < dims → (b : Bool) → eqb k dim ≡ b → get_or (bounds_of r.bounds dims) k own_only ≡ get_or new k own_only
     at k n true q =
         let i = eqb-true k dim q in
-        get_d_list_of (bound_at r.bounds) dims k own_only n ∙ ap (bound_at r.bounds) i ∙ c.here
-        ∙ ap₂ widen (sym (get_d_list_of (bound_at s.bounds) dims dim own_only l)) e
+        get_or_list_of (bound_at r.bounds) dims k own_only n ∙ ap (bound_at r.bounds) i ∙ c.here
+        ∙ ap₂ widen (sym (get_or_list_of (bound_at s.bounds) dims dim own_only l)) e
         ∙ sym (ap (λ (j : ℕ). get_or new j own_only) i ∙ get_or-set_same old dim _ own_only (omega (arith, length_list_of (bound_at s.bounds) dims)))
     at k n false q =
         let d = eqb-false k dim q in
-        get_d_list_of (bound_at r.bounds) dims k own_only n ∙ c.others k (omega arith) d
-        ∙ sym (get_or-set_other old dim k _ own_only d ∙ get_d_list_of (bound_at s.bounds) dims k own_only n)
+        get_or_list_of (bound_at r.bounds) dims k own_only n ∙ c.others k (omega arith) d
+        ∙ sym (get_or-set_other old dim k _ own_only d ∙ get_or_list_of (bound_at s.bounds) dims k own_only n)

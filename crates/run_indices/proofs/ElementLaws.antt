@@ -13,7 +13,7 @@ use Rattle.value.specs.Limits.{most_places}
 use Rattle.std.specs.Prelude.{if◌then◌else◌}
 use Rattle.value.specs.Worked.{decode_of}
 use Rattle.automaton.specs.Listed.{list_of}
-use Rattle.automaton.specs.Promises.ListedLaws.{length_list_of, get_d_list_of, list_of_ext}
+use Rattle.automaton.specs.Promises.ListedLaws.{length_list_of, get_or_list_of, list_of_ext}
 use Rattle.program.specs.Syntax.{Range, range, no_range, Index, fixed, moving}
 use Rattle.cell_meaning.specs.Evaluation.{entry, offset}
 use Rattle.cell_meaning.specs.Written.{Relative, values_of, place_of, written_in_index, written_of}
@@ -43,8 +43,8 @@ element_ends lows highs depth (moving p d) low high a b = ap₂ range a b ∙ by
     by : (t : Bool) → ltb d depth ≡ t → range (entry (vector_values lows depth) d) (entry (vector_values highs depth) d) ≡ get_or (loops_of lows highs depth) d no_range
     by true e =
         let l = ltb-true d depth e in
-        ap₂ range (get_d_list_of (λ k. decode_of (get_or lows k 0)) depth d (pos 0) l) (get_d_list_of (λ k. decode_of (get_or highs k 0)) depth d (pos 0) l)
-        ∙ sym (get_d_list_of (λ k. ends (get_or lows k 0) (get_or highs k 0)) depth d no_range l)
+        ap₂ range (get_or_list_of (λ k. decode_of (get_or lows k 0)) depth d (pos 0) l) (get_or_list_of (λ k. decode_of (get_or highs k 0)) depth d (pos 0) l)
+        ∙ sym (get_or_list_of (λ k. ends (get_or lows k 0) (get_or highs k 0)) depth d no_range l)
     by false e =
         let l = ltb-false d depth e in
         ap₂ range (get_or-eq_default (vector_values lows depth) (pos 0) {n = d} (omega (arith, length_list_of (λ k. decode_of (get_or lows k 0)) depth)))

@@ -8,7 +8,7 @@ use mathlib.Core.List.{List, ◌++◌}
 use lib.ListN.{length, get_or, take, drop, get_or-append}
 use lib.Seq.{ext_get_or, length-take-le, get_or-append-add, get_or-take, get_or-drop}
 use lib.IntN.{ℤ, pos}
-use Rattle.automaton.specs.Promises.ListedLaws.{length_list_of, get_d_list_of, list_of_ext}
+use Rattle.automaton.specs.Promises.ListedLaws.{length_list_of, get_or_list_of, list_of_ext}
 use Rattle.automaton.specs.Grid.{cell_of, grid_of}
 use Rattle.automaton.proofs.Theorems.GridLaws.{some_field}
 use Rattle.run_marked_cells.proofs.ScanLaws.{below_or}
@@ -84,7 +84,7 @@ module _ (fields cell k : ℕ) (xs ys : List ℤ) (room : cell * fields + fields
       ap (λ (l : List ℤ). cell_of fields l cell) same_put
       ∙ ext_get_or (pos 0) _ ys (length_list_of _ fields ∙ sym size)
       (λ j l. let lj : j < fields = rw (length_list_of (λ (n : ℕ). get_or (take (cell * fields) xs ++ (ys ++ drop fields (drop (cell * fields) xs))) (cell * fields + n) (pos 0)) fields) at l in
-      get_d_list_of _ fields j (pos 0) lj ∙ paste_inside (cell * fields) fields xs ys room size j lj)
+      get_or_list_of _ fields j (pos 0) lj ∙ paste_inside (cell * fields) fields xs ys room size j lj)
 
   pub part_kept : (c : ℕ) → (c ≡ cell → ⊥) → cell_of fields part_put c ≡ cell_of fields xs c
   part_kept c d =
@@ -108,6 +108,6 @@ flat_ext fields cells g s e h =
         let lj : j < fields = mod-lt k z in
         let lc : c < cells = (div-lt_iff_lt-mul z).1 l in
         ap (λ (x : ℕ). get_or g x (pos 0)) (sym (div-add-mod' k fields))
-        ∙ sym (get_d_list_of (λ (x : ℕ). get_or g (c * fields + x) (pos 0)) fields j (pos 0) lj)
+        ∙ sym (get_or_list_of (λ (x : ℕ). get_or g (c * fields + x) (pos 0)) fields j (pos 0) lj)
         ∙ ap (λ (a : List ℤ). get_or a j (pos 0)) (h c lc)
-        ∙ sym (get_d_list_of (λ (x : ℕ). get_or (s (x / fields)) (x % fields) (pos 0)) (cells * fields) k (pos 0) l)
+        ∙ sym (get_or_list_of (λ (x : ℕ). get_or (s (x / fields)) (x % fields) (pos 0)) (cells * fields) k (pos 0) l)

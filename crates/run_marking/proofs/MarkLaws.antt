@@ -12,7 +12,7 @@ use lib.IntN.{ℤ, pos}
 use borrow.Author.Tests.{not-false}
 use Rattle.value.specs.Number.{eq_z}
 use Rattle.value.proofs.Theorems.Laws.{eq_z_true, eq_z_refl}
-use Rattle.automaton.specs.Promises.ListedLaws.{get_d_list_of, list_of_ext, last_or_below}
+use Rattle.automaton.specs.Promises.ListedLaws.{get_or_list_of, list_of_ext, last_or_below}
 use Rattle.automaton.specs.Grid.{cell_of, differ}
 use Rattle.automaton.proofs.Theorems.GridLaws.{differ_false, differ_self}
 use Rattle.run_marked_cells.specs.Promises.Clear.{Clear}
@@ -53,9 +53,9 @@ module _ (old grid : List ℤ) (fields c : ℕ) where
           let x : ℤ = get_or old (c * fields + k) (pos 0) in
           let y : ℤ = get_or grid (c * fields + k) (pos 0) in
           let a : x ≡ y =
-          sym (get_d_list_of (λ m. get_or old (c * fields + m) (pos 0)) fields k (pos 0) l)
+          sym (get_or_list_of (λ m. get_or old (c * fields + m) (pos 0)) fields k (pos 0) l)
           ∙ ap (λ (z : List ℤ). get_or z k (pos 0)) (differ_false (cell_of fields old c) (cell_of fields grid c) r)
-          ∙ get_d_list_of (λ m. get_or grid (c * fields + m) (pos 0)) fields k (pos 0) l
+          ∙ get_or_list_of (λ m. get_or grid (c * fields + m) (pos 0)) fields k (pos 0) l
           in
           let e' : b ≡ not (eq_z x y) = e ∙ ap (λ (i : ℕ). not (eq_z (get_or old (i + k) (pos 0)) (get_or grid (i + k) (pos 0)))) q in
           sym t ∙ e' ∙ ap (λ (z : ℤ). not (eq_z z y)) a ∙ ap not (eq_z_refl y)

@@ -10,7 +10,7 @@ use lib.Seq.{ext_get_or}
 use lib.IntN.{ℤ}
 use borrow.Author.Tests.{lt-ltb, le-ltb}
 use Rattle.automaton.specs.Listed.{list_of}
-use Rattle.automaton.specs.Promises.ListedLaws.{length_list_of, get_d_list_of, list_of_ext}
+use Rattle.automaton.specs.Promises.ListedLaws.{length_list_of, get_or_list_of, list_of_ext}
 use Rattle.automaton.specs.Step.{non_zero, marked, marks_of}
 use Rattle.automaton.proofs.Theorems.Quiet.{any_of_false, any_of_true}
 use Rattle.automaton.specs.Shape.{product, cell_number, neighbour, reach_of}
@@ -233,7 +233,7 @@ module _ (ns : List ℕ) (bounds : Bounds) (steps : List ℕ) (listed fields : �
       ext_get_or 0 marks' _ (size ∙ sym (length_list_of _ (product ns)))
       (λ k q. let lk : k < product ns = omega (arith, size) in
       h.each k (omega (arith, h.len)) ∙ at k lk (opened ns dss fields old grid k) (noted ns bounds steps listed fields old grid marks₀ s.markable dss w marks c o l k lk)
-      ∙ sym (get_d_list_of (λ y. cond (opened ns dss fields old grid y) 1 0) (product ns) k 0 lk))
+      ∙ sym (get_or_list_of (λ y. cond (opened ns dss fields old grid y) 1 0) (product ns) k 0 lk))
     where
       size : length marks' ≡ product ns
       size = h.len ∙ o.len ∙ s.markable.marks_fit

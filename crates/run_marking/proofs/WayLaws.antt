@@ -10,7 +10,7 @@ use lib.IntN.{ℤ}
 use lib.ListN.{length, get_or, length-map}
 use borrow.Author.Tests.{lt-ltb, le-ltb}
 use Rattle.automaton.specs.Listed.{list_of}
-use Rattle.automaton.specs.Promises.ListedLaws.{length_list_of, get_d_list_of, of_mem_list_of}
+use Rattle.automaton.specs.Promises.ListedLaws.{length_list_of, get_or_list_of, of_mem_list_of}
 use Rattle.automaton.specs.Shape.{product, Bound, width, box_indices, reach_of, neighbour, coordinates}
 use Rattle.automaton.specs.Promises.ShapeLaws.{Alike}
 use Rattle.automaton.proofs.ShapeLaws.{alike_length, reach_opens, box_alike}
@@ -36,7 +36,7 @@ module _ (bounds : Bounds) (dims : ℕ) where
   widths_length = length-map (bounds_of bounds dims) width ∙ length_list_of (bound_at bounds) dims
 
   width_is : (k : ℕ) → k < dims → get_or widths k 0 ≡ width (bound_at bounds k)
-  width_is k l = go (bounds_of bounds dims) k (omega (arith, length_list_of (bound_at bounds) dims)) ∙ ap width (get_d_list_of (bound_at bounds) dims k own_only l)
+  width_is k l = go (bounds_of bounds dims) k (omega (arith, length_list_of (bound_at bounds) dims)) ∙ ap width (get_or_list_of (bound_at bounds) dims k own_only l)
     where
       go : (bs : List Bound) (k : ℕ) → k < length bs → get_or (map width bs) k 0 ≡ width (get_or bs k own_only)
       go [] k l = absurd (omega arith)
@@ -70,7 +70,7 @@ module _ (sizes : List ℕ) (bounds : Bounds) (p : Prepared sizes bounds) where
   ways_box steps dss same = record {
     alike = λ ds m. box_alike sizes bs like ds ((same ds).0 m);
     leads = λ c x lc lx.
-        let o = opens_reach sizes bs (bound_at bounds) p.positive like (λ k l. get_d_list_of (bound_at bounds) (length sizes) k own_only l) (λ k l. (p.near k l).1) c x lc lx in
+        let o = opens_reach sizes bs (bound_at bounds) p.positive like (λ k l. get_or_list_of (bound_at bounds) (length sizes) k own_only l) (λ k l. (p.near k l).1) c x lc lx in
         let e = by_box sizes bounds steps 257 x (omega arith) in (
           λ m. subst (Memᴰ c) (sym e) (o.1 (reach_mem sizes dss (box_indices bs) c x (λ ds. (same ds).0) m)),
           λ m. reach_mem sizes (box_indices bs) dss c x (λ ds. (same ds).1) (o.0 (subst (Memᴰ c) e m)),

@@ -1,8 +1,7 @@
 -- What is asked of a run before it begins: replies 20 to 24, tried in this order.
-use Rattle.std.specs.Prelude.{Bool, true, not, ◌&&◌, ◌||◌, List, [], ◌∷◌, ℕ, suc, ◌*◌, ◌%◌, length, get_or, eqb, leb, ltb, ℤ, pos, nat_abs, ◌+ℤ◌}
+use Rattle.std.specs.Prelude.{Bool, true, not, ◌&&◌, ◌||◌, List, [], ◌∷◌, ℕ, suc, ◌*◌, ◌%◌, length, get_or, eqb, leb, ltb, ℤ, pos, nat_abs, ◌+ℤ◌, if◌then◌else◌}
 use Rattle.std.specs.Int.Signed.{le_z}
 use Rattle.value.specs.Limits.{most_along, most_cells}
-use Rattle.std.specs.Prelude.{if◌then◌else◌}
 use Rattle.automaton.specs.Shape.{product}
 use Rattle.program.specs.Refusal.{Refusal, refusal}
 use Rattle.program.specs.Syntax.{Range, no_range, Program}

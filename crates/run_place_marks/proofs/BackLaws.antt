@@ -12,7 +12,7 @@ use borrow.Author.Tests.{lt-ltb, le-ltb}
 use Rattle.value.specs.Number.{mod_z}
 use Rattle.value.specs.Worked.{decode_of, wrap_of}
 use Rattle.automaton.specs.Listed.{list_of}
-use Rattle.automaton.specs.Promises.ListedLaws.{length_list_of, get_d_list_of, list_of_ext, last_or_below}
+use Rattle.automaton.specs.Promises.ListedLaws.{length_list_of, get_or_list_of, list_of_ext, last_or_below}
 use Rattle.automaton.specs.Shape.{product, cell_number, coordinates, shift, neighbour}
 use Rattle.automaton.specs.Promises.Opening.{opens_of}
 use Rattle.automaton.specs.Promises.ShapeLaws.{Positive}
@@ -55,7 +55,7 @@ cell_back sizes at steps from x ds p b same =
     at_dim : (k : ℕ) → k < length sizes → get_or (step_from sizes at steps from) k 0 ≡ get_or (shift sizes (coordinates sizes x) (map neg_ℤ ds)) k 0
     at_dim k l =
         let d = neg_ℤ (get_or ds k (pos 0)) in
-        get_d_list_of _ (length sizes) k 0 l
+        get_or_list_of _ (length sizes) k 0 l
         ∙ ap₂ (λ (i s : ℕ). (i + s) % get_or sizes k 0) (same k l) (b.each k l)
         ∙ sym (wrap_mod (get_or sizes k 0) (get_or (coordinates sizes x) k 0) d (omega (arith, p.inside k l)))
         ∙ ap (λ (z : ℤ). wrap_of (get_or (coordinates sizes x) k 0) z (get_or sizes k 0)) (sym (get_or-map neg_ℤ ds k (pos 0)))
@@ -142,7 +142,7 @@ module _ (sizes places : List ℕ) (k : ℕ) (steps₀ : List ℕ) where
       here : Back sizes steps (3 * k) (place_at places (length sizes) k)
       here = record {
         dims = length_list_of _ (length sizes);
-        each = λ m h. s.each m (omega arith) ∙ ap (λ (z : ℤ). mod_z (neg_ℤ z) (get_or sizes m 0)) (sym (get_d_list_of (λ d. decode_of (get_or places (3 * k + d) 0)) (length sizes) m (pos 0) h));
+        each = λ m h. s.each m (omega arith) ∙ ap (λ (z : ℤ). mod_z (neg_ℤ z) (get_or sizes m 0)) (sym (get_or_list_of (λ d. decode_of (get_or places (3 * k + d) 0)) (length sizes) m (pos 0) h));
       }
 
 module _ (sizes places : List ℕ) (few : length sizes ≤ 3) (steps₀ : List ℕ) where

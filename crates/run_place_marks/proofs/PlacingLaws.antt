@@ -6,7 +6,7 @@ use mathlib.Core.Path.{◌≡◌, refl, sym, ap, ap₂, ◌∙◌, subst}
 use mathlib.Core.List.{List, [], ◌∷◌}
 use lib.ListN.{length, get_or, set, drop}
 use lib.Seq.{drop-cons, drop-length}
-use Rattle.automaton.specs.Promises.ListedLaws.{length_list_of, get_d_list_of}
+use Rattle.automaton.specs.Promises.ListedLaws.{length_list_of, get_or_list_of}
 use Rattle.automaton.specs.Shape.{product, cell_number}
 use Rattle.automaton.specs.Promises.ShapeLaws.{Inside, Positive}
 use Rattle.automaton.proofs.ShapeLaws.{number_lt, product_pos}
@@ -70,7 +70,7 @@ module _ (sizes at steps : List ℕ) (from : ℕ) (p : StepPlaced sizes at steps
     steps_are =
         drop-cons (step_from sizes at steps from) k 0 (subst (λ (m : ℕ). k < m) (sym (length_list_of _ (length sizes))) l)
         ∙ ap (λ (x : ℕ). x ∷ drop (suc k) (step_from sizes at steps from))
-        (get_d_list_of _ (length sizes) k 0 l ∙ ap (λ (m : ℕ). (get_or at k 0 + get_or steps (from + k) 0) % m) (sym size) ∙ sym is)
+        (get_or_list_of _ (length sizes) k 0 l ∙ ap (λ (m : ℕ). (get_or at k 0 + get_or steps (from + k) 0) % m) (sym size) ∙ sym is)
 
     positive : 0 < n
     positive = omega (arith, size, p.inside k l)
@@ -130,7 +130,7 @@ unfolding cell_from
 cell_below sizes at steps from p =
     number_lt sizes (step_from sizes at steps from)
     (inside_of sizes (step_from sizes at steps from) (length_list_of _ (length sizes))
-    (λ k l. subst (λ (x : ℕ). x < get_or sizes k 0) (sym (get_d_list_of _ (length sizes) k 0 l)) (mod-lt (get_or at k 0 + get_or steps (from + k) 0) (omega (arith, p.inside k l)))))
+    (λ k l. subst (λ (x : ℕ). x < get_or sizes k 0) (sym (get_or_list_of _ (length sizes) k 0 l)) (mod-lt (get_or at k 0 + get_or steps (from + k) 0) (omega (arith, p.inside k l)))))
 
 -- one place more is noted
 pub note_more : (sizes at steps marks₀ marks : List ℕ) (k c : ℕ) → marks ≡ note_places sizes at steps k marks₀ → c ≡ cell_from sizes at steps (3 * k)

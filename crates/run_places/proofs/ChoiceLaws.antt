@@ -15,7 +15,7 @@ use Rattle.value.specs.declared.Value.{Value}
 use Rattle.value.specs.Number.{in_range}
 use Rattle.value.specs.Worked.{value, encode_of, decode_of, span_of}
 use Rattle.value.proofs.Theorems.Laws.{decode_encode, offset_in_range}
-use Rattle.automaton.specs.Promises.ListedLaws.{length_list_of, get_d_list_of}
+use Rattle.automaton.specs.Promises.ListedLaws.{length_list_of, get_or_list_of}
 use Rattle.automaton.specs.Shape.{coordinates}
 use Rattle.automaton.specs.Promises.ShapeLaws.{Positive}
 use Rattle.program.specs.Syntax.{Range, no_range}
@@ -35,7 +35,7 @@ module _ (lows highs : List ℕ) (depth : ℕ) where
   deep = length_list_of (λ k. ends (get_or lows k 0) (get_or highs k 0)) depth
 
   range_at : (k : ℕ) → k < depth → get_or rs k no_range ≡ ends (get_or lows k 0) (get_or highs k 0)
-  range_at k l = get_d_list_of (λ k. ends (get_or lows k 0) (get_or highs k 0)) depth k no_range l
+  range_at k l = get_or_list_of (λ k. ends (get_or lows k 0) (get_or highs k 0)) depth k no_range l
 
   spans_length : length (map span rs) ≡ depth
   spans_length = length-map rs span ∙ deep
@@ -111,7 +111,7 @@ module _ (lows highs : List ℕ) (depth : ℕ) where
         ext_get_or (pos 0) (vector_values r depth) (choice_at rs e) (length_list_of _ depth ∙ sym (values_length rs ks kl ∙ deep))
         (λ k l.
         let m : k < depth = omega (arith, l, length_list_of (λ d. decode_of (get_or r d 0)) depth) in
-        get_d_list_of (λ d. decode_of (get_or r d 0)) depth k (pos 0) m
+        get_or_list_of (λ d. decode_of (get_or r d 0)) depth k (pos 0) m
         ∙ digits_done (map span rs) e (ValueAt r) rest d less s.digits z k (omega (arith, spans_length))
         ∙ ap (λ (x : Range). x.low +ℤ pos (get_or ks k 0)) (sym (range_at k m))
         ∙ sym (values_at_at rs ks kl k (omega (arith, deep))))

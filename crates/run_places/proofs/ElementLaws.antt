@@ -13,7 +13,7 @@ use lib.Seq.{get_or-set_same, get_or-set_other}
 use borrow.Author.Tests.{eq-eqb, ne_eqb}
 use Rattle.std.specs.Prelude.{if◌then◌else◌}
 use Rattle.value.specs.Worked.{decode_of}
-use Rattle.automaton.specs.Promises.ListedLaws.{length_list_of, get_d_list_of, last_or_below}
+use Rattle.automaton.specs.Promises.ListedLaws.{length_list_of, get_or_list_of, last_or_below}
 use Rattle.program.specs.Syntax.{Index, fixed, moving}
 use Rattle.cell_meaning.specs.Evaluation.{offset}
 use Rattle.cell_meaning.specs.Promises.Stands.{index_in, next_index, indices_in}
@@ -45,7 +45,7 @@ module _ (t : Table) (at : ℕ) {k x : ℕ} (ek : k ≡ t.kind at) (ex : x ≡ t
   module _ (given : List ℕ) (depth : ℕ) where
     module _ {w : ℕ} (e : k ≡ 1) (ew : w ≡ t.word2 at) (f : w ≡ 5) where
       pub word_open : x < depth → decode_of (get_or given x 0) ≡ offset (vector_values given depth) (index_in t at)
-      word_open l = sym (ap (offset (vector_values given depth)) (index_moves e ew f) ∙ get_d_list_of (λ d. decode_of (get_or given d 0)) depth x (pos 0) l)
+      word_open l = sym (ap (offset (vector_values given depth)) (index_moves e ew f) ∙ get_or_list_of (λ d. decode_of (get_or given d 0)) depth x (pos 0) l)
 
       pub word_shut : depth ≤ x → decode_of 0 ≡ offset (vector_values given depth) (index_in t at)
       word_shut l =

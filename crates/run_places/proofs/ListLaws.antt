@@ -15,7 +15,7 @@ use Rattle.value.specs.Worked.{encode_of, decode_of}
 use Rattle.value.specs.Number.{eq_z}
 use Rattle.value.proofs.Theorems.Laws.{encode_decode, eq_z_true, eq_z_refl}
 use Rattle.automaton.specs.Listed.{list_of}
-use Rattle.automaton.specs.Promises.ListedLaws.{length_list_of, get_d_list_of, list_of_ext, last_or_below}
+use Rattle.automaton.specs.Promises.ListedLaws.{length_list_of, get_or_list_of, list_of_ext, last_or_below}
 use Rattle.automaton.specs.Grid.{differ}
 use Rattle.automaton.proofs.Theorems.GridLaws.{differ_false, differ_self}
 use Rattle.cell_meaning.specs.Places.{has_place, add_place, add_places}
@@ -63,9 +63,9 @@ module _ (a : List ℕ) (i : ℕ) (b : List ℕ) (j dims : ℕ) where
         go true e = refl
         go false e =
             let same : decode_of (get_or a (3 * i + d) 0) ≡ decode_of (get_or b (3 * j + d) 0) =
-            sym (get_d_list_of (λ m. decode_of (get_or a (3 * i + m) 0)) dims d (pos 0) l)
+            sym (get_or_list_of (λ m. decode_of (get_or a (3 * i + m) 0)) dims d (pos 0) l)
             ∙ ap (λ (p : List ℤ). get_or p d (pos 0)) (differ_false (place_at a dims i) (place_at b dims j) e)
-            ∙ get_d_list_of (λ m. decode_of (get_or b (3 * j + m) 0)) dims d (pos 0) l
+            ∙ get_or_list_of (λ m. decode_of (get_or b (3 * j + m) 0)) dims d (pos 0) l
             in
             sym (ap not (eq_z_refl (decode_of (get_or b (3 * j + d) 0)))) ∙ ap (λ (z : ℤ). not (eq_z z (decode_of (get_or b (3 * j + d) 0)))) (sym same) ∙ sym et ∙ q
 

@@ -15,7 +15,7 @@ use borrow.Author.Tests.{lt-ltb, le-ltb}
 use Rattle.std.specs.Prelude.{if◌then◌else◌}
 use Rattle.value.specs.Worked.{decode_of}
 use Rattle.automaton.specs.Listed.{list_of}
-use Rattle.automaton.specs.Promises.ListedLaws.{length_list_of, get_d_list_of, list_of_ext, last_or_below}
+use Rattle.automaton.specs.Promises.ListedLaws.{length_list_of, get_or_list_of, list_of_ext, last_or_below}
 use Rattle.program.specs.Syntax.{Range, no_range, Index}
 use Rattle.program.specs.declared.Rule.{Rule}
 use Rattle.cell_meaning.specs.Evaluation.{offset, offsets}
@@ -64,7 +64,7 @@ module _ (dims e : ℕ) (place : List ℤ) (list₀ : List ℕ) where
         ext_get_or (pos 0) (place_at list dims e) place (length_list_of (λ d. decode_of (get_or list (3 * e + d) 0)) dims ∙ sym size)
         (λ m h.
         let n : m < dims = omega (arith, h, length_list_of (λ d. decode_of (get_or list (3 * e + d) 0)) dims) in
-        get_d_list_of (λ d. decode_of (get_or list (3 * e + d) 0)) dims m (pos 0) n ∙ s.each m (omega arith));
+        get_or_list_of (λ d. decode_of (get_or list (3 * e + d) 0)) dims m (pos 0) n ∙ s.each m (omega arith));
     before = s.before;
   }
 
@@ -153,7 +153,7 @@ module _ (is : List Index) (lows highs : List ℕ) (depth : ℕ) {firsts lasts :
       ∙ ap (list_of (used_range (loops_of lows highs depth) is)) (sym (length_list_of (λ k. ends (get_or lows k 0) (get_or highs k 0)) depth))
     where
       by : (d : ℕ) → d < depth → (b : Bool) → ends (if b then get_or lows d 0 else 0) (if b then get_or highs d 0 else 0) ≡ (if b then get_or (loops_of lows highs depth) d no_range else no_range)
-      by d l true = sym (get_d_list_of (λ k. ends (get_or lows k 0) (get_or highs k 0)) depth d no_range l)
+      by d l true = sym (get_or_list_of (λ k. ends (get_or lows k 0) (get_or highs k 0)) depth d no_range l)
       by d l false = refl
 
 module _ (words : List ℕ) (rule : Rule) (lows highs : List ℕ) (depth at : ℕ) (bounds : Bounds) {firsts lasts : List ℕ}

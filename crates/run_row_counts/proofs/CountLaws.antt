@@ -10,7 +10,7 @@ use mathlib.Core.List.{List, [], ◌∷◌}
 use lib.ListN.{length, get_or}
 use lib.IntN.{ℤ, pos}
 use Rattle.value.specs.Number.{eq_z}
-use Rattle.automaton.specs.Promises.ListedLaws.{list_of_ext, get_d_list_of, last_or_below, Made, made_done}
+use Rattle.automaton.specs.Promises.ListedLaws.{list_of_ext, get_or_list_of, last_or_below, Made, made_done}
 use Rattle.automaton.specs.Step.{how_many}
 use Rattle.automaton.specs.Shape.{product}
 use Rattle.automaton.specs.Promises.ShapeLaws.{Positive}
@@ -146,7 +146,7 @@ unfolding has_zero cell_of
 has_same fields field a b c l e = ap (λ (z : ℤ). eq_z z (pos 0)) (sym (at a) ∙ ap (λ (s : List ℤ). get_or s field (pos 0)) e ∙ at b)
   where
     at : (g : List ℤ) → get_or (cell_of fields g c) field (pos 0) ≡ get_or g (c * fields + field) (pos 0)
-    at g = get_d_list_of (λ k. get_or g (c * fields + k) (pos 0)) fields field (pos 0) l
+    at g = get_or_list_of (λ k. get_or g (c * fields + k) (pos 0)) fields field (pos 0) l
 
 -- ---- all rows
 

@@ -1,3 +1,3 @@
--- Row counts: what is asked of them, worked examples, and what the functions promise.
+-- Row counts: what is asked of them, and what the functions promise.
 pub mod RowQueries
 pub mod Promises

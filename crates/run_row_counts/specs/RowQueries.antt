@@ -1,8 +1,7 @@
 -- What is asked of the row counts alone: how many in some rows, and the first row with one. The counts are those of `Rows`, of the automaton.
-use Rattle.std.specs.Prelude.{Bool, ◌&&◌, List, ℕ, suc, ◌-◌, length, ltb, leb}
+use Rattle.std.specs.Prelude.{Bool, ◌&&◌, List, ℕ, suc, ◌-◌, length, ltb, leb, if◌then◌else◌}
 use Rattle.std.proofs.Math.Option.{Option, none, some}
 use Rattle.value.specs.Limits.{most_along}
-use Rattle.std.specs.Prelude.{if◌then◌else◌}
 use Rattle.automaton.specs.Rows.{in_rows, first_row}
 
 -- What a query returns: the reply's number, and what was asked, or 0.

@@ -120,10 +120,10 @@ module _ {source ws ns sizes : List ℕ} {grid : List ℤ} {scratch marks : ℕ}
     says : refusal a.number a.place ≡ admission is.read.program (request_of sizes grid scratch marks start steps)
     says = admits.says is.read.program is.stood.holds is.lists
 
-    turned_down : {values : List ℕ} {counts : Option CountsAsked} {number where-at line : ℕ} → admitted is.read.program flag (ask (request_of sizes grid scratch marks start steps) values counts) ≡ turned number where-at line → (number ≡ 0 → ⊥) → {r : Opening} → Closed r number where-at line
+    turned_down : {values : List ℕ} {counts : Option CountsAsked} {number where_at line : ℕ} → admitted is.read.program flag (ask (request_of sizes grid scratch marks start steps) values counts) ≡ turned number where_at line → (number ≡ 0 → ⊥) → {r : Opening} → Closed r number where_at line
         → RunOpens (rooms_fit (length ws) (length ns)) source ws ns (ask (request_of sizes grid scratch marks start steps) values counts) r ws' ns'
     unfolding run_source
-    turned_down {values} {counts} {number} {where-at} {line} t z {r} e =
+    turned_down {values} {counts} {number} {where_at} {line} t z {r} e =
         record {
           words = checked.words;
           names = checked.names;
@@ -169,12 +169,12 @@ module _ {source ws ns sizes : List ℕ} {grid : List ℤ} {scratch marks : ℕ}
           turned_down (counts_refused is.read.program flag (ask (request_of sizes grid scratch marks start steps) values (counts_of counted field rows)) admission_is (fits_are counted field rows ∙ c)) (λ k. omega (arith, k)) e
 
       module _ (counted : Bool) (field rows : ℕ) (right : counts_right counted field rows rule.fields sizes ≡ true) {values : List ℕ} {v : judged.Verdict} {told first last : ℕ} (found : FlagOf source ws' ns' rule told) (first_is : nat_abs start ≡ first)
-          (last-is : nat_abs start + nat_abs steps ≡ last) (judges : ChecksList (limits sizes (fields_in ws' rule) told first last) values v) where
+          (last_is : nat_abs start + nat_abs steps ≡ last) (judges : ChecksList (limits sizes (fields_in ws' rule) told first last) values v) where
         list_says : admitted is.read.program flag (ask (request_of sizes grid scratch marks start steps) values (counts_of counted field rows)) ≡ turned v.number 0 v.line
         list_says =
             list_decides is.read.program flag (ask (request_of sizes grid scratch marks start steps) values (counts_of counted field rows)) admission_is (fits_are counted field rows ∙ right)
             ∙ ap (λ (x : Verdict). turned x.number 0 x.line)
-            (sym (verdict_is ws' rule is.read.program flag (request_of sizes grid scratch marks start steps) values is.stood.holds (found.is is.read is.stood) first_is last-is)
+            (sym (verdict_is ws' rule is.read.program flag (request_of sizes grid scratch marks start steps) values is.stood.holds (found.is is.read is.stood) first_is last_is)
             ∙ sym judges.is)
 
         pub not_listed : (v.number ≡ 0 → ⊥) → {r : Opening} → Closed r v.number 0 v.line → RunOpens (rooms_fit (length ws) (length ns)) source ws ns (ask (request_of sizes grid scratch marks start steps) values (counts_of counted field rows)) r ws' ns'

@@ -39,7 +39,7 @@ use Rattle.run_meaning.specs.Promises.Fitting.{held_fields}
 use Rattle.list_meaning.specs.Setting.{set_block}
 use Rattle.move_meaning.specs.Profile.{profile_flag}
 use Rattle.run_calls.specs.Running.{counts_of, Asked, good_counts, admitted, blocks, report_of, standing}
-use Rattle.run_calls.proofs.Theorems.RunningLaws.{run_admitted, counts_admitted as counts-admits}
+use Rattle.run_calls.proofs.Theorems.RunningLaws.{run_admitted, counts_admitted as counts_admits}
 use Rattle.run_calls.specs.Services.{run_begins, run_read, run_source, room_after, when_begun, marks_admitted, marks_after, counts_admitted, counts_after}
 use Rattle.run_calls.specs.Calls.{NameForm, flat_names, Memory, memory, Lent, lent, fits, asked, read_lent, run_report, names_left, run_left}
 use Rattle.run_calls.specs.RangesKept.{RangesKept}
@@ -175,7 +175,7 @@ module _ {fit : Bool} {source : List ℕ} {q : Asked} {words : List ℕ} {rule :
           and_both (ltb field rule.fields) (eqb rows (get_or q.request.sizes 0 0))
           (sym (ap (λ (n : ℕ). ltb field n && eqb rows (get_or q.request.sizes 0 0)) (held_fields b.read.program b.runs.holds))
           ∙ sym (ap (λ (t : Bool). good_counts b.read.program q.request.sizes (counts_of t field rows)) c) ∙ sym (ap (good_counts b.read.program q.request.sizes) e)
-          ∙ counts-admits b.read.program (profile_flag source b.read) q b.admits)
+          ∙ counts_admits b.read.program (profile_flag source b.read) q b.admits)
 
   module _ {grid' : List ℤ} {counts counts' : List ℕ} {counted : Bool} {field : ℕ} where
     filled_by : (way : Way) → Tallied words rule q.request.sizes r (every_step way rule.timed) counted field grid' counts counts' → CountsFilled counted q.request.sizes rule.fields field grid' counts counts'
@@ -184,10 +184,10 @@ module _ {fit : Bool} {source : List ℕ} {q : Asked} {words : List ℕ} {rule :
     filled_by Pausing tally = tally.tells b.read.program b.runs
     filled_by Resuming tally = tally.tells b.read.program b.runs
 
-  module _ (marks : List ℕ) {said : Report} {grid' : List ℤ} {marks' counts counts' : List ℕ} (counted : Bool) (field rows : ℕ) (Asked-is : q.counts ≡ counts_of counted field rows) where
+  module _ (marks : List ℕ) {said : Report} {grid' : List ℤ} {marks' counts counts' : List ℕ} (counted : Bool) (field rows : ℕ) (asked_is : q.counts ≡ counts_of counted field rows) where
     counts_are : (way : Way) → RanBy (every_step way rule.timed) (pending_in (is_resumed way) marks) said grid' marks' → Tallied words rule q.request.sizes r (every_step way rule.timed) counted field grid' counts counts'
         → counts' ≡ counts_admitted (manner_of way marks) b.read.program q counts q.counts
-    counts_are way ran tally = by counted refl ∙ ap (counts_admitted (manner_of way marks) b.read.program q counts) (sym Asked-is)
+    counts_are way ran tally = by counted refl ∙ ap (counts_admitted (manner_of way marks) b.read.program q counts) (sym asked_is)
       where
         by : (t : Bool) → counted ≡ t → counts' ≡ counts_admitted (manner_of way marks) b.read.program q counts (counts_of counted field rows)
         by true c =

@@ -116,10 +116,10 @@ module _ (sizes : List ℕ) (grid : List ℤ) (marks : List ℕ) (time : ℕ) wh
           by p h c l m (inl q) = f.next p h c q m
           by p h c l m (inr q) = absurd (let e : true ≡ false = sym m ∙ n.skipped c q l in let z : ◌≡◌ {A = ℕ} 0 1 = cc in omega arith)
 
-      module _ (i total : ℕ) (scratch scratch' : List ℤ) {r : Evaluation} (f : Filling Held rule old count i total scratch) (is-on : marked marks i ≡ true)
+      module _ (i total : ℕ) (scratch scratch' : List ℤ) {r : Evaluation} (f : Filling Held rule old count i total scratch) (is_on : marked marks i ≡ true)
           (w : CellTurned words rule sizes i i grid scratch scratch' time total r) where
         other : (c : ℕ) → marked marks c ≡ false → c ≡ i → ⊥
-        other c m q = let e : true ≡ false = sym is-on ∙ ap (marked marks) (sym q) ∙ m in let z : ◌≡◌ {A = ℕ} 0 1 = cc in omega arith
+        other c m q = let e : true ≡ false = sym is_on ∙ ap (marked marks) (sym q) ∙ m in let z : ◌≡◌ {A = ℕ} 0 1 = cc in omega arith
 
         still : (c : ℕ) → marked marks c ≡ false → cell_of rule.fields scratch' c ≡ cell_of rule.fields old c
         still c m = w.kept c (other c m) ∙ f.kept c m
@@ -127,12 +127,12 @@ module _ (sizes : List ℕ) (grid : List ℤ) (marks : List ℕ) (time : ℕ) wh
         -- one more cell is counted
         one_more : how_many (marked marks) (suc i) ≡ how_many (marked marks) i + 1
         unfolding how_many
-        one_more = rw is-on refl
+        one_more = rw is_on refl
 
         pub fill_turn : {n : ℕ} → r ≡ Gave.Done n → Filling Held rule old count (i + 1) n scratch'
         unfolding first_fault
         fill_turn {n} e = rw (add-one i) (record {
-          clear = λ p h. rw (f.clear p h, of_marked p h i is-on, sym (here p h)) refl;
+          clear = λ p h. rw (f.clear p h, of_marked p h i is_on, sym (here p h)) refl;
           counted = let a = ap count_after (sym e) ∙ w.count_is in let b = f.counted in let s = one_more in omega arith;
           next = λ p h c l m. by p h c (last_or_below l) m;
           kept = still;
@@ -157,7 +157,7 @@ module _ (sizes : List ℕ) (grid : List ℤ) (marks : List ℕ) (time : ℕ) wh
         }
           where
             here : (p : Program) → Held p → outcome p i ≡ fault k q
-            here p h = of_marked p h i is-on ∙ sym (ap (λ (x : Evaluation). outcome_in x (cell_of rule.fields scratch' i)) (sym e) ∙ w.says p (holds p h))
+            here p h = of_marked p h i is_on ∙ sym (ap (λ (x : Evaluation). outcome_in x (cell_of rule.fields scratch' i)) (sym e) ∙ w.says p (holds p h))
 
             first : (p : Program) → Held p → first_fault (outcome p) (running p sizes).cells ≡ fault_at i k q
             first p h = first_fault_here (outcome p) (running p sizes).cells i k q (f.clear p h) (here p h) (rw (cells_are p) l)

@@ -18,7 +18,7 @@ use Rattle.value.proofs.Theorems.Truth.{or_true, or_no}
 use Rattle.value.specs.Limits.{most_cells}
 use Rattle.value.proofs.Theorems.Laws.{never}
 use Rattle.automaton.specs.Listed.{list_of}
-use Rattle.automaton.specs.Promises.ListedLaws.{length_list_of, get_d_list_of}
+use Rattle.automaton.specs.Promises.ListedLaws.{length_list_of, get_or_list_of}
 use Rattle.automaton.specs.Step.{no_fault, fault_at, any_of, marks_of, non_zero, marked, Quiet, every_cell, no_cell, changed, touched, open_in, quiet_step}
 use Rattle.automaton.proofs.Theorems.Quiet.{marked_marks_of, any_of_false, any_none, bit_le}
 use Rattle.automaton.specs.Shape.{product, Bound, width, neighbour, reach_of, box_indices}
@@ -69,7 +69,7 @@ all_alike : (b : Bool) (n : ℕ) → replicate n (cond b 1 0) ≡ marks_of (λ c
 unfolding marks_of
 all_alike b n =
     ext_get_or 0 (replicate n (cond b 1 0)) (list_of (λ (c : ℕ). cond b 1 0) n) (length-replicate n (cond b 1 0) ∙ sym (length_list_of (λ (c : ℕ). cond b 1 0) n))
-    (λ k l. let m : k < n = omega (arith, length-replicate {A = ℕ} n (cond b 1 0)) in alike_at (cond b 1 0) n k m ∙ sym (get_d_list_of (λ (c : ℕ). cond b 1 0) n k 0 m))
+    (λ k l. let m : k < n = omega (arith, length-replicate {A = ℕ} n (cond b 1 0)) in alike_at (cond b 1 0) n k m ∙ sym (get_or_list_of (λ (c : ℕ). cond b 1 0) n k 0 m))
 
 -- where every mark is 1, every cell is open
 all_ones : (n : ℕ) → replicate n 1 ≡ marks_of every_cell n
@@ -77,7 +77,7 @@ all_ones n = all_alike true n
 
 marks_plain : (o : ℕ → Bool) (n : ℕ) (marks : List ℕ) → marks ≡ marks_of o n → (c : ℕ) → c < n → get_or marks c 0 ≤ 1
 unfolding marks_of
-marks_plain o n marks e c l = rw (ap (λ (ms : List ℕ). get_or ms c 0) e ∙ get_d_list_of (λ (x : ℕ). cond (o x) 1 0) n c 0 l) (bit_le (o c))
+marks_plain o n marks e c l = rw (ap (λ (ms : List ℕ). get_or ms c 0) e ∙ get_or_list_of (λ (x : ℕ). cond (o x) 1 0) n c 0 l) (bit_le (o c))
 
 marks_length : (o : ℕ → Bool) (n : ℕ) → length (marks_of o n) ≡ n
 unfolding marks_of
@@ -316,7 +316,7 @@ module _ {words : List ℕ} {rule : Rule} {sizes : List ℕ} {r : Reach} {all_op
         }
 
     module _ {backs : List ℕ} {listed : ℕ} (way : WayOf sizes r backs listed) {next next' : Next} (f : Follows sizes rule.fields text (start + done) next) {grid' scratch' : List ℤ} {marks' : List ℕ}
-        (set : DueSet text sizes r.bounds backs listed all_open rule.fields grid scratch marks (start + done) next next' grid' scratch' marks') (grid-kept : length grid' ≡ length grid) where
+        (set : DueSet text sizes r.bounds backs listed all_open rule.fields grid scratch marks (start + done) next next' grid' scratch' marks') (grid_kept : length grid' ≡ length grid) where
       pub record BlockSet : Type 0 where
         pub placed : BlockPlaced words rule sizes r all_open text grid₀ marks₀ start steps done count grid' scratch' marks'
         pub follows : Follows sizes rule.fields text (start + done + 1) next'
@@ -350,7 +350,7 @@ module _ {words : List ℕ} {rule : Rule} {sizes : List ℕ} {r : Reach} {all_op
                 so_far = record {
                   few_steps = had.few_steps;
                   few_cells = had.few_cells;
-                  grid_size = grid-kept ∙ had.grid_size;
+                  grid_size = grid_kept ∙ had.grid_size;
                   scratch_size = ap length same.0 ∙ had.scratch_size;
                   marks_size = ap length same.1 ∙ had.marks_size;
                   standing = record {
@@ -384,7 +384,7 @@ module _ {words : List ℕ} {rule : Rule} {sizes : List ℕ} {r : Reach} {all_op
                 so_far = record {
                   few_steps = had.few_steps;
                   few_cells = had.few_cells;
-                  grid_size = grid-kept ∙ had.grid_size;
+                  grid_size = grid_kept ∙ had.grid_size;
                   scratch_size = ap length both.0 ∙ had.grid_size;
                   marks_size = ap length is ∙ marks_length _ (product sizes);
                   standing = record {
@@ -510,9 +510,9 @@ module _ {words : List ℕ} {rule : Rule} {sizes : List ℕ} {r : Reach} {all_op
 
       -- ---- a step that does not
 
-      module _ {said : Step} {counted : ℕ} {grid' scratch' : List ℤ} (s₀ : SteppedFor (Runs words rule r all_open) rule sizes grid scratch marks (start + done) count said grid' scratch') (is-done : said ≡ Gives.Done counted) where
+      module _ {said : Step} {counted : ℕ} {grid' scratch' : List ℤ} (s₀ : SteppedFor (Runs words rule r all_open) rule sizes grid scratch marks (start + done) count said grid' scratch') (is_done : said ≡ Gives.Done counted) where
         s : SteppedFor (Runs words rule r all_open) rule sizes grid scratch marks (start + done) count (Gives.Done counted) grid' scratch'
-        s = subst (λ (t : Step). SteppedFor (Runs words rule r all_open) rule sizes grid scratch marks (start + done) count t grid' scratch') is-done s₀
+        s = subst (λ (t : Step). SteppedFor (Runs words rule r all_open) rule sizes grid scratch marks (start + done) count t grid' scratch') is_done s₀
 
         chosen : ℕ → Bool → List ℤ
         chosen c b = cond b (cell_of rule.fields grid c) (cell_of rule.fields scratch c)

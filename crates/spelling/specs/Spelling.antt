@@ -1,7 +1,6 @@
 -- The spelling that is returned with a refusal: a part of the source, or of the built-in list that is lent beside it.
-use Rattle.std.specs.Prelude.{Bool, true, false, not, ◌&&◌, ◌||◌, List, [], ◌∷◌, ℕ, length, drop, eqb, leb, ltb}
+use Rattle.std.specs.Prelude.{Bool, true, false, not, ◌&&◌, ◌||◌, List, [], ◌∷◌, ℕ, length, drop, eqb, leb, ltb, if◌then◌else◌}
 use Rattle.value.specs.Limits.{most_bytes}
-use Rattle.std.specs.Prelude.{if◌then◌else◌}
 use Rattle.token.specs.Bytes.{between}
 use Rattle.token.specs.Kind.{kind}
 use Rattle.token.specs.Lexeme.{read_token}

@@ -1,9 +1,8 @@
 -- The kinds of bytes, letters without case, and texts as bytes.
-use Rattle.std.specs.Prelude.{Bool, true, false, ◌&&◌, ◌||◌, List, [], ◌∷◌, ℕ, ◌+◌, eqb, leb}
+use Rattle.std.specs.Prelude.{Bool, true, false, ◌&&◌, ◌||◌, List, [], ◌∷◌, ℕ, ◌+◌, eqb, leb, if◌then◌else◌}
 use Prim.Native.Char.{code}
 use Prim.Native.String as S
 use Prim.Native.String.{String}
-use Rattle.std.specs.Prelude.{if◌then◌else◌}
 
 -- a text as the list of its bytes (for texts of ASCII characters)
 abbrev pub as_bytes : String → List ℕ

@@ -1,6 +1,5 @@
 -- The kinds of tokens, and the levels of operators.
-use Rattle.std.specs.Prelude.{◌||◌, ℕ, eqb}
-use Rattle.std.specs.Prelude.{if◌then◌else◌}
+use Rattle.std.specs.Prelude.{◌||◌, ℕ, eqb, if◌then◌else◌}
 
 -- ---- the numbers of the kinds of tokens. A token of one byte has its byte's number
 

@@ -1,7 +1,6 @@
 -- One token at the head of a text.
-use Rattle.std.specs.Prelude.{Bool, true, false, ◌&&◌, ◌||◌, List, [], ◌∷◌, map, ℕ, suc, ◌+◌, ◌-◌, ◌*◌, take, drop, get_or, eqb, ltb}
+use Rattle.std.specs.Prelude.{Bool, true, false, ◌&&◌, ◌||◌, List, [], ◌∷◌, map, ℕ, suc, ◌+◌, ◌-◌, ◌*◌, take, drop, get_or, eqb, ltb, if◌then◌else◌}
 use Prim.Native.String.{String}
-use Rattle.std.specs.Prelude.{if◌then◌else◌}
 use Rattle.token.specs.Bytes.{as_bytes, byte_kind, kind_of, fold, same}
 use Rattle.token.specs.Kind.{kind, keyword, relation, delimiter}
 

@@ -1,7 +1,6 @@
 -- The tokens of a source in order, and where and why their sequence stops.
-use Rattle.std.specs.Prelude.{Bool, true, false, ◌||◌, List, [], ◌∷◌, ◌++◌, ℕ, zero, suc, ◌+◌, ◌-◌, ◌*◌, ◌/◌, ◌%◌, length, drop, get_or, replicate, eqb, leb, ltb}
+use Rattle.std.specs.Prelude.{Bool, true, false, ◌||◌, List, [], ◌∷◌, ◌++◌, ℕ, zero, suc, ◌+◌, ◌-◌, ◌*◌, ◌/◌, ◌%◌, length, drop, get_or, replicate, eqb, leb, ltb, if◌then◌else◌}
 use Rattle.value.specs.Limits.{most_tokens, table_words}
-use Rattle.std.specs.Prelude.{if◌then◌else◌}
 use Rattle.token.specs.declared.Token.{Token}
 use Rattle.token.specs.declared.Scan.{Scan}
 use Rattle.token.specs.Bytes.{byte_kind, kind_of}

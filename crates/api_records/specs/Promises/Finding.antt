@@ -1,7 +1,6 @@
 -- The first record that passes a test, record by record.
-use Rattle.std.specs.Prelude.{Bool, not, ℕ, eqb}
+use Rattle.std.specs.Prelude.{Bool, not, ℕ, eqb, if◌then◌else◌}
 use Rattle.value.specs.Limits.{most_names}
-use Rattle.std.specs.Prelude.{if◌then◌else◌}
 use Rattle.api_records.specs.declared.Name.{Name}
 
 -- the number of the first record that passes a test, with one record more, of which k is the number

@@ -12,7 +12,7 @@ use lib.IntN.{ℤ, pos}
 use borrow.Author.Tests.{not-false}
 use Rattle.value.specs.Number.{eq_z}
 use Rattle.value.proofs.Theorems.Laws.{eq_z_true, eq_z_refl}
-use Rattle.automaton.specs.Promises.ListedLaws.{length_list_of, get_d_list_of, list_of_ext}
+use Rattle.automaton.specs.Promises.ListedLaws.{length_list_of, get_or_list_of, list_of_ext}
 use Rattle.automaton.specs.Step.{result}
 use Rattle.automaton.specs.Shape.{product, neighbour, reach_of}
 use Rattle.automaton.specs.Promises.ShapeLaws.{Positive, zeros}
@@ -55,7 +55,7 @@ cell_of_grid_of fields cells s c e l = ext_get_or (pos 0) _ (s c) (length_list_o
     at k lk =
         let room : c * fields + k < cells * fields = omega (arith, mul-le-mul_right fields l) in
         let z : 0 < fields = omega arith in
-        get_d_list_of _ fields k (pos 0) lk ∙ get_d_list_of _ (cells * fields) (c * fields + k) (pos 0) room
+        get_or_list_of _ fields k (pos 0) lk ∙ get_or_list_of _ (cells * fields) (c * fields + k) (pos 0) room
         ∙ ap₂ (λ (x y : ℕ). get_or (s x) y (pos 0)) (mul-add-div_right z c k ∙ ap (λ (x : ℕ). c + x) (div-eq_of_lt lk) ∙ add-zero c)
         (mul-add-mod_self_right c fields k ∙ mod-eq_of_lt lk)
 

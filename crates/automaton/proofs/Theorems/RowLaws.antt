@@ -11,7 +11,7 @@ use lib.Dec.{eqb}
 use borrow.Author.Tests.{eqb-true, eqb-false}
 use lib.Seq.{get_or-set_same, get_or-set_other, ext_get_or}
 use Rattle.value.proofs.Theorems.Truth.{or_true, or_no}
-use Rattle.automaton.specs.Promises.ListedLaws.{length_list_of, get_d_list_of, last_or_below}
+use Rattle.automaton.specs.Promises.ListedLaws.{length_list_of, get_or_list_of, last_or_below}
 use Rattle.automaton.specs.Step.{how_many, non_zero}
 use Rattle.automaton.proofs.Theorems.Quiet.{how_many_ext}
 use Rattle.automaton.specs.Rows.{counts_by, in_rows, or_later, lowest, first_row}
@@ -45,7 +45,7 @@ lowest_ext p q (suc n) h = ap₂ (λ (a : Option ℕ) (b : Bool). or_later a (co
 module _ (p : ℕ → Bool) (n q : ℕ) where
   pub count_at : (r : ℕ) → r < n → get_or (counts_by p n q) r 0 ≡ how_many (λ j. p (r * q + j)) q
   unfolding counts_by
-  count_at r l = get_d_list_of (λ r. how_many (λ j. p (r * q + j)) q) n r 0 l
+  count_at r l = get_or_list_of (λ r. how_many (λ j. p (r * q + j)) q) n r 0 l
 
   -- How many in some rows.
   pub in_rows_is : (a k : ℕ) → a + k ≤ n → in_rows (counts_by p n q) a k ≡ cells_in_rows p q a k

@@ -20,10 +20,10 @@ module _ {A : Type 0} where
   length_list_of f zero = refl
   length_list_of f (suc n) = omega (arith, length-append (list_of f n) (f n ∷ []), length_list_of f n)
 
-  pub get_d_list_of : (f : ℕ → A) (n c : ℕ) (d : A) → c < n → get_or (list_of f n) c d ≡ f c
+  pub get_or_list_of : (f : ℕ → A) (n c : ℕ) (d : A) → c < n → get_or (list_of f n) c d ≡ f c
   unfolding list_of
-  get_d_list_of f zero c d l = absurd (not-suc-le-zero l)
-  get_d_list_of f (suc n) c d l = go (get_d_list_of f n c d) (last_or_below l)
+  get_or_list_of f zero c d l = absurd (not-suc-le-zero l)
+  get_or_list_of f (suc n) c d l = go (get_or_list_of f n c d) (last_or_below l)
     where
       go : (c < n → get_or (list_of f n) c d ≡ f c) → (c ≡ n) ⊎ (c < n) → get_or (list_of f (suc n)) c d ≡ f c
       go below (inl q) = get_or_at (list_of f n) (f n) [] d c (length_list_of f n ∙ sym q) ∙ ap f (sym q)
@@ -75,4 +75,4 @@ module _ {A : Type 0} (f : ℕ → A) (d : A) (n : ℕ) where
   pub made_done : (xs : List A) → Made f d n xs n → xs ≡ list_of f n
   made_done xs m =
       ext_get_or d xs (list_of f n) (m.len ∙ sym (length_list_of f n))
-      (λ k l. let lk : k < n = rw m.len at l in m.below k lk ∙ sym (get_d_list_of f n k d lk))
+      (λ k l. let lk : k < n = rw m.len at l in m.below k lk ∙ sym (get_or_list_of f n k d lk))

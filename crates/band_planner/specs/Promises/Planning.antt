@@ -1,6 +1,5 @@
 -- What the plan check and the planner return, and what they leave.
-use Rattle.std.specs.Prelude.{◌≡◌, Bool, not, List, ℕ}
-use Rattle.std.specs.Prelude.{if◌then◌else◌}
+use Rattle.std.specs.Prelude.{◌≡◌, Bool, not, List, ℕ, if◌then◌else◌}
 use Rattle.automaton.specs.Shape.{Bound}
 use Rattle.automaton.specs.Bands.{plannable, plan_of}
 use Rattle.grammar.specs.Checking.{words_after}

@@ -1,7 +1,6 @@
 -- The relative indices that are written in the tokens of a table, from one position up to another.
-use Rattle.std.specs.Prelude.{◌≡◌, Bool, ◌&&◌, ◌||◌, List, [], ◌∷◌, ◌++◌, ℕ, zero, suc, ◌+◌, ◌≤◌, eqb, ltb, length}
+use Rattle.std.specs.Prelude.{◌≡◌, Bool, ◌&&◌, ◌||◌, List, [], ◌∷◌, ◌++◌, ℕ, zero, suc, ◌+◌, ◌≤◌, eqb, ltb, length, if◌then◌else◌}
 use Rattle.value.specs.Limits.{most_open}
-use Rattle.std.specs.Prelude.{if◌then◌else◌}
 use Rattle.token.specs.Kind.{keyword, delimiter}
 use Rattle.program.specs.Syntax.{Range}
 use Rattle.cell_meaning.specs.Written.{Relative, relative_of}

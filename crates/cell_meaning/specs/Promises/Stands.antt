@@ -1,10 +1,9 @@
 -- The word table as the evaluators read it, and what it is for an expression, for statements and for a program to stand in it (docs/LAYOUT.md).
 -- Past the last token every word is 0. A link is read so that it leads forward: one that does not counts as the end. So whoever follows
 -- links comes to an end, whatever the table holds.
-use Rattle.std.specs.Prelude.{◌≡◌, Bool, true, false, ◌&&◌, ◌||◌, List, [], ◌∷◌, ℕ, zero, suc, ◌+◌, ◌<◌, ◌≤◌, eqb, ltb, ℤ}
+use Rattle.std.specs.Prelude.{◌≡◌, Bool, true, false, ◌&&◌, ◌||◌, List, [], ◌∷◌, ℕ, zero, suc, ◌+◌, ◌<◌, ◌≤◌, eqb, ltb, ℤ, if◌then◌else◌}
 use Rattle.std.proofs.Math.Option.{Option, none, some}
 use Rattle.value.specs.Limits.{most_open, most_turns}
-use Rattle.std.specs.Prelude.{if◌then◌else◌}
 use Rattle.value.specs.Worked.{decode_of, span_of}
 use Rattle.automaton.specs.Listed.{list_of}
 use Rattle.token.specs.Kind.{kind, keyword, operation, delimiter, level_of}

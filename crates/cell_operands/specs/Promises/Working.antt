@@ -1,8 +1,7 @@
 -- What the evaluators of expressions promise.
-use Rattle.std.specs.Prelude.{◌≡◌, List, ℕ, ◌+◌, ◌*◌, ◌<◌, ◌≤◌, length, ℤ}
+use Rattle.std.specs.Prelude.{◌≡◌, List, ℕ, ◌+◌, ◌*◌, ◌<◌, ◌≤◌, length, ℤ, if◌then◌else◌}
 use Rattle.value.specs.Limits.{most_tokens, most_names, most_open, most_dims, most_fields}
 use Rattle.value.specs.Promises.Buffers.{most_room}
-use Rattle.std.specs.Prelude.{if◌then◌else◌}
 use Rattle.value.specs.Worked.{value}
 use Rattle.value.specs.declared.Value.{Value}
 use Rattle.automaton.specs.Step.{Outcome, result, fault}

@@ -16,8 +16,7 @@ use spelling::told_part;
 
 // How many border rows a band has: returns the reply's number. `reply` gets number, place, the rows before and behind, and the spelling: where it is, its
 // first byte and its length.
-#[unsafe(no_mangle)]
-pub extern "C" fn cellang_border_rows(
+pub fn cellang_border_rows(
     source: &[u8],
     list: &[u8],
     words: &mut [u32],
@@ -43,8 +42,7 @@ pub extern "C" fn cellang_border_rows(
 }
 
 // Checks a plan, and returns the reply's number. `reply` gets number and place, and the spelling: where it is, its first byte and its length.
-#[unsafe(no_mangle)]
-pub extern "C" fn cellang_check_plan(
+pub fn cellang_check_plan(
     source: &[u8],
     list: &[u8],
     words: &mut [u32],
@@ -71,8 +69,7 @@ pub extern "C" fn cellang_check_plan(
 
 // Plans the bands, and returns the reply's number. `reply` gets number, place and how many bands there are, and the spelling: where it is, its first byte
 // and its length.
-#[unsafe(no_mangle)]
-pub extern "C" fn cellang_plan_bands(
+pub fn cellang_plan_bands(
     source: &[u8],
     list: &[u8],
     words: &mut [u32],
@@ -99,8 +96,7 @@ pub extern "C" fn cellang_plan_bands(
 }
 
 // One band's step, from the band's old rows with borders and the time alone: returns the reply's number. `report` gets that of a run of one step.
-#[unsafe(no_mangle)]
-pub extern "C" fn cellang_step_band(
+pub fn cellang_step_band(
     source: &[u8],
     list: &[u8],
     words: &mut [u32],
@@ -136,8 +132,7 @@ pub extern "C" fn cellang_step_band(
 }
 
 // A full run under a plan, with a value list; it keeps row counts if `counted` is not 0: returns the reply's number. `report` gets that of a run.
-#[unsafe(no_mangle)]
-pub extern "C" fn cellang_run_banded(
+pub fn cellang_run_banded(
     source: &[u8],
     list: &[u8],
     words: &mut [u32],

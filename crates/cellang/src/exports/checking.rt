@@ -9,8 +9,7 @@ use spelling::told_part;
 
 // Checks a source, and returns the reply's number. `reply` gets number and place, and the spelling: where it
 // is, its first byte and its length.
-#[unsafe(no_mangle)]
-pub extern "C" fn cellang_check(
+pub fn cellang_check(
     source: &[u8],
     list: &[u8],
     words: &mut [u32],

@@ -5,8 +5,7 @@ use api_comparison::compare;
 use api_entries::put_comparison;
 
 // Lists the entries in which two grids differ, as `compare` does, and returns the reply's number. Writes number and total to `reply`.
-#[unsafe(no_mangle)]
-pub extern "C" fn cellang_compare(
+pub fn cellang_compare(
     left: &[i32],
     right: &[i32],
     k: usize,

@@ -10,8 +10,7 @@ use crate::exports::telling::run_told;
 use run_steps::Manner;
 
 // The full run with a value list. The counts are those of the grid that is left; after a refusal they are as they were.
-#[unsafe(no_mangle)]
-pub extern "C" fn cellang_run_full_counts(
+pub fn cellang_run_full_counts(
     source: &[u8],
     list: &[u8],
     words: &mut [u32],
@@ -51,8 +50,7 @@ pub extern "C" fn cellang_run_full_counts(
 }
 
 // The quiet run, likewise.
-#[unsafe(no_mangle)]
-pub extern "C" fn cellang_run_quiet_counts(
+pub fn cellang_run_quiet_counts(
     source: &[u8],
     list: &[u8],
     words: &mut [u32],
@@ -93,8 +91,7 @@ pub extern "C" fn cellang_run_quiet_counts(
 }
 
 // The pausing run, likewise.
-#[unsafe(no_mangle)]
-pub extern "C" fn cellang_run_pausing_counts(
+pub fn cellang_run_pausing_counts(
     source: &[u8],
     list: &[u8],
     words: &mut [u32],
@@ -135,8 +132,7 @@ pub extern "C" fn cellang_run_pausing_counts(
 }
 
 // The resuming run, likewise: the counts are filled anew from the grid.
-#[unsafe(no_mangle)]
-pub extern "C" fn cellang_run_resuming_counts(
+pub fn cellang_run_resuming_counts(
     source: &[u8],
     list: &[u8],
     words: &mut [u32],

@@ -11,8 +11,7 @@ use run_steps::Manner;
 
 // Runs a source on a grid with the blocks of a value list. Each step evaluates every cell. Returns the reply's number.
 // `report` is written as by the run without a list.
-#[unsafe(no_mangle)]
-pub extern "C" fn cellang_run_full_list(
+pub fn cellang_run_full_list(
     source: &[u8],
     list: &[u8],
     words: &mut [u32],
@@ -52,8 +51,7 @@ pub extern "C" fn cellang_run_full_list(
 
 // Runs a source on a grid with the blocks of a value list. Each step evaluates the open cells alone. Returns the reply's number.
 // `report` is written as by the full run; but for the count its numbers are the full run's, and so is the grid.
-#[unsafe(no_mangle)]
-pub extern "C" fn cellang_run_quiet_list(
+pub fn cellang_run_quiet_list(
     source: &[u8],
     list: &[u8],
     words: &mut [u32],

@@ -11,8 +11,7 @@ use run_steps::Manner;
 
 // Runs a source on a grid with the blocks of a value list. Each step evaluates the open cells alone. Returns the reply's number. After success the marks
 // are left standing: 1 for a cell that one more step would open, else 0. `report` is written as by the quiet run, and is the same.
-#[unsafe(no_mangle)]
-pub extern "C" fn cellang_run_pausing(
+pub fn cellang_run_pausing(
     source: &[u8],
     list: &[u8],
     words: &mut [u32],
@@ -53,8 +52,7 @@ pub extern "C" fn cellang_run_pausing(
 
 // The same, begun from the marks that are passed: in the first step those cells are open whose mark is not 0, and those that its block or `time` opens. The
 // marks may be any; what joins an earlier run are those that it left.
-#[unsafe(no_mangle)]
-pub extern "C" fn cellang_run_resuming(
+pub fn cellang_run_resuming(
     source: &[u8],
     list: &[u8],
     words: &mut [u32],

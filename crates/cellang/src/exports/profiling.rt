@@ -8,8 +8,7 @@ use move_profile::check_one_move;
 
 // Whether a source moves a pixel once: returns the number of the first rule of the profile that it misses, 0 for none. `reply` gets that rule, and number
 // and place of the reply where the source is refused.
-#[unsafe(no_mangle)]
-pub extern "C" fn cellang_check_one_move(
+pub fn cellang_check_one_move(
     source: &[u8],
     list: &[u8],
     words: &mut [u32],

@@ -11,8 +11,7 @@ use run_steps::Manner;
 
 // Runs a source on a grid, each step of which evaluates every cell, and returns the reply's number.
 // `report` gets number, place, cell, steps and count, the spelling: where it is, its first byte and its length, and the line of a value list.
-#[unsafe(no_mangle)]
-pub extern "C" fn cellang_run_full(
+pub fn cellang_run_full(
     source: &[u8],
     list: &[u8],
     words: &mut [u32],
@@ -51,8 +50,7 @@ pub extern "C" fn cellang_run_full(
 
 // Runs a source on a grid, each step of which evaluates the open cells alone, and returns the reply's number.
 // `report` is written as by the full run; but for the count its numbers are the full run's, and so is the grid.
-#[unsafe(no_mangle)]
-pub extern "C" fn cellang_run_quiet(
+pub fn cellang_run_quiet(
     source: &[u8],
     list: &[u8],
     words: &mut [u32],

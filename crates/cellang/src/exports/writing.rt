@@ -10,8 +10,7 @@ use spelling::told_part;
 
 // Writes the list that leads from the earlier grid to the later at a time, and returns the reply's number.
 // `reply` gets number, place and the text's length, and the spelling: where it is, its first byte and its length.
-#[unsafe(no_mangle)]
-pub extern "C" fn cellang_write_list(
+pub fn cellang_write_list(
     source: &[u8],
     list: &[u8],
     words: &mut [u32],

@@ -13,7 +13,7 @@ use lib.IntN.{ℤ, pos}
 use borrow.Author.Tests.{ltb-false, ltb-true}
 use Rattle.value.specs.Number.{eq_z}
 use Rattle.value.proofs.Theorems.Laws.{never, and_both}
-use Rattle.automaton.specs.Promises.ListedLaws.{get_d_list_of}
+use Rattle.automaton.specs.Promises.ListedLaws.{get_or_list_of}
 use Rattle.automaton.specs.Shape as shape
 use Rattle.automaton.specs.Promises.ShapeLaws.{Positive}
 use Rattle.automaton.specs.Grid.{cell_of}
@@ -128,7 +128,7 @@ lines_length sizes fields t (cell is vs ∷ ss) false g = lines_length sizes fie
 module _ (f : ℕ) (p : Program) (h : OneMove f p) (sizes : List ℕ) (dims : length sizes ≡ p.dims) (positive : Positive sizes) where
   flag_entry : (g : List ℤ) (c : ℕ) → flag f p h sizes dims positive g c ≡ get_or g (c * length p.fields + f) (pos 0)
   unfolding cell_of
-  flag_entry g c = get_d_list_of (λ k. get_or g (c * length p.fields + k) (pos 0)) (length p.fields) f (pos 0) h.has
+  flag_entry g c = get_or_list_of (λ k. get_or g (c * length p.fields + k) (pos 0)) (length p.fields) f (pos 0) h.has
 
   -- the blocks of a list that passes with the flag keep every flag that is 1
   pub list_keeps : (q : Limits) → q.fields ≡ p.fields → q.flag ≡ some f → (text : List ℕ) → LinePasses q none 1 (said text)

@@ -17,7 +17,7 @@ use Rattle.std.specs.Prelude.{if◌then◌else◌}
 use Rattle.value.specs.Number.{within}
 use Rattle.value.proofs.Theorems.Laws.{and_both, never}
 use Rattle.automaton.specs.Listed.{list_of}
-use Rattle.automaton.specs.Promises.ListedLaws.{length_list_of, get_d_list_of}
+use Rattle.automaton.specs.Promises.ListedLaws.{length_list_of, get_or_list_of}
 use Rattle.automaton.specs.Shape.{product, coordinates}
 use Rattle.automaton.specs.Promises.ShapeLaws.{Inside, Positive}
 use Rattle.automaton.proofs.ShapeLaws.{inside_length, coordinates_inside, number_coordinates}
@@ -120,7 +120,7 @@ module _ (sizes : List ℕ) (fields : List Range) (flag : Option ℕ) (earlier l
 
     field_at : (g : List ℤ) (k : ℕ) → k < length fields → get_or (cell_of (length fields) g c) k (pos 0) ≡ get_or g (c * length fields + k) (pos 0)
     unfolding cell_of
-    field_at g k h = get_d_list_of _ (length fields) k (pos 0) h
+    field_at g k h = get_or_list_of _ (length fields) k (pos 0) h
 
     all_writable : All WritableField (shown flag (cell_of (length fields) later c))
     unfolding cell_of

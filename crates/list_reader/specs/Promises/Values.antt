@@ -1,7 +1,6 @@
 -- What the functions that read values promise.
-use Rattle.std.specs.Prelude.{◌≡◌, Bool, true, false, not, ◌&&◌, List, [], ℕ, ◌≤◌, ◌<◌, length, drop, ltb, ℤ}
+use Rattle.std.specs.Prelude.{◌≡◌, Bool, true, false, not, ◌&&◌, List, [], ℕ, ◌≤◌, ◌<◌, length, drop, ltb, ℤ, if◌then◌else◌}
 use Rattle.std.proofs.Math.Option.{Option, some, none}
-use Rattle.std.specs.Prelude.{if◌then◌else◌}
 use Rattle.program.specs.Syntax.{Range}
 use Rattle.program.specs.declared.Rule.{Rule}
 use Rattle.cell_meaning.specs.Promises.Stands.{rule_table, ranges_in}

@@ -10,7 +10,7 @@ use mathlib.Core.Option.{Option, none, some}
 use lib.ListN.{length, get_or, length-set}
 use lib.Seq.{ext_get_or}
 use lib.IntN.{ℤ, pos}
-use Rattle.automaton.specs.Promises.ListedLaws.{length_list_of, get_d_list_of, list_of_ext}
+use Rattle.automaton.specs.Promises.ListedLaws.{length_list_of, get_or_list_of, list_of_ext}
 use Rattle.automaton.specs.Step.{Outcome, result, fault, Fault, no_fault, fault_at, fault_of, state_or, first_fault, Automaton, Run, one_more, grid_after, step_of, run_of}
 use Rattle.automaton.proofs.Theorems.Blocks.{no_blocks}
 use Rattle.automaton.proofs.Theorems.Quiet.{first_fault_none, run_go, run_stop}
@@ -34,8 +34,8 @@ grid_same fields cells g e = ext_get_or (pos 0) _ g (length_list_of _ (cells * f
   where
     at : (i : ℕ) → i < cells * fields → get_or (grid_of fields cells (cell_of fields g)) i (pos 0) ≡ get_or g i (pos 0)
     at i l =
-        get_d_list_of _ (cells * fields) i (pos 0) l
-        ∙ get_d_list_of _ fields (i % fields) (pos 0) (mod-lt i (some_field cells fields i l))
+        get_or_list_of _ (cells * fields) i (pos 0) l
+        ∙ get_or_list_of _ fields (i % fields) (pos 0) (mod-lt i (some_field cells fields i l))
         ∙ ap (λ (x : ℕ). get_or g x (pos 0)) (div-add-mod' i fields)
 
 no_fault_state : {S : Type 0} (c : ℕ) (o : Outcome S) → fault_of c o ≡ no_fault → (a : S) × (o ≡ result a)

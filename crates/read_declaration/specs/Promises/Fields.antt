@@ -1,7 +1,6 @@
 -- What reading the cell declaration promises: how the fields follow from the code's place of reading and the word table.
-use Rattle.std.specs.Prelude.{◌≡◌, Bool, true, ◌&&◌, List, ℕ, ◌+◌, ◌*◌, ◌≤◌, ◌<◌, min, length, get_or, eqb, leb, ltb, ℤ}
+use Rattle.std.specs.Prelude.{◌≡◌, Bool, true, ◌&&◌, List, ℕ, ◌+◌, ◌*◌, ◌≤◌, ◌<◌, min, length, get_or, eqb, leb, ltb, ℤ, if◌then◌else◌}
 use Rattle.value.specs.Limits.{most_dims, most_fields}
-use Rattle.std.specs.Prelude.{if◌then◌else◌}
 use Rattle.value.specs.Worked.{decode_of, encode_of}
 use Rattle.token.specs.declared.Token.{Token}
 use Rattle.token.specs.Kind.{keyword}

@@ -12,7 +12,7 @@ use borrow.Author.Tests.{ltb-true, ltb-false, lt-ltb}
 use Rattle.token.proofs.Scans.{words_long}
 use Rattle.value.specs.Limits.{most_open}
 use Rattle.value.specs.Worked.{decode_of}
-use Rattle.automaton.specs.Promises.ListedLaws.{length_list_of, get_d_list_of}
+use Rattle.automaton.specs.Promises.ListedLaws.{length_list_of, get_or_list_of}
 use Rattle.token.specs.declared.Token.{Token}
 use Rattle.token.specs.Kind.{kind, delimiter}
 use Rattle.token.specs.Lexeme.{find_kind, keywords}
@@ -270,7 +270,7 @@ linking source short t =
         let i = t.s₁.at + 2 + k in
         let m : i < tokens input = omega (arith, cell.long, cell.run.sound.within) in
         let w : (v : ℕ) → v < 4 → word_in t.s₃.words (tokens input) v i ≡ word_at t.s₂.words i v = λ v o. word_inside t.s₃.words (tokens input) v i m ∙ run.below (4 * i + v) (omega (arith, cell.long)) in
-        get_d_list_of _ (length t.declaration.fields) k no_range l ∙ ap₂ (λ (x y : ℕ). range (decode_of x) (decode_of y)) (w 2 (omega arith)) (w 3 (omega arith)) ∙ cell.ranges k l
+        get_or_list_of _ (length t.declaration.fields) k no_range l ∙ ap₂ (λ (x y : ℕ). range (decode_of x) (decode_of y)) (w 2 (omega arith)) (w 3 (omega arith)) ∙ cell.ranges k l
 
 -- where `time` stands in the statements, a token of the source is `time`
 pub timed_linked : {timed_expr : Expr → Bool} {timed_condition : Option Expr → Bool} {timed_clauses : List Clause → Bool} {timed : Block → Bool} → Timing timed_expr timed_condition timed_clauses timed → {source : List ℕ} {t : Trace source}

@@ -126,7 +126,7 @@ module _ {input : Input} {text : List ℕ} (T : Text input text) (cell : Cell) (
               let tb : Table = table_of wf (tokens input) cell.dims in
               let v₀ = first_behind T cell.dims x whole far p.at (t.at + 1) v in
               let v₁ : View input text cell.dims wf (advanced s) (advanced t) = record { final = v₀.final; later = v₀.later; known = v₀.known; clear = v₀.clear } in
-              let inner-is = first_inner T cell.dims x whole far p.at (t.at + 1) v (omega (arith, f.far)) f.run.sound.within in
+              let inner_is = first_inner T cell.dims x whole far p.at (t.at + 1) v (omega (arith, f.far)) f.run.sound.within in
               let past_is = first_past T cell.dims x whole far p.at (t.at + 1) v far last.sound.within in
               let more_loops : List Range = loops ++ (r ∷ []) in
               let part : Adds tb more_loops p.at (t.at + 1) (relatives_in_block more_loops body) =
@@ -135,7 +135,7 @@ module _ {input : Input} {text : List ℕ} (T : Text input text) (cell : Cell) (
               (adds_plain tb more_loops t.at (plain_of keyword.end (view_kind v b.0.sound t.at ∙ eqb-true _ _ n) refl))
               in
               adds_both tb loops
-              (adds_loop tb loops s.at (view_kind v x s.at ∙ eqb-true _ _ q) (omega (arith, deep, deep-free some_free)) (range_stands r f name_in a_name few₁ (signable_decoded r.low g.low_in) (signable_decoded r.high g.high_in) inner v₁) inner-is past_is far
+              (adds_loop tb loops s.at (view_kind v x s.at ∙ eqb-true _ _ q) (omega (arith, deep, deep-free some_free)) (range_stands r f name_in a_name few₁ (signable_decoded r.low g.low_in) (signable_decoded r.high g.high_in) inner v₁) inner_is past_is far
               (all_of tb more_loops part))
               more;
         }))))))))))))))

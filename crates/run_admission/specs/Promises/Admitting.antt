@@ -1,7 +1,6 @@
 -- What the functions that admit a run promise, by the definition of replies 20 to 22 and 24.
-use Rattle.std.specs.Prelude.{◌≡◌, Bool, true, not, ◌&&◌, List, [], ℕ, ◌+◌, ◌*◌, ◌≤◌, length, eqb, leb, ℤ, pos, nat_abs}
+use Rattle.std.specs.Prelude.{◌≡◌, Bool, true, not, ◌&&◌, List, [], ℕ, ◌+◌, ◌*◌, ◌≤◌, length, eqb, leb, ℤ, pos, nat_abs, if◌then◌else◌}
 use Rattle.value.specs.Limits.{most_along, most_cells}
-use Rattle.std.specs.Prelude.{if◌then◌else◌}
 use Rattle.automaton.specs.Shape.{product}
 use Rattle.automaton.specs.Promises.ShapeLaws.{Shaped}
 use Rattle.program.specs.Syntax.{Program}

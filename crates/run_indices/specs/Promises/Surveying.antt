@@ -1,8 +1,7 @@
 -- What the written indices of a program come to, counted one after another.
-use Rattle.std.specs.Prelude.{◌≡◌, Bool, false, ◌&&◌, ◌||◌, List, [], ◌∷◌, ℕ, suc, max, ◌<◌, ◌≤◌, eqb, ltb, ℤ, nat_abs, length, get_or, set, replicate}
+use Rattle.std.specs.Prelude.{◌≡◌, Bool, false, ◌&&◌, ◌||◌, List, [], ◌∷◌, ℕ, suc, max, ◌<◌, ◌≤◌, eqb, ltb, ℤ, nat_abs, length, get_or, set, replicate, if◌then◌else◌}
 use Rattle.std.proofs.Math.Option.{Option, some}
 use Rattle.value.specs.Limits.{most_open, most_dims}
-use Rattle.std.specs.Prelude.{if◌then◌else◌}
 use Rattle.automaton.specs.Shape.{Bound}
 use Rattle.token.specs.Kind.{keyword}
 use Rattle.program.specs.Syntax.{Range}

@@ -1,8 +1,7 @@
 -- What the loops do: the cells that a changed cell opens are noted in the marks.
-use Rattle.std.specs.Prelude.{◌≡◌, cond, List, [], ◌∷◌, ◌++◌, ℕ, zero, suc, ◌+◌, ◌-◌, ◌*◌, ◌/◌, ◌%◌, ◌<◌, ◌≤◌, min, length, get_or, set, ℤ, ltb}
+use Rattle.std.specs.Prelude.{◌≡◌, cond, List, [], ◌∷◌, ◌++◌, ℕ, zero, suc, ◌+◌, ◌-◌, ◌*◌, ◌/◌, ◌%◌, ◌<◌, ◌≤◌, min, length, get_or, set, ℤ, ltb, if◌then◌else◌}
 use Rattle.value.specs.Limits.{most_dims, most_cells}
 use Rattle.value.specs.Promises.Buffers.{place_words}
-use Rattle.std.specs.Prelude.{if◌then◌else◌}
 use Rattle.automaton.specs.Listed.{list_of}
 use Rattle.automaton.specs.Shape.{product, coordinates, Bound, width}
 use Rattle.automaton.specs.Promises.ShapeLaws.{Positive}

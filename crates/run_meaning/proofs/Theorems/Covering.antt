@@ -19,7 +19,7 @@ use Rattle.std.specs.Prelude.{if◌then◌else◌}
 use Rattle.value.specs.Worked.{span_of}
 use Rattle.value.proofs.Theorems.Laws.{never, and_both, gap, sub_le}
 use Rattle.automaton.specs.Listed.{list_of}
-use Rattle.automaton.specs.Promises.ListedLaws.{length_list_of, get_d_list_of, mem_list_of}
+use Rattle.automaton.specs.Promises.ListedLaws.{length_list_of, get_or_list_of, mem_list_of}
 use Rattle.automaton.specs.Step.{Blocks}
 use Rattle.automaton.proofs.Theorems.Quiet.{Lawful, QuietAgrees, quiet_agrees}
 use Rattle.automaton.specs.Shape.{cell_number, Bound, box_indices}
@@ -259,7 +259,7 @@ kept_entry : (loops : List Range) (vs : List ℤ) → InRanges loops vs → (is 
 kept_entry loops vs h is k u = by (ltb k (length loops)) refl
   where
     by : (t : Bool) → ltb k (length loops) ≡ t → entry (list_of (kept vs is) (length loops)) k ≡ entry vs k
-    by true e = get_d_list_of (kept vs is) (length loops) k (pos 0) (ltb-true k (length loops) e) ∙ rw u refl
+    by true e = get_or_list_of (kept vs is) (length loops) k (pos 0) (ltb-true k (length loops) e) ∙ rw u refl
     by false e =
         let l = ltb-false k (length loops) e in
         get_or-eq_default (list_of (kept vs is) (length loops)) (pos 0) {n = k} (omega (arith, length_list_of (kept vs is) (length loops)))

@@ -16,7 +16,7 @@ use Rattle.value.proofs.Theorems.Truth.{or_second}
 use Rattle.value.specs.Limits.{most_places}
 use Rattle.value.proofs.Theorems.Laws.{never}
 use Rattle.automaton.specs.Listed.{list_of}
-use Rattle.automaton.specs.Promises.ListedLaws.{length_list_of, get_d_list_of, mem_list_of, of_mem_list_of}
+use Rattle.automaton.specs.Promises.ListedLaws.{length_list_of, get_or_list_of, mem_list_of, of_mem_list_of}
 use Rattle.automaton.specs.Shape.{product, coordinates, Bound, width, indices_at, box_indices}
 use Rattle.automaton.specs.Promises.ShapeLaws.{Inside, Positive, AllWithin}
 use Rattle.automaton.proofs.ShapeLaws.{coordinates_inside, mem_box}
@@ -265,7 +265,7 @@ used_at : (loops : List Range) (is : List Index) (k : ℕ) → uses k is ≡ tru
 used_at loops is k u = by (ltb k (length loops)) refl
   where
     by : (t : Bool) → ltb k (length loops) ≡ t → get_or (used_ranges loops is) k no_range ≡ get_or loops k no_range
-    by true e = get_d_list_of (used_range loops is) (length loops) k no_range (ltb-true k (length loops) e) ∙ rw u refl
+    by true e = get_or_list_of (used_range loops is) (length loops) k no_range (ltb-true k (length loops) e) ∙ rw u refl
     by false e =
         let l = ltb-false k (length loops) e in
         get_or-eq_default (used_ranges loops is) no_range {n = k} (omega (arith, length_list_of (used_range loops is) (length loops)))

@@ -15,7 +15,7 @@ use lib.IntN.{ℤ, pos, negsuc, ◌+ℤ◌, ◌-ℤ◌, +ℤ_comm, +ℤ-neg_ℤ_
 use Rattle.value.specs.Limits.{most_places}
 use Rattle.value.proofs.Theorems.Laws.{never, and_both}
 use Rattle.automaton.specs.Listed.{list_of}
-use Rattle.automaton.specs.Promises.ListedLaws.{length_list_of, get_d_list_of, of_mem_list_of}
+use Rattle.automaton.specs.Promises.ListedLaws.{length_list_of, get_or_list_of, of_mem_list_of}
 use Rattle.automaton.specs.Shape.{cell_number}
 use Rattle.automaton.specs.Promises.ShapeLaws.{Inside}
 use Rattle.automaton.proofs.ShapeLaws.{coordinates_inside, number_coordinates}
@@ -58,7 +58,7 @@ unused_zero : (loops : List Range) (is : List Index) (vs : List ℤ) → InRange
 unused_zero loops is vs h k u = zero_alone (entry vs k) (subst (λ (r : Range). in_field r (entry vs k) ≡ true) (by (ltb k (length loops)) refl) (in_at (used_ranges loops is) vs h k))
   where
     by : (t : Bool) → ltb k (length loops) ≡ t → get_or (used_ranges loops is) k no_range ≡ no_range
-    by true e = get_d_list_of (used_range loops is) (length loops) k no_range (ltb-true k (length loops) e) ∙ rw u refl
+    by true e = get_or_list_of (used_range loops is) (length loops) k no_range (ltb-true k (length loops) e) ∙ rw u refl
     by false e =
         get_or-eq_default (used_ranges loops is) no_range {n = k} (omega (arith, length_list_of (used_range loops is) (length loops), ltb-false k (length loops) e))
 

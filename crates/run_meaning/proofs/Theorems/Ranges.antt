@@ -12,7 +12,7 @@ use lib.IntN.{ℤ, pos}
 use borrow.Author.Tests.{eqb-true, eq-eqb}
 use Rattle.std.specs.Prelude.{if◌then◌else◌}
 use Rattle.value.proofs.Theorems.Laws.{never, and_both}
-use Rattle.automaton.specs.Promises.ListedLaws.{length_list_of, get_d_list_of}
+use Rattle.automaton.specs.Promises.ListedLaws.{length_list_of, get_or_list_of}
 use Rattle.automaton.specs.Step.{Outcome, result, fault, Fault, no_fault, fault_at, Blocks, Step, Quiet, marks_of, touched, open_in, state_or, marked, grid_after, step_of, quiet_outcome, quiet_step, run_of, quiet_run}
 use Rattle.automaton.proofs.Theorems.Quiet.{run_go, run_stop, quiet_then, quiet_run_from}
 use Rattle.automaton.specs.Shape.{product, neighbour}
@@ -91,7 +91,7 @@ module _ (p : Program) (sizes : List ℕ) where
           let n = length p.fields in
           let size = h.entries in
           let room : c * n + k < length g = omega (arith, mul-le-mul_right n l) in
-          subst₂_in (mul-add-mod_self_right c n k ∙ mod-eq_of_lt m) (sym (get_d_list_of (λ (i : ℕ). get_or g (c * n + i) (pos 0)) n k (pos 0) m)) (entry_in_range h (c * n + k) room)
+          subst₂_in (mul-add-mod_self_right c n k ∙ mod-eq_of_lt m) (sym (get_or_list_of (λ (i : ℕ). get_or g (c * n + i) (pos 0)) n k (pos 0) m)) (entry_in_range h (c * n + k) room)
         where
           subst₂_in : {i j : ℕ} {x y : ℤ} → i ≡ j → x ≡ y → in_field (get_or p.fields i no_range) x ≡ true → in_field (get_or p.fields j no_range) y ≡ true
           subst₂_in {i} {j} {x} {y} a b t = ap₂ (λ (m : ℕ) (z : ℤ). in_field (get_or p.fields m no_range) z) (sym a) (sym b) ∙ t
@@ -105,7 +105,7 @@ module _ (p : Program) (sizes : List ℕ) where
       at k l =
           let n = length p.fields in
           let m : k < product sizes * n = subst (λ (x : ℕ). k < x) (length_list_of _ (product sizes * n)) l in
-          ap (in_field (get_or p.fields (k % n) no_range)) (get_d_list_of (λ (e : ℕ). get_or (s (e / n)) (e % n) (pos 0)) (product sizes * n) k (pos 0) m)
+          ap (in_field (get_or p.fields (k % n) no_range)) (get_or_list_of (λ (e : ℕ). get_or (s (e / n)) (e % n) (pos 0)) (product sizes * n) k (pos 0) m)
           ∙ in_at p.fields (s (k / n)) (h (k / n) ((div-lt_iff_lt-mul (some_field (product sizes) n k m)).1 m)) (k % n)
 
   -- ---- a step, under any marks or none

@@ -8,7 +8,7 @@ use lib.Seq.{ext_get_or}
 use lib.IntN.{ℤ, pos}
 use Rattle.value.specs.Worked.{decode_of}
 use Rattle.automaton.specs.Listed.{list_of}
-use Rattle.automaton.specs.Promises.ListedLaws.{length_list_of, get_d_list_of}
+use Rattle.automaton.specs.Promises.ListedLaws.{length_list_of, get_or_list_of}
 use Rattle.cell_meaning.specs.Evaluation.{offsets}
 use Rattle.cell_meaning.specs.Places.{own_place}
 use Rattle.run_meaning.specs.declared.Bounds.{Bounds}
@@ -30,7 +30,7 @@ own_bounds dims =
     ext_get_or own_only _ _ (length_list_of (bound_at none) dims ∙ sym (length-replicate dims own_only))
     (λ k l.
     let m : k < dims = omega (arith, l, length_list_of (bound_at none) dims) in
-    get_d_list_of (bound_at none) dims k own_only m ∙ own_bound k ∙ sym (get_or-replicate dims k own_only own_only m))
+    get_or_list_of (bound_at none) dims k own_only m ∙ own_bound k ∙ sym (get_or-replicate dims k own_only own_only m))
 
 zero_word : (n k : ℕ) → ◌≡◌ {A = ℕ} (get_or (replicate n 0) k 0) 0
 zero_word zero k = refl
@@ -49,7 +49,7 @@ own_first dims =
     ext_get_or (pos 0) _ _ (length_list_of f dims ∙ sym (offsets_length dims [] []))
     (λ k l.
     let m : k < dims = omega (arith, l, length_list_of f dims) in
-    get_d_list_of f dims k (pos 0) m ∙ ap decode_of (zero_word 768 (3 * 0 + k)) ∙ sym (zero_index dims k))
+    get_or_list_of f dims k (pos 0) m ∙ ap decode_of (zero_word 768 (3 * 0 + k)) ∙ sym (zero_index dims k))
 
 pub returns : goal.returns
 unfolding list_of

@@ -1,8 +1,7 @@
 -- What the functions over one relative index promise.
-use Rattle.std.specs.Prelude.{◌≡◌, Bool, true, false, List, ℕ, ◌*◌, ◌<◌, ◌≤◌, min, eqb, ltb, ℤ, pos, ◌+ℤ◌, length, get_or}
+use Rattle.std.specs.Prelude.{◌≡◌, Bool, true, false, List, ℕ, ◌*◌, ◌<◌, ◌≤◌, min, eqb, ltb, ℤ, pos, ◌+ℤ◌, length, get_or, if◌then◌else◌}
 use Rattle.std.proofs.Math.Option.{Option, none, some}
 use Rattle.value.specs.Limits.{most_places}
-use Rattle.std.specs.Prelude.{if◌then◌else◌}
 use Rattle.value.specs.Number.{in_range}
 use Rattle.value.specs.Worked.{decode_of, span_of}
 use Rattle.automaton.specs.Listed.{list_of}

@@ -1,7 +1,6 @@
 -- The spelling of a reply as bytes, and what the functions promise of it.
-use Rattle.std.specs.Prelude.{◌≡◌, true, false, List, [], ◌∷◌, ℕ, ◌+◌, ◌≤◌, length, take, drop}
+use Rattle.std.specs.Prelude.{◌≡◌, true, false, List, [], ◌∷◌, ℕ, ◌+◌, ◌≤◌, length, take, drop, if◌then◌else◌}
 use Rattle.value.specs.Limits.{most_bytes}
-use Rattle.std.specs.Prelude.{if◌then◌else◌}
 use Rattle.token.specs.Lexeme.{is_built_in}
 use Rattle.spelling.specs.declared.Part.{Part}
 use Rattle.spelling.specs.declared.Told.{Told}

@@ -1,8 +1,7 @@
 -- What the functions of this crate promise, beside the definitions.
-use Rattle.std.specs.Prelude.{Bool, true, false, ◌&&◌, ◌||◌, ◌≡◌, List, [], ◌∷◌, ◌++◌, ℕ, ◌+◌, ◌-◌, ◌*◌, ◌≤◌, ◌<◌, length, take, drop, get_or, replicate, eqb}
+use Rattle.std.specs.Prelude.{Bool, true, false, ◌&&◌, ◌||◌, ◌≡◌, List, [], ◌∷◌, ◌++◌, ℕ, ◌+◌, ◌-◌, ◌*◌, ◌≤◌, ◌<◌, length, take, drop, get_or, replicate, eqb, if◌then◌else◌}
 use Rattle.std.proofs.Math.Seq.{slice}
 use Rattle.value.specs.Limits.{most_tokens}
-use Rattle.std.specs.Prelude.{if◌then◌else◌}
 use Rattle.token.specs.Bytes.{byte_kind, kind_of}
 use Rattle.token.specs.Lexeme.{Lexeme, Spelled, spelled, keywords, two_byte_tokens, starts, in_name, in_literal, extent, lexeme_of, word, digits, read_token}
 use Rattle.token.specs.Scanning.{blanks, token_from, stop_number, scan, token_words, scanned_words, scan_of}

@@ -1,6 +1,5 @@
 -- The line with the spelling's numbers, and what writing a line promises.
-use Rattle.std.specs.Prelude.{◌≡◌, List, ◌++◌, ℕ, ◌+◌, ◌^◌, ◌≤◌, ◌<◌, eqb, length, take}
-use Rattle.std.specs.Prelude.{if◌then◌else◌}
+use Rattle.std.specs.Prelude.{◌≡◌, List, ◌++◌, ℕ, ◌+◌, ◌^◌, ◌≤◌, ◌<◌, eqb, length, take, if◌then◌else◌}
 use Rattle.token.specs.Bytes.{as_bytes}
 use Rattle.program.specs.Refusal.{Refusal}
 use Rattle.grammar.specs.Decimal.{digits_of}

@@ -11,5 +11,5 @@ pub returns : goal.returns
 returns c =
     let l : Lent Name = lent c.args.source.now c.args.list.now c.args.sizes.now (memory c.args.words.now c.args.names.now c.args.grid.now c.args.scratch.now c.args.marks.now c.args.counts.now) c.args.values.now c.args.start c.args.steps c.args.counted c.args.field in
     let left = subst (λ (ns : List Name). RunLeaves row_names (manner_of c.args.manner c.args.marks.now) l c.ran-c.result.report (memory c.ran-c.new.words ns c.ran-c.new.grid c.ran-c.new.scratch c.ran-c.new.marks c.ran-c.new.counts))
-        (sym c.store_first.ensures) (read_times c.ranges.start c.ranges.steps (c.ran-c.ensures.stores c.args.names.now refl)) in
+    (sym c.store_first.ensures) (read_times c.ranges.start c.ranges.steps (c.ran-c.ensures.stores c.args.names.now refl)) in
     (left, run_agrees row_names c.args.manner l left, run_ranges row_names (manner_of c.args.manner c.args.marks.now) l left)
