@@ -8,7 +8,6 @@
 mod telling;
 
 use api_comparison::compare;
-use std::alloc::AllocError;
 use tool_console::grids::Grid;
 use tool_console::texts::{argument, argument_count, complain, is_word};
 use tool_console::{grids, rooms, shapes};
@@ -77,38 +76,38 @@ fn compare_and_tell(rt: &HostRuntime, left: &[i32], right: &[i32], sizes: &[u32]
     telling::tell_more(rt, said.total);
 }
 
-// Reads the grids, and compares them.
-fn compare_in_shape(rt: &HostRuntime, sizes: &[u32]) -> Result<(), AllocError> {
-    let mut left = rooms::numbers_room(rt.alloc())?;
+// Reads the grids, and compares them. Both rooms are made before a grid is read, so that no room is made in a place of its own and moved: a third would be more
+// than the stack has.
+fn compare_in_shape(rt: &HostRuntime, sizes: &[u32]) {
+    let mut left = rooms::numbers_room();
+    let mut right = rooms::numbers_room();
     let Grid::Taken(some) = grids::grid_argument(rt, 1, b"compare_grids: LEFT", &mut left) else {
-        return Ok(());
+        return;
     };
     let lefts = rooms::of_numbers(some, &left);
-    let mut right = rooms::numbers_room(rt.alloc())?;
     let Grid::Taken(others) = grids::grid_argument(rt, 2, b"compare_grids: RIGHT", &mut right)
     else {
-        return Ok(());
+        return;
     };
     let rights = rooms::of_numbers(others, &right);
     compare_and_tell(rt, &left[..lefts], &right[..rights], sizes);
-    Ok(())
 }
 
 // Takes the shape, if there is one.
-fn main(rt: HostRuntime) -> Result<(), AllocError> {
+fn main(rt: HostRuntime) {
     if !all_there(&rt) {
-        return Ok(());
+        return;
     }
     if !are_apart(&rt) {
-        return Ok(());
+        return;
     }
     let mut sizes = [0u32; MOST_DIMS];
     if argument_count(&rt) == 3 {
-        return compare_in_shape(&rt, &sizes[..0]);
+        compare_in_shape(&rt, &sizes[..0]);
+        return;
     }
     let dims = shapes::shape_argument(&rt, 3, b"compare_grids: SHAPE", &mut sizes);
     if dims > 0 {
-        return compare_in_shape(&rt, &sizes[..dims]);
+        compare_in_shape(&rt, &sizes[..dims]);
     }
-    Ok(())
 }

@@ -3,7 +3,6 @@ use crate::arguments::is_given;
 use crate::reports::has_begun;
 use list_writer::write_list;
 use run_steps::Report;
-use std::alloc::AllocError;
 use std::num::{wrapping_add_u64, wrapping_add_usize};
 use tool_console::places::wide;
 use tool_console::rooms;
@@ -99,21 +98,20 @@ fn write_between(
     earlier: &[i32],
     later: &[i32],
     time: i64,
-) -> Result<(), AllocError> {
+) {
     let list = spelling::BUILT_IN;
     let mut words = rooms::table_room();
     let mut names = [0u32; NAME_WORDS];
-    let mut room = rooms::text_room(rt.alloc())?;
+    let mut room = rooms::text_room();
     let written = write_list(
         source, &list, &mut words, &mut names, sizes, earlier, later, time, &mut room,
     );
     if written.number != 0 {
         complain_reply(rt, written.number);
-        return Ok(());
+        return;
     }
     let length = rooms::of_bytes(written.length as usize, &room);
     write_text(rt, &room[..length]);
-    Ok(())
 }
 
 // Writes the list of changes, if it is requested and the run began. The grid is at the start of the room, and the grid as it was before the
@@ -126,14 +124,14 @@ pub fn write(
     entries: usize,
     report: Report,
     start: i64,
-) -> Result<(), AllocError> {
+) {
     if !is_asked(rt) || !has_begun(report.number) {
-        return Ok(());
+        return;
     }
     if entries <= room.len() {
         let rest = room.len() - entries;
         if entries <= rest {
-            return write_between(
+            write_between(
                 rt,
                 source,
                 sizes,
@@ -143,5 +141,4 @@ pub fn write(
             );
         }
     }
-    Ok(())
 }

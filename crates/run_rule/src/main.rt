@@ -24,7 +24,6 @@ use api_naming::Ran;
 use arguments::{Order, Orders};
 use rows::write_grid;
 use run_steps::Report;
-use std::alloc::AllocError;
 use tool_console::grids::Grid;
 use tool_console::shapes::fields_of;
 use tool_console::texts::Text;
@@ -168,15 +167,15 @@ fn run_in_rooms(
     grid: &mut [i32],
     values: &[u8],
     order: Order,
-) -> Result<Outcome, AllocError> {
-    let mut scratch = rooms::scratch_room(rt.alloc())?;
-    let mut marks = rooms::bytes_room(rt.alloc())?;
+) -> Outcome {
+    let mut scratch = rooms::scratch_room();
+    let mut marks = rooms::bytes_room();
     if !pauses::read(rt, &mut scratch, &mut marks, cells, order) {
-        return Ok(Outcome::Refused);
+        return Outcome::Refused;
     }
     let kept = rooms::of_numbers(grid.len(), &scratch);
     let marked = rooms::of_bytes(cells, &marks);
-    Ok(Outcome::Told(run_counted(
+    Outcome::Told(run_counted(
         rt,
         source,
         sizes,
@@ -185,7 +184,7 @@ fn run_in_rooms(
         &mut marks[..marked],
         values,
         order,
-    )))
+    ))
 }
 
 // Runs a source on the grid at the start of a room, and writes what changed, if requested: then a copy of the grid as given follows it.
@@ -198,7 +197,7 @@ fn run_and_compare(
     count: usize,
     values: &[u8],
     order: Order,
-) -> Result<(), AllocError> {
+) {
     changes::keep(rt, room, count);
     let entries = rooms::of_numbers(count, room);
     let Outcome::Told(report) = run_in_rooms(
@@ -209,11 +208,19 @@ fn run_and_compare(
         &mut room[..entries],
         values,
         order,
-    )?
-    else {
-        return Ok(());
+    ) else {
+        return;
     };
-    changes::write(rt, source, sizes, room, entries, report, order.start)
+    changes::write(rt, source, sizes, room, entries, report, order.start);
+}
+
+// Whether standard input is left for GRID, which it is not where RULE has read it. If not, that is said.
+fn is_input_left(rt: &HostRuntime) -> bool {
+    if texts::is_argument(rt, 1, b"-") && texts::is_argument(rt, 6, b"-") {
+        texts::complain(rt, b"run_rule: GRID: Bad file descriptor\n");
+        return false;
+    }
+    true
 }
 
 // Reads the grid, and runs a source on it.
@@ -224,67 +231,62 @@ fn run_on_grid(
     cells: usize,
     values: &[u8],
     order: Order,
-) -> Result<(), AllocError> {
-    let mut grid = rooms::numbers_room(rt.alloc())?;
+) {
+    if !is_input_left(rt) {
+        return;
+    }
+    let mut grid = rooms::numbers_room();
     let Grid::Taken(count) = grids::grid_argument(rt, 6, b"run_rule: GRID", &mut grid) else {
-        return Ok(());
+        return;
     };
     if changes::can_be_kept(rt, count) && banded::can_be_held(rt, sizes, count, order) {
-        return run_and_compare(rt, source, sizes, cells, &mut grid, count, values, order);
+        run_and_compare(rt, source, sizes, cells, &mut grid, count, values, order);
     }
-    Ok(())
 }
 
 // Reads the value list.
-fn run_with_list(
-    rt: &HostRuntime,
-    source: &[u8],
-    sizes: &[u32],
-    cells: usize,
-    order: Order,
-) -> Result<(), AllocError> {
-    let mut room = rooms::list_room(rt.alloc())?;
+fn run_with_list(rt: &HostRuntime, source: &[u8], sizes: &[u32], cells: usize, order: Order) {
+    let mut room = rooms::list_room();
     let Text::Read(n) = values::list_argument(rt, &mut room) else {
-        return Ok(());
+        return;
     };
     let length = rooms::of_bytes(n, &room);
-    run_on_grid(rt, source, sizes, cells, &room[..length], order)
+    run_on_grid(rt, source, sizes, cells, &room[..length], order);
 }
 
 // Takes the other arguments, and reads the rule.
-fn run_in_shape(rt: &HostRuntime, sizes: &[u32]) -> Result<(), AllocError> {
+fn run_in_shape(rt: &HostRuntime, sizes: &[u32]) {
     let cells = shapes::cells_of(sizes);
     if cells > rooms::ROOM {
         texts::complain(rt, b"run_rule: SHAPE has more than 786432 cells\n");
-        return Ok(());
+        return;
     }
     let Orders::Taken(asked) = arguments::order_arguments(rt) else {
-        return Ok(());
+        return;
     };
     let manner = asked.manner;
     if !pauses::is_right(rt, manner) {
-        return Ok(());
+        return;
     }
     let mut source = io::large_buffer();
     let Text::Read(n) = texts::read_file(rt, 1, b"RULE", &mut source) else {
-        return Ok(());
+        return;
     };
     let length = rooms::of_bytes(n, &source);
     let Orders::Taken(order) = zeros::with_zeros(rt, &source[..length], asked) else {
-        return Ok(());
+        return;
     };
-    run_with_list(rt, &source[..length], sizes, cells, order)
+    run_with_list(rt, &source[..length], sizes, cells, order);
 }
 
 // Takes the shape.
-fn main(rt: HostRuntime) -> Result<(), AllocError> {
+fn main(rt: HostRuntime) {
     if !arguments::all_there(&rt) {
-        return Ok(());
+        return;
     }
     let mut sizes = [0u32; MOST_DIMS];
     let dims = shapes::shape_argument(&rt, 2, b"run_rule: SHAPE", &mut sizes);
     if dims > 0 {
-        return run_in_shape(&rt, &sizes[..dims]);
+        run_in_shape(&rt, &sizes[..dims]);
     }
-    Ok(())
 }

@@ -1,45 +1,44 @@
 // Rooms that a run is passed, and how much of them is used.
-ghost use Rattle.std.specs.Prelude.{◌≡◌, length, IfOk, vec_len};
+ghost use Rattle.std.specs.Prelude.{◌≡◌, length};
 ghost use Rattle.tool_console.specs.Promises.Rooms.{Kept};
 
-use std::alloc::{AllocError, Global};
 use value::limits::TABLE_WORDS;
 
 // How many entries, and how many cells, a grid may have here: as many entries as 512 x 512 cells with three fields have.
 pub const ROOM: usize = 786432;
 
-// Rooms of this size. The large rooms are on the heap: without the memory for one there is none.
-pub fn numbers_room(alloc: Global) -> Result<Vec<i32>, AllocError>
-    ensures { IfOk result (λ v. 786432 ≡ vec_len v) }
+// Rooms of this size.
+pub fn numbers_room() -> [i32; ROOM]
+    ensures { 786432 ≡ length result }
 {
-    Vec::from_elem(alloc, 0, ROOM)
+    [0; ROOM]
 }
 
-pub fn bytes_room(alloc: Global) -> Result<Vec<u8>, AllocError>
-    ensures { IfOk result (λ v. 786432 ≡ vec_len v) }
+pub fn bytes_room() -> [u8; ROOM]
+    ensures { 786432 ≡ length result }
 {
-    Vec::from_elem(alloc, 0, ROOM)
+    [0; ROOM]
 }
 
 // A room for scratch, by way of which a time and a mark for each cell are read.
-pub fn scratch_room(alloc: Global) -> Result<Vec<i32>, AllocError>
-    ensures { IfOk result (λ v. 786433 ≡ vec_len v) }
+pub fn scratch_room() -> [i32; 786433]
+    ensures { 786433 ≡ length result }
 {
-    Vec::from_elem(alloc, 0, 786433)
+    [0; 786433]
 }
 
-// A room for a value list.
-pub fn list_room(alloc: Global) -> Result<Vec<u8>, AllocError>
-    ensures { IfOk result (λ v. 524288 ≡ vec_len v) }
+// A room for a value list: as much as the stack has beside the other rooms.
+pub fn list_room() -> [u8; 524288]
+    ensures { 524288 ≡ length result }
 {
-    Vec::from_elem(alloc, 0, 524288)
+    [0; 524288]
 }
 
 // A room for a text that is written when scratch and marks are free again.
-pub fn text_room(alloc: Global) -> Result<Vec<u8>, AllocError>
-    ensures { IfOk result (λ v. 3145728 ≡ vec_len v) }
+pub fn text_room() -> [u8; 3145728]
+    ensures { 3145728 ≡ length result }
 {
-    Vec::from_elem(alloc, 0, 3145728)
+    [0; 3145728]
 }
 
 // A room for the rows of a band with its border rows: as much as the stack has beside the other rooms.
