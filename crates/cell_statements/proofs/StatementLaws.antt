@@ -163,7 +163,7 @@ module _ (t : Table) (env : Env) (vs : List ℤ) (depth n at : ℕ) (vars : List
             by_arm tt
             (λ c d e x next.
             decided y c d e x next
-            ∙ ap (λ (q : Block). exec env vs q (frame false vars next)) (x.rest.AtEnd (λ u. not_else (there ∙ u)) (λ u. not_elsif (there ∙ u))))
+            ∙ ap (λ (q : Block). exec env vs q (frame false vars next)) (x.rest.at_end (λ u. not_else (there ∙ u)) (λ u. not_elsif (there ∙ u))))
 
         pub arms_more : k ≡ 8 → arm < o → o < n → Arms o
         unfolding Elsif exec

@@ -94,9 +94,9 @@ module _ (source : List ℕ) (number place : ℕ) where
   at_no_token e = none (simp e)
 
   module _ (e : names_token number ≡ true) where
-    pub AtEnd : length source ≤ place → IsPart source number place (part false 0 0)
+    pub at_end : length source ≤ place → IsPart source number place (part false 0 0)
     unfolding part_at
-    AtEnd h = none (simp (e, le-leb (length source) place h))
+    at_end h = none (simp (e, le-leb (length source) place h))
 
     module _ (h : place < length source) where
       pub at_long : 65535 < length source → IsPart source number place (part false 0 0)

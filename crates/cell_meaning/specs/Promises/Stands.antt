@@ -151,7 +151,7 @@ ClausesAt t (c ∷ cs) at =
 pub record ElseAt (t : Table) (Part Arm : ℕ → Type 0) (None : Type 0) (at : ℕ) : Type 0 where
   pub at_else : t.kind at ≡ keyword.else → Part (at + 1)
   pub at_elsif : t.kind at ≡ keyword.elsif → Arm at
-  pub AtEnd : (t.kind at ≡ keyword.else → ⊥) → (t.kind at ≡ keyword.elsif → ⊥) → None
+  pub at_end : (t.kind at ≡ keyword.else → ⊥) → (t.kind at ≡ keyword.elsif → ⊥) → None
 
 -- an arm stands at its `if` or `elsif`
 pub record ArmAt (t : Table) (c : Expr) (Part Rest : ℕ → Type 0) (at : ℕ) : Type 0 where

@@ -300,7 +300,7 @@ module _ (f : ℕ) (ts : Tokens) (end : ts.table.kind ts.count ≡ 0) where
       → (c : Expr) (d e rest : Block) → Stands tb 0 (select c d e rest) i → Once f c d e × Blank rest
   unfolding opens_at Stands level_of
   once_at i o k z l c d e rest h = (
-    record { place = tb.place (i + 1 + 3); condition = same.0; last = lasts; no_else = h.1.rest.AtEnd (λ q. clash tb keyword.end keyword.else k q (λ z. omega arith)) (λ q. clash tb keyword.end keyword.elsif k q (λ z. omega arith)) },
+    record { place = tb.place (i + 1 + 3); condition = same.0; last = lasts; no_else = h.1.rest.at_end (λ q. clash tb keyword.end keyword.else k q (λ z. omega arith)) (λ q. clash tb keyword.end keyword.elsif k q (λ z. omega arith)) },
     blank_upto tb (suc ts.count) rest (tb.past i) h.2 z,
   )
     where

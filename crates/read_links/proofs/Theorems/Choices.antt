@@ -156,7 +156,7 @@ module _ {input : Input} {text : List ℕ} (T : Text input text) (cell : Cell) (
                 (record {
                   at_else = λ p. absurd (other_kind keyword.elsif keyword.else q (λ p. omega arith) (sym e ∙ p));
                   at_elsif = λ _. (refl, k.stands wf (view_from v (advanced noted) (omega (arith, one_far o)) (arm_known o k.run v)) (view_word v k.run.sound.within t.at 2 (omega (arith, one_far o)) k.far (omega arith)));
-                  AtEnd = λ p p'. absurd (p' (e ∙ eqb-true _ _ q));
+                  at_end = λ p p'. absurd (p' (e ∙ eqb-true _ _ q));
                 });
             adds = λ wf v loops deep.
                 arm_adds o k.run v loops deep
@@ -184,7 +184,7 @@ module _ {input : Input} {text : List ℕ} (T : Text input text) (cell : Cell) (
                 (record {
                   at_else = λ _. h.1 (other_kind keyword.end keyword.exit n (λ p. omega arith)) wf (view_from (first_part v last) (advanced noted) (omega (arith, one_far o)) (arm_known o (join r (join h.0 last)) v));
                   at_elsif = λ p. absurd (other_kind keyword.else keyword.elsif q (λ p. omega arith) (sym k ∙ p));
-                  AtEnd = λ p p'. absurd (p (k ∙ eqb-true _ _ q));
+                  at_end = λ p p'. absurd (p (k ∙ eqb-true _ _ q));
                 });
             adds = λ wf v loops deep.
                 arm_adds o (join r (join h.0 last)) v loops deep
@@ -212,7 +212,7 @@ module _ {input : Input} {text : List ℕ} (T : Text input text) (cell : Cell) (
                 (record {
                   at_else = λ p. absurd (other_kind keyword.end keyword.else q (λ p. omega arith) (sym k ∙ p));
                   at_elsif = λ p. absurd (other_kind keyword.end keyword.elsif q (λ p. omega arith) (sym k ∙ p));
-                  AtEnd = λ p p'. refl;
+                  at_end = λ p p'. refl;
                 });
             adds = λ wf v loops deep. arm_adds o r v loops deep (adds_plain _ loops t.at (plain_of keyword.end (view_kind v (one_run o).sound t.at ∙ eqb-true _ _ q) refl));
           }

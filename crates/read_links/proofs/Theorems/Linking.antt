@@ -206,7 +206,7 @@ unfolding kind_at
 linking source short t =
     record {
       body = whole.1 (λ e. omega (arith, t.stop)) t.s₃.words view;
-      indices = subst (λ (n : ℕ). Writes (table_of t.s₃.words (tokens input) t.declaration.cell.dims) [] t.s₂.at n (relatives_in_block [] t.body)) AtEnd (all_of _ [] (whole.3 t.s₃.words view [] refl));
+      indices = subst (λ (n : ℕ). Writes (table_of t.s₃.words (tokens input) t.declaration.cell.dims) [] t.s₂.at n (relatives_in_block [] t.body)) at_end (all_of _ [] (whole.3 t.s₃.words view [] refl));
       proper = whole.2;
       fields = ext_get_or no_range t.declaration.fields _ (sym (length_list_of _ (length t.declaration.fields))) (λ k l. sym (field k l));
       fields_inside = cell.long;
@@ -254,8 +254,8 @@ linking source short t =
       clear = t.clear;
     }
 
-    AtEnd : t.s₃.at ≡ tokens input
-    AtEnd = by (ltb t.s₃.at (tokens input)) refl
+    at_end : t.s₃.at ≡ tokens input
+    at_end = by (ltb t.s₃.at (tokens input)) refl
       where
         by : (c : Bool) → ltb t.s₃.at (tokens input) ≡ c → t.s₃.at ≡ tokens input
         by true e =

@@ -194,7 +194,7 @@ module _ {timed_expr : Expr → Bool} {timed_condition : Option Expr → Bool} {
       by : (a : Bool) → eqb (t.kind at) keyword.else ≡ a → (b : Bool) → eqb (t.kind at) keyword.elsif ≡ b → timed e ≡ false
       by true p b q = stands (at + 1) (x.at_else (eqb-true _ _ p))
       by false p true q = arms at (x.at_elsif (eqb-true _ _ q))
-      by false p false q = ap timed (x.AtEnd (eqb-false _ _ p) (eqb-false _ _ q)) ∙ T.of_empty
+      by false p false q = ap timed (x.at_end (eqb-false _ _ p) (eqb-false _ _ q)) ∙ T.of_empty
 
   -- as statements, and as an arm at `elsif`
   block_untimed : (b : Block) → Proper b → (depth : ℕ) → ((at : ℕ) → Stands t depth b at → timed b ≡ false) × ((at : ℕ) → Elsif t depth b at → timed b ≡ false)

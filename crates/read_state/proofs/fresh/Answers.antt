@@ -1,5 +1,6 @@
 use Rattle.grammar.specs.Reader.{fresh}
 use native.Mathlib.Omega.{arith}
+use borrow.Author.Rules.{rules}
 use mathlib.Core.Path.{◌∙◌, refl, sym}
 use borrow.Author.Tests.{eq-eqb, ne_eqb, le-leb, lt-leb}
 use Rattle.read_state.proofs.Steps.{on, so, other, not_false, not_true, token, stated, found_it, missed_it, refused, returned, advanced}
@@ -68,7 +69,6 @@ returns-in_default c =
     let if2 = c.if-t-eq-NAME in
     let find_name = c.find_name-f in
     let if3 = c.if-full-ne0 in
-    let if4 = c.if-s-lt-MOST_NAMES in
     let refuse2 = c.refuse-in_default in
     let y = refuse2.ensures in
     record {
@@ -79,7 +79,7 @@ returns-in_default c =
           (other _ _ (not_false (eq-eqb _ _ if2.true))
           (missed_it _ _ _ find_name.ensures c.in_default.is
           (other _ _ (not_false (eq-eqb _ _ if3.false))
-          (so _ _ (le-leb _ _ if4.false)
+          (so _ _ (le-leb 256 c.args.s.count (search rules))
           (refused _ y)))))));
       onward = nowhere y;
     }

@@ -8,4 +8,4 @@ returns-then-marks-at-ne0 c = scan_found _ _ _ c.loop-at.invariant.0 (search rul
 pub loop-at-preserved : goal.loop-at-preserved
 loop-at-preserved c =
     let l = c.loop-at in
-    (scan_more _ _ _ l.invariant.0 (search rules) c.if-marks-at-ne0.false c.skip_clear-at.ensures, l.invariant.1)
+    (scan_more _ _ _ l.invariant.0 (search rules) (search rules) c.skip_clear-at.ensures, l.invariant.1)
