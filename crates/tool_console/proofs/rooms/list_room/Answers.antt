@@ -1,5 +1,5 @@
 -- The length is not computed.
-use Rattle.std.proofs.Common.{ℕ, ℤ, pos}
+use Rattle.std.proofs.Common.{ℕ}
 use Rattle.tool_console.proofs.RoomLaws.{room_length}
 use Rattle.tool_console.proofs.rooms.list_room.Goals as goal
 
