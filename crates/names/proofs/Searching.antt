@@ -8,12 +8,11 @@ use mathlib.Core.Bool.{Bool, true, false, not, ◌&&◌}
 use mathlib.Core.Option.{none, some}
 use lib.Dec.{eqb}
 use borrow.Author.Tests.{ne_eqb}
-use Rattle.std.specs.Prelude.{if◌then◌else◌}
+use Rattle.std.specs.Prelude.{Some, None, if◌then◌else◌}
 use Rattle.token.specs.Bytes.{same}
 use Rattle.names.specs.Names.{entry_at, entries_from, is_field, in_space, letters, find, find_name}
 use Rattle.names.specs.Promises.Finding.{match_of, Matches, found_of, Finds}
 use Rattle.names.specs.declared.Entry.{Entry}
-use Rattle.names.specs.declared.Found.TheVariants.{At, Missing}
 use Rattle.names.proofs.Spelling.{unlike}
 
 -- ---- which names are seen
@@ -75,7 +74,7 @@ module _ (source names : List ℕ) (count : ℕ) (fields : Bool) (start n : ℕ)
   seek_start = record { within = omega arith; left = rw (sub-zero count) }
 
   module _ (i : ℕ) (h : Seeks source names count fields start n i) where
-    pub seek_none : count ≤ i → Finds source names count fields start n Missing
+    pub seek_none : count ≤ i → Finds source names count fields start n None
     unfolding find entries_from
     seek_none l =
         let z : count - i ≡ 0 = omega arith in
@@ -92,7 +91,7 @@ module _ (source names : List ℕ) (count : ℕ) (fields : Bool) (start n : ℕ)
       pub seek_differs : b ≡ false → Seeks source names count fields start n (i + 1)
       seek_differs u = record { within = omega arith; left = h.left ∙ step ∙ rw u }
 
-      pub seek_found : b ≡ true → Finds source names count fields start n (At i)
+      pub seek_found : b ≡ true → Finds source names count fields start n (Some i)
       seek_found u = let q : find_name source names count fields start n ≡ some i = h.left ∙ step ∙ rw u in record { is = sym (ap found_of q); below = l }
 
 pub ruleset Searches =

@@ -12,19 +12,12 @@ pub mod kind;
 use value::tables::put_four;
 
 // A name: the place of its first byte, its length, its kind, and its value as a word.
-#[derive(Clone, Copy)]
+#[derive(Clone, Copy, Debug, PartialEq, Eq, Hash)]
 pub struct Entry {
     pub start: u32,
     pub len: u32,
     pub kind: u32,
     pub word: u32,
-}
-
-// The slot of a name, or that there is none.
-#[derive(Clone, Copy)]
-pub enum Found {
-    At(usize),
-    Missing,
 }
 
 // ---- slots
@@ -175,16 +168,14 @@ pub fn find_name(
     fields: bool,
     start: u32,
     len: u32,
-) -> Found
+) -> Option<usize>
     requires { (count ≤ most_names) × (length names.now ≡ name_words) }
     ensures { Finds source.now names.now count fields start len result }
 {
-    let mut i: usize = 0;
-    while i < count {
+    for i in 0..count {
         if matches(source, names, i, fields, start, len) {
-            return Found::At(i);
+            return Some(i);
         }
-        i += 1;
     }
-    Found::Missing
+    None
 }

@@ -7,6 +7,8 @@ ghost use Rattle.token.specs.Scanning.{kind_in};
 ghost use Rattle.program.specs.Table.{word_at, with_word};
 ghost use Rattle.program.specs.Promises.Standing.{Stands};
 
+pub mod reply;
+
 use token::{Scan, Token, kind};
 use value::limits::MOST_TOKENS;
 
