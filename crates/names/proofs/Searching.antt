@@ -4,7 +4,7 @@ use native.Mathlib.Omega.{arith}
 use native.Mathlib.Nat.{sub-zero}
 use mathlib.Core.Path.{◌≡◌, refl, sym, ap, ◌∙◌}
 use mathlib.Core.List.{List}
-use mathlib.Core.Bool.{Bool, true, false, not, ◌&&◌}
+use mathlib.Core.Bool.{Bool, true, false, not, ◌&&◌, beq}
 use mathlib.Core.Option.{none, some}
 use lib.Dec.{eqb}
 use borrow.Author.Tests.{ne_eqb}
@@ -18,7 +18,7 @@ use Rattle.names.proofs.Spelling.{unlike}
 -- ---- which names are seen
 
 module _ (e : Entry) where
-  pub field_plain : e.kind ≡ 3 → true ≡ is_field e
+  pub field_plain : e.kind ≡ 3 → eqb e.kind 3 ≡ is_field e
   unfolding is_field
   field_plain k = simp k
 
@@ -26,14 +26,15 @@ module _ (e : Entry) where
   unfolding is_field
   field_const d = simp (ne_eqb _ _ d)
 
-  module _ {fields r : Bool} where
-    pub space_fields : fields ≡ true → r ≡ is_field e → r ≡ in_space fields e
-    unfolding in_space
-    space_fields h q = rw h q
-
-    pub space_other : fields ≡ false → {f : Bool} → f ≡ is_field e → r ≡ not f → r ≡ in_space fields e
-    unfolding in_space
-    space_other h p q = q ∙ rw (h, p)
+  pub space_is : (fields : Bool) {r : Bool} → r ≡ is_field e → beq fields r ≡ in_space fields e
+  unfolding in_space
+  space_is fields q = rw q (by fields (is_field e))
+    where
+      by : (t r : Bool) → beq t r ≡ (if t then r else not r)
+      by true true = refl
+      by true false = refl
+      by false true = refl
+      by false false = refl
 
 -- ---- one name
 
@@ -95,4 +96,4 @@ module _ (source names : List ℕ) (count : ℕ) (fields : Bool) (start n : ℕ)
       seek_found u = let q : find_name source names count fields start n ≡ some i = h.left ∙ step ∙ rw u in record { is = sym (ap found_of q); below = l }
 
 pub ruleset Searches =
-    (field_plain, field_const, space_fields, space_other, match_length, match_space, match_letters, seek_start, seek_none, seek_differs, seek_found)
+    (field_plain, field_const, space_is, match_length, match_space, match_letters, seek_start, seek_none, seek_differs, seek_found)
