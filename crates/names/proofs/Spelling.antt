@@ -17,15 +17,18 @@ use Rattle.names.specs.Names.{letters}
 -- ---- a letter
 
 -- the library's lower case is the definition's
-pub lower_fold : {b r : ℕ} → LowercasesTo b r → r ≡ fold b
+lower_is : {b r : ℕ} → LowercasesTo b r → r ≡ fold b
 unfolding fold
-lower_fold {b} (inl (h, e)) = e ∙ simp (le-leb 65 b h.0, le-leb b 90 h.1)
-lower_fold {b} (inr (inl h, e)) = e ∙ simp (lt-leb 65 b h)
-lower_fold {b} (inr (inr h, e)) = e ∙ by (leb 65 b) (lt-leb b 90 h)
+lower_is {b} (inl (h, e)) = e ∙ simp (le-leb 65 b h.0, le-leb b 90 h.1)
+lower_is {b} (inr (inl h, e)) = e ∙ simp (lt-leb 65 b h)
+lower_is {b} (inr (inr h, e)) = e ∙ by (leb 65 b) (lt-leb b 90 h)
   where
     by : {u : Bool} (t : Bool) → u ≡ false → b ≡ (if t && u then b + 32 else b)
     by true q = simp q
     by false q = refl
+
+pub lower_fold : {a b r : ℕ} → LowercasesTo b r → b ≡ a → r ≡ fold a
+lower_fold h e = lower_is h ∙ ap fold e
 
 pub fold_end : (source : List ℕ) (i : ℕ) → length source ≤ i → 0 ≡ fold (get_or source i 0)
 unfolding fold

@@ -97,6 +97,7 @@ fn in_space(fields: bool, e: Entry) -> bool
 // ---- spelling
 
 // A byte of the source without letter case; 0 after the source's end.
+#[tactic(auto, using(crate::proofs::Spelling::lower_fold, crate::proofs::Spelling::fold_end))]
 pub fn folded(source: &[u8], i: usize) -> u32
     ensures { result ≡ fold (get_or source.now i 0) }
 {
