@@ -1,4 +1,5 @@
 -- No reason has the number 0, which says that nothing refuses. Assumes nothing.
+use Prim.Native.Nat.{ℕ}
 use mathlib.Core.Path.{◌≡◌, refl}
 use mathlib.Core.Bool.{false}
 use lib.Dec.{eqb}
@@ -48,3 +49,7 @@ never_none NoPlan = refl
 never_none WrongPlan = refl
 never_none RowCounts = refl
 never_none NoZeroRow = refl
+
+-- the number of a rule that is broken for a reason
+pub some_rule : (r : Reason) {n : ℕ} → reason_number r ≡ n → eqb n 0 ≡ false
+some_rule r e = rw (← e) (never_none r)

@@ -6,7 +6,7 @@ ghost use Rattle.value.specs.Limits.{most_tokens, table_words, most_names, name_
 ghost use Rattle.program.specs.Reason.{reason_number};
 ghost use Rattle.grammar.specs.Ranking.{rank, before, first_of, broken};
 ghost use Rattle.grammar.specs.Reader.{expect_or, forbid, opening, fresh};
-ghost use Rattle.read_state.specs.Promises.Reading.{anything, passed, Ready, Reads, Passes, note_refusal, refusal_noted, refusing, full_number, Moved, Carries, carrying_value, carrying_number, carrying_fields, carrying_more, Noted, Named, Declares, Released, Uses};
+ghost use Rattle.read_state.specs.Promises.Reading.{anything, passed, Ready, Reads, Passes, note_refusal, refusal_noted, refusing, rule_number, Moved, Carries, carrying_value, carrying_number, carrying_fields, carrying_more, Noted, Named, Declares, Released, Uses};
 
 use names::{Entry, find_name, write_entry};
 use program::reply::{Reason, Refusal};
@@ -231,7 +231,7 @@ pub fn fresh(
     full: Option<Reason>,
 ) -> Read
     requires { Ready scan (length names.now) (length words.now) s }
-    ensures { Reads passed (fresh fields (full_number full)) source.now scan 255 s names.now words.now result names.now words.now }
+    ensures { Reads passed (fresh fields (rule_number full)) source.now scan 255 s names.now words.now result names.now words.now }
 {
     let t = token_at(words, scan, s.at);
     if !is_name(t) {

@@ -134,10 +134,10 @@ first_refused a b = Err (first_of a b)
 abbrev pub refusing : List ℕ → Scan → Reading → ℕ → ℕ → Read
 refusing ws scan s i n = first_refused (noted_in s) (broken n (token_in ws scan i))
 
--- the number of the rule that refuses a name where no more are taken; 0: none
-abbrev pub full_number : rust.Option Reason → ℕ
-full_number None = 0
-full_number (Some reason) = reason_number reason
+-- the number of the rule that is broken, for a reason; 0: none
+abbrev pub rule_number : rust.Option Reason → ℕ
+rule_number None = 0
+rule_number (Some reason) = reason_number reason
 
 -- one name less
 abbrev pub released_of : Reading → Reading
