@@ -12,7 +12,7 @@ returns-in_default c =
     let token_at = c.token_at-t in
     let is_name = c.is_name in
     let if1 = c.if-is_name in
-    let find_name = c.find_name-f in
+    let find_name = c.find_name in
     let refuse = c.refuse in
     let y = refuse.ensures in
     record {
@@ -26,8 +26,8 @@ named_index-requires c =
     let token_at = c.token_at-t in
     let is_name = c.is_name in
     let if1 = c.if-is_name in
-    let find_name = c.find_name-f in
-    (pre, omega (arith, token_at.ensures.inside, is_name.ensures.kind if1.true), below_slot find_name.ensures.below c.in-At.is)
+    let find_name = c.find_name in
+    (pre, omega (arith, token_at.ensures.inside, is_name.ensures.kind if1.true), below_slot find_name.ensures.below c.in-Some.is)
 
 pub returns-then-is_name : goal.returns-then-is_name
 unfolding read_index
@@ -35,10 +35,10 @@ returns-then-is_name c =
     let token_at = c.token_at-t in
     let is_name = c.is_name in
     let if1 = c.if-is_name in
-    let find_name = c.find_name-f in
+    let find_name = c.find_name in
     let named_index = c.named_index in
     record {
-      gives = token _ token_at.ensures (so _ _ (sym is_name.ensures.is ∙ if1.true) (found_it _ _ _ find_name.ensures c.in-At.is (named_index.ensures _ token_at.result).gives));
+      gives = token _ token_at.ensures (so _ _ (sym is_name.ensures.is ∙ if1.true) (found_it _ _ _ find_name.ensures c.in-Some.is (named_index.ensures _ token_at.result).gives));
       onward = (named_index.ensures [] token_at.result).onward;
     }
 
