@@ -17,9 +17,7 @@ use program::{put_word, token_at};
 use read_constants::{read_declaration, read_range};
 use read_expressions::inside::Inside;
 use read_expressions::{Cell, dot_field, read_expression};
-use read_state::{
-    Read, Reading, declare, expect, forbid, fresh, is_name, refuse,
-};
+use read_state::{Read, Reading, declare, expect, forbid, fresh, is_name, refuse};
 use token::{Scan, Token, kind};
 use value::limits::MOST_TURNS;
 
