@@ -48,8 +48,9 @@ use Rattle.band_call.specs.Promises.Calling.{BandLeaves}
 use Rattle.band_run.specs.BandedRun.{banded_lent}
 use Rattle.band_run.specs.Promises.Running.{BandedLeaves}
 use Rattle.api_entries.specs.Over.{over}
-use Rattle.api_comparison.specs.declared.Comparison.{Comparison}
-use Rattle.api_comparison.specs.Promises.Public.{Compares}
+use Rattle.api_comparison.specs.Differences.{Comparison}
+use Rattle.api_comparison.specs.declared.Incomparable.{Incomparable}
+use Rattle.api_comparison.specs.Promises.Public.{comparison_told, Compares}
 use Rattle.cellang.specs.Promises.Told.{Tells, TellsSource, TellsRoom, reply_entries, profile_entries, written_entries, border_entries, planned_entries, report_entries, TellsRun, TellsBanded, comparison_entries, TellsComparison, row_entries}
 
 -- ---- calls that read a source
@@ -203,8 +204,8 @@ tells_banded {source} {list} {sizes} {values} {plan} {m} {m'} {start} {steps} {c
 
 -- ---- a comparison
 
-pub tells_comparison : {left right : List ℤ} {k : ℕ} {room : List ℤ} {reply : List ℕ} {said : Comparison} {room' : List ℤ} {reply' : List ℕ} → Compares left right k room said room' → reply' ≡ over (comparison_entries said) reply
-    → TellsComparison left right k room reply said.number room' reply'
+pub tells_comparison : {left right : List ℤ} {k : ℕ} {room : List ℤ} {reply : List ℕ} {said : Result ℕ Incomparable} {room' : List ℤ} {reply' : List ℕ} → Compares left right k room said room' → reply' ≡ over (comparison_entries (comparison_told said)) reply
+    → TellsComparison left right k room reply (comparison_told said).number room' reply'
 tells_comparison {reply = reply} h e =
     record {
       tells = record { number = ap (λ (c : Comparison). c.number) h.answer; told = e ∙ ap (λ (c : Comparison). over (comparison_entries c) reply) h.answer };
