@@ -1,9 +1,8 @@
 use Rattle.read_state.proofs.Going.{passed}
-use mathlib.Core.Path.{refl}
 use native.Mathlib.Omega.{arith}
 use Rattle.grammar.specs.Expressions.{dot_field}
 use Rattle.read_state.proofs.Steps.{on, off}
-use Rattle.read_state.proofs.Going.{nowhere, went, further, still}
+use Rattle.read_state.proofs.Going.{nowhere, went, further}
 use Rattle.read_expressions.proofs.dot_field.Goals as goal
 
 pub returns-in_err-a : goal.returns-in_err-a
@@ -12,12 +11,6 @@ returns-in_err-a c =
     let expect = c.expect in
     rw (passed c.from_residual.ensures.1 c.in_err-a.was)
     record { gives = off _ (expect.ensures.gives _ _) c.in_err-a.was; onward = nowhere c.in_err-a.was }
-
-pub field_name-requires : goal.field_name-requires
-field_name-requires c =
-    let pre = c.requires in
-    let expect = c.expect in
-    let w = went expect.ensures.onward c.in_ok-a.was in still pre refl refl w pre.few
 
 pub returns : goal.returns
 unfolding dot_field

@@ -19,20 +19,6 @@ returns-in_default c =
       onward = nowhere y;
     }
 
-pub moved-requires : goal.moved-requires
-moved-requires c =
-    let pre = c.requires in
-    let token_at = c.token_at-t in
-    let is_name = c.is_name in
-    let if1 = c.if-is_name in
-    omega (arith, token_at.ensures.inside, is_name.ensures.kind if1.true, pre.tokens)
-
-pub overflow_cast-slot : goal.overflow_cast-slot
-overflow_cast-slot c =
-    let pre = c.requires in
-    let find_name = c.find_name in
-    omega (arith, below_slot find_name.ensures.below c.in-Some.is, pre.few)
-
 pub returns-then-is_name : goal.returns-then-is_name
 unfolding field_name
 returns-then-is_name c =

@@ -12,12 +12,6 @@ returns-in_err-a c =
     rw (passed c.from_residual.ensures.1 c.in_err-a.was)
     record { gives = λ source ns. off _ (forbid.ensures.gives _ _) c.in_err-a.was; onward = nowhere c.in_err-a.was }
 
-pub forbid-requires-2 : goal.forbid-requires-2
-forbid-requires-2 c =
-    let pre = c.requires in
-    let forbid = c.forbid in
-    let w = went forbid.ensures.onward c.in_ok-a.was in (pre.0, pre.1, w.within)
-
 pub returns : goal.returns
 unfolding plain
 returns c =

@@ -5,7 +5,7 @@ use Rattle.grammar.specs.Expressions.{read_field}
 use Rattle.read_state.specs.Promises.Reading.{anything}
 use Rattle.read_state.proofs.Steps.{on, off, so, other, carried}
 use Rattle.read_state.proofs.Going.{nowhere, went, goes_on}
-use Rattle.read_expressions.proofs.Fields.{slot_below, field_read}
+use Rattle.read_expressions.proofs.Fields.{field_read}
 use Rattle.read_expressions.proofs.read_field.Goals as goal
 
 pub returns-in_err-a : goal.returns-in_err-a
@@ -20,12 +20,6 @@ returns-in_err-a g c =
       onward = nowhere c.in_err-a.was;
     }
 
-pub forbid-requires : goal.forbid-requires
-forbid-requires g c =
-    let pre = c.requires.ready in
-    let dot_field = c.dot_field in
-    let w = went dot_field.ensures.onward c.in_ok-a.was in (pre.tokens, pre.table, w.within)
-
 pub returns-in_err-b : goal.returns-in_err-b
 unfolding read_field
 returns-in_err-b g c =
@@ -38,12 +32,6 @@ returns-in_err-b g c =
       gives = so _ _ if1.true (off _ (on {Q = anything} _ dot_field.ensures.gives c.in_ok-a.was (λ _ _. off _ (forbid.ensures.gives _ _) c.in_err-b.was)) c.in_err-b.was);
       onward = nowhere c.in_err-b.was;
     }
-
-pub entry_in-e-requires : goal.entry_in-e-requires
-entry_in-e-requires g c =
-    let pre = c.requires.ready in
-    let dot_field = c.dot_field in
-    let w = went dot_field.ensures.onward c.in_ok-a.was in (omega (arith, slot_below dot_field.ensures.gives c.in_ok-a.was, w.few, pre.few), pre.list)
 
 pub returns-then-cell : goal.returns-then-cell
 unfolding read_field

@@ -18,12 +18,6 @@ loop-a-init c =
     let pre = c.requires in
     (turn_first [] refl, pre.table, omega arith, pre.here, omega arith, omega arith)
 
-pub read_index-requires : goal.read_index-requires
-read_index-requires c =
-    let pre = c.requires in
-    let loop = c.loop-a in
-    record { tokens = pre.tokens; table = loop.invariant.1; list = pre.list; here = loop.invariant.3; few = omega (arith, loop.invariant.4, pre.few) }
-
 pub returns-in_err-a : goal.returns-in_err-a
 unfolding read_indices index_turn
 returns-in_err-a c =
@@ -33,26 +27,6 @@ returns-in_err-a c =
     let e = c.in_err-a.was in
     rw (passed c.from_residual.ensures.1 c.in_err-a.was)
     record { gives = turn_refused loop.invariant.0 (omega (arith, loop.invariant.3, pre.tokens)) (λ x p. off _ read_index.ensures.gives e) e; onward = nowhere e }
-
-pub overflow_add-k : goal.overflow_add-k
-overflow_add-k c =
-    let pre = c.requires in
-    let loop = c.loop-a in
-    omega (arith, loop.invariant.5, loop.invariant.3, pre.tokens)
-
-pub token_at-t-requires : goal.token_at-t-requires
-token_at-t-requires c =
-    let pre = c.requires in
-    let loop = c.loop-a in
-    let read_index = c.read_index in
-    (pre.tokens, read_index.auto.words ∙ loop.invariant.1)
-
-pub refuse-requires : goal.refuse-requires
-refuse-requires c =
-    let pre = c.requires in
-    let loop = c.loop-a in
-    let read_index = c.read_index in
-    (pre.tokens, read_index.auto.words ∙ loop.invariant.1)
 
 pub returns-then-t-ne-UNBRACKET : goal.returns-then-t-ne-UNBRACKET
 unfolding read_indices index_turn
@@ -69,13 +43,6 @@ returns-then-t-ne-UNBRACKET c =
       gives = turn_refused loop.invariant.0 (omega (arith, loop.invariant.3, pre.tokens)) (λ x p. on _ read_index.ensures.gives c.in_ok-a.was (λ i _. token _ token_at.ensures (other _ _ (first_not _ (ne_eqb _ _ if1.true)) (other _ _ (first_not _ (ne_eqb _ _ if2.true)) (other _ _ (neither (ne_eqb _ _ if1.true) (ne_eqb _ _ if2.true)) (refused _ y)))))) y;
       onward = nowhere y;
     }
-
-pub moved-requires : goal.moved-requires
-moved-requires c =
-    let pre = c.requires in
-    let token_at = c.token_at-t in
-    let if2 = c.if-t-ne-UNBRACKET in
-    omega (arith, token_at.ensures.inside, if2.false, pre.tokens)
 
 pub returns-then-k-cell : goal.returns-then-k-cell
 unfolding read_indices index_turn
@@ -95,13 +62,6 @@ returns-then-k-cell c =
       onward = goes_on (omega (arith, w.past, m.at, loop.invariant.2)) (omega (arith, m.at, token_at.ensures.inside, if2.false)) (omega (arith, m.count, w.few, loop.invariant.4));
     }
 
-pub refuse-requires-then-t-ne-COMMA : goal.refuse-requires-then-t-ne-COMMA
-refuse-requires-then-t-ne-COMMA c =
-    let pre = c.requires in
-    let loop = c.loop-a in
-    let read_index = c.read_index in
-    (pre.tokens, read_index.auto.words ∙ loop.invariant.1)
-
 pub returns-then-t-ne-COMMA : goal.returns-then-t-ne-COMMA
 unfolding read_indices index_turn
 returns-then-t-ne-COMMA c =
@@ -119,13 +79,6 @@ returns-then-t-ne-COMMA c =
       onward = nowhere y;
     }
 
-pub refuse-requires-then-k-cell-2 : goal.refuse-requires-then-k-cell-2
-refuse-requires-then-k-cell-2 c =
-    let pre = c.requires in
-    let loop = c.loop-a in
-    let read_index = c.read_index in
-    (pre.tokens, read_index.auto.words ∙ loop.invariant.1)
-
 pub returns-then-k-cell-2 : goal.returns-then-k-cell-2
 unfolding read_indices index_turn
 returns-then-k-cell-2 c =
@@ -141,21 +94,6 @@ returns-then-k-cell-2 c =
       gives = turn_refused loop.invariant.0 (omega (arith, loop.invariant.3, pre.tokens)) (λ x p. on _ read_index.ensures.gives c.in_ok-a.was (λ i _. token _ token_at.ensures (other _ _ (second_not (eq-eqb _ _ if1.false) (not_false (full x i p if4.true))) (other _ _ (first_not _ (ne_eqb token_at.result.kind 93 (λ e. omega (arith, e, if1.false)))) (so _ _ (first_holds _ (eq-eqb _ _ if1.false)) (refused _ y)))))) y;
       onward = nowhere y;
     }
-
-pub moved-here-requires : goal.moved-here-requires
-moved-here-requires c =
-    let pre = c.requires in
-    let token_at = c.token_at-t in
-    let if1 = c.if-t-ne-COMMA in
-    omega (arith, token_at.ensures.inside, if1.false, pre.tokens)
-
-pub loop-a-smaller : goal.loop-a-smaller
-loop-a-smaller c =
-    let pre = c.requires in
-    let loop = c.loop-a in
-    let read_index = c.read_index in
-    let moved2 = c.moved-here in
-    let m = moved2.ensures in let w = went read_index.ensures.onward c.in_ok-a.was in omega (arith, w.past, m.at, loop.invariant.3, pre.tokens)
 
 pub loop-a-preserved : goal.loop-a-preserved
 unfolding read_indices index_turn

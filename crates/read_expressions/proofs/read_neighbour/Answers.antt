@@ -1,7 +1,4 @@
 use borrow.Author.Rules.{rules}
-use Rattle.grammar.specs.Expressions as grammar
-use Rattle.read_state.specs.Promises.Reading.{InNumber, Stays}
-use Rattle.read_expressions.specs.Promises.Promises.{cell_as}
 use Rattle.grammar.specs.Reader.{forbid}
 use Rattle.token.specs.Kind.{delimiter}
 use Rattle.read_state.proofs.Going.{passed}
@@ -9,7 +6,7 @@ use mathlib.Core.Path.{refl, ◌∙◌}
 use native.Mathlib.Omega.{arith}
 use Rattle.grammar.specs.Expressions.{read_neighbour}
 use Rattle.read_state.proofs.Steps.{on, off, on_told, here, returned}
-use Rattle.read_state.proofs.Going.{nowhere, went, goes_on, still}
+use Rattle.read_state.proofs.Going.{nowhere, went, goes_on}
 use Rattle.read_expressions.proofs.Operands.{opening_as}
 use Rattle.read_expressions.proofs.read_neighbour.Goals as goal
 
@@ -20,12 +17,6 @@ returns-in_err-a c =
     let opening = c.opening in
     rw (passed c.from_residual.ensures.1 c.in_err-a.was)
     record { gives = here _ (off _ ((opening_as args.inside.free opening.ensures).gives _ _) c.in_err-a.was); onward = nowhere c.in_err-a.was }
-
-pub read_indices-requires : goal.read_indices-requires
-read_indices-requires c =
-    let pre = c.requires in
-    let opening = c.opening in
-    let u = went opening.ensures.onward c.in_ok-a.was in still pre.0 refl refl u pre.0.few
 
 pub returns-in_err-b : goal.returns-in_err-b
 unfolding read_neighbour
@@ -38,15 +29,6 @@ returns-in_err-b c =
       gives = here _ (on _ ((opening_as args.inside.free opening.ensures).gives _ _) c.in_ok-a.was (λ _ _. off _ read_indices.ensures.gives c.in_err-b.was));
       onward = nowhere c.in_err-b.was;
     }
-
-pub read_field-requires-clause-ready : goal.read_field-requires-clause-ready
-read_field-requires-clause-ready c =
-    let pre = c.requires in
-    let opening = c.opening in
-    let read_indices = c.read_indices in
-    let u = went opening.ensures.onward c.in_ok-a.was in
-    let v = went read_indices.ensures.onward c.in_ok-b.was in
-    still pre.0 refl read_indices.auto.words v (omega (arith, u.few, pre.0.few))
 
 pub returns-in_err-d : goal.returns-in_err-d
 unfolding read_neighbour

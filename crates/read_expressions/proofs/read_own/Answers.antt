@@ -1,7 +1,5 @@
 use borrow.Author.Rules.{rules}
 use Rattle.grammar.specs.Expressions as grammar
-use Rattle.read_state.specs.Promises.Reading.{InNumber, Stays}
-use Rattle.read_expressions.specs.Promises.Promises.{cell_as}
 use Rattle.read_state.proofs.Going.{passed}
 use mathlib.Core.Path.{refl}
 use native.Mathlib.Omega.{arith}

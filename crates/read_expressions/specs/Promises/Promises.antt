@@ -1,13 +1,11 @@
 -- What the readers of expressions promise.
 use Rattle.std.specs.Prelude.{◌≡◌, Bool, true, false, ◌&&◌, ◌||◌, List, ℕ, zero, suc, ◌+◌, ◌≤◌, ◌<◌, eqb}
 use Rattle.token.specs.declared.Scan.{Scan}
-use Rattle.token.specs.declared.Token.{Token}
-use Rattle.token.specs.Kind.{operation, delimiter}
+use Rattle.token.specs.Kind.{operation}
 use Rattle.program.specs.Syntax.{Expr}
-use Rattle.grammar.specs.Reader.{Reader, refuse, is_kind, forbid}
-use Rattle.grammar.specs.Constants.{is_sign}
+use Rattle.grammar.specs.Reader.{Reader, refuse}
 use Rattle.grammar.specs.Expressions as grammar
-use Rattle.grammar.specs.Expressions.{plain, climb, levels, operand_in}
+use Rattle.grammar.specs.Expressions.{climb, levels, operand_in}
 use Rattle.read_state.specs.declared.Reading.{Reading}
 use Rattle.read_state.specs.Promises.Reading.{Read}
 use Rattle.read_state.specs.Promises.Reading.{anything, Gives, Onward}

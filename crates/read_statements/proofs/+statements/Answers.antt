@@ -8,7 +8,7 @@ use Rattle.grammar.specs.Reader.{done}
 use Rattle.grammar.specs.Statements.{choices, arm_end, arm_turn, statement_turn}
 use Rattle.read_expressions.specs.Promises.Promises.{cell_as}
 use Rattle.read_state.specs.Promises.Reading.{anything}
-use Rattle.read_state.proofs.Steps.{on, off, made, told_as, went_on, so, other, both_hold, first_not, second_not, token, here, returned, carried, advanced, put_in}
+use Rattle.read_state.proofs.Steps.{on, off, made, told_as, so, other, token, here, returned, carried, advanced, put_in}
 use Rattle.read_state.proofs.Turns.{turn_first, turn_again, turn_done, turn_refused}
 use Rattle.read_state.proofs.Going.{nowhere, went, goes_on, further}
 use Rattle.read_statements.specs.Promises.Promises.{once, ends, NoneFollows}
@@ -17,10 +17,6 @@ use Rattle.read_statements.proofs.Turned.{not_both, is_more, no_more, went_again
 use Rattle.read_statements.proofs.Lists.{one_more, assigned_in, declared_in, block_first, if_open, if_shut, arm_inside}
 use Rattle.read_statements.proofs.Loops.{forall_open, forall_shut, ended_at}
 use Rattle.read_statements.proofs.+statements.Goals as goal
-
-pub arm_end-token_at-t-requires : goal.arm_end-token_at-t-requires
-arm_end-token_at-t-requires t c =
-    let z = c.requires in (z.tokens, z.table)
 
 pub arm_end-returns-then-t-eq-ELSIF_WORD : goal.arm_end-returns-then-t-eq-ELSIF_WORD
 unfolding arm_end
@@ -35,21 +31,6 @@ arm_end-returns-then-t-eq-ELSIF_WORD t c =
       onward = goes_on (omega (arith, k.at)) (omega (arith, k.at, z.here)) (omega (arith, k.count, z.few));
     }
 
-pub arm_end-moved-requires : goal.arm_end-moved-requires
-arm_end-moved-requires t c =
-    let token_at = c.token_at-t in
-    let if2 = c.if-t-eq-ELSE_WORD in
-    omega (arith, token_at.ensures.inside, if2.true, c.requires.tokens)
-
-pub arm_end-read_block-requires : goal.arm_end-read_block-requires
-arm_end-read_block-requires t c =
-    let token_at = c.token_at-t in
-    let if2 = c.if-t-eq-ELSE_WORD in
-    let moved = c.moved in
-    let z = c.requires in
-    let m = moved.ensures in
-    (omega (arith, c.decreases, m.at, token_at.ensures.inside, if2.true), record { tokens = z.tokens; table = z.table; list = z.list; here = omega (arith, m.at, token_at.ensures.inside, if2.true); few = omega (arith, m.count, z.few) })
-
 pub arm_end-returns-in_err-a : goal.arm_end-returns-in_err-a
 unfolding arm_end
 arm_end-returns-in_err-a t c =
@@ -63,11 +44,6 @@ arm_end-returns-in_err-a t c =
       gives = λ arms _. token _ token_at.ensures (other _ _ (ne_eqb _ _ if1.false) (so _ _ (eq-eqb _ _ if2.true) (off {R = anything} _ (off _ (on _ (advanced moved.ensures) refl (λ _ _. read-block'.ensures.gives)) c.in_err-a.was) c.in_err-a.was)));
       onward = nowhere c.in_err-a.was;
     }
-
-pub arm_end-read_end-requires : goal.arm_end-read_end-requires
-arm_end-read_end-requires t c =
-    let read-block' = c.read_block in
-    let z = c.requires in (z.tokens, read-block'.auto.words ∙ z.table)
 
 pub arm_end-returns-then-t-eq-ELSE_WORD : goal.arm_end-returns-then-t-eq-ELSE_WORD
 unfolding arm_end
@@ -85,10 +61,6 @@ arm_end-returns-then-t-eq-ELSE_WORD t c =
       onward = further read-end.ensures.onward (omega (arith, m.at, w.past)) w.few;
     }
 
-pub arm_end-read_end-requires-2 : goal.arm_end-read_end-requires-2
-arm_end-read_end-requires-2 t c =
-    let z = c.requires in (z.tokens, z.table)
-
 pub arm_end-returns : goal.arm_end-returns
 unfolding arm_end
 arm_end-returns t c =
@@ -101,17 +73,6 @@ arm_end-returns t c =
       onward = further read-end2.ensures.onward (omega arith) c.requires.few;
     }
 
-pub read_arm-moved-requires : goal.read_arm-moved-requires
-read_arm-moved-requires t c =
-    omega (arith, c.requires.1, c.requires.0.tokens)
-
-pub read_arm-read_expression-requires : goal.read_arm-read_expression-requires
-read_arm-read_expression-requires t c =
-    let moved = c.moved in
-    let z = c.requires in
-    let m = moved.ensures in
-    (record { tokens = z.0.tokens; table = z.0.table; list = z.0.list; here = omega (arith, m.at, z.1); few = omega (arith, m.count, z.0.few) }, omega arith)
-
 pub read_arm-returns-in_err-a : goal.read_arm-returns-in_err-a
 unfolding arm_turn
 read_arm-returns-in_err-a t c =
@@ -122,11 +83,6 @@ read_arm-returns-in_err-a t c =
       gives = λ got _. here _ (on _ (advanced moved.ensures) refl (λ _ _. off _ (expression read-expression'.ensures).gives c.in_err-a.was));
       onward = nowhere c.in_err-a.was;
     }
-
-pub read_arm-expect-requires : goal.read_arm-expect-requires
-read_arm-expect-requires t c =
-    let read-expression' = c.read_expression in
-    let z = c.requires.0 in (z.tokens, read-expression'.auto.words ∙ z.table, omega arith)
 
 pub read_arm-returns-in_err-b : goal.read_arm-returns-in_err-b
 unfolding arm_turn
@@ -140,17 +96,6 @@ read_arm-returns-in_err-b t c =
       onward = nowhere c.in_err-b.was;
     }
 
-pub read_arm-read_block-requires : goal.read_arm-read_block-requires
-read_arm-read_block-requires t c =
-    let moved = c.moved in
-    let read-expression' = c.read_expression in
-    let expect = c.expect in
-    let z = c.requires in
-    let m = moved.ensures in
-    let v = went read-expression'.ensures.onward c.in_ok-a.was in
-    let w = went expect.ensures.onward c.in_ok-b.was in
-    (omega (arith, c.decreases, m.at, v.past, w.past, w.within), record { tokens = z.0.tokens; table = read-expression'.auto.words ∙ z.0.table; list = z.0.list; here = w.within; few = omega (arith, m.count, v.few, w.few, z.0.few) })
-
 pub read_arm-returns-in_err-d : goal.read_arm-returns-in_err-d
 unfolding arm_turn
 read_arm-returns-in_err-d t c =
@@ -163,31 +108,6 @@ read_arm-returns-in_err-d t c =
       gives = λ got _. here _ (on _ (advanced moved.ensures) refl (λ _ _. on _ (expression read-expression'.ensures).gives c.in_ok-a.was (λ _ _. on _ (expect.ensures.gives _ _) c.in_ok-b.was (λ _ _. off _ read-block'.ensures.gives c.in_err-d.was))));
       onward = nowhere c.in_err-d.was;
     }
-
-pub read_arm-overflow_cast-d : goal.read_arm-overflow_cast-d
-read_arm-overflow_cast-d t c =
-    let read-block' = c.read_block in
-    let z = c.requires.0 in let w = went read-block'.ensures.onward c.in_ok-d.was in omega (arith, w.within, z.tokens)
-
-pub read_arm-put_word-requires : goal.read_arm-put_word-requires
-read_arm-put_word-requires t c =
-    let read-expression' = c.read_expression in
-    let read-block' = c.read_block in
-    (omega arith, read-block'.auto.words ∙ read-expression'.auto.words ∙ c.requires.0.table)
-
-pub read_arm-arm_end-requires : goal.read_arm-arm_end-requires
-read_arm-arm_end-requires t c =
-    let moved = c.moved in
-    let read-expression' = c.read_expression in
-    let expect = c.expect in
-    let read-block' = c.read_block in
-    let put_word = c.put_word in
-    let z = c.requires in
-    let m = moved.ensures in
-    let u = went read-expression'.ensures.onward c.in_ok-a.was in
-    let v = went expect.ensures.onward c.in_ok-b.was in
-    let w = went read-block'.ensures.onward c.in_ok-d.was in
-    (omega (arith, c.decreases, m.at, u.past, v.past, w.past, w.within), record { tokens = z.0.tokens; table = put_word.auto.words ∙ read-block'.auto.words ∙ read-expression'.auto.words ∙ z.0.table; list = read-block'.auto.names ∙ z.0.list; here = w.within; few = w.few })
 
 pub read_arm-returns : goal.read_arm-returns
 unfolding arm_turn
@@ -210,13 +130,6 @@ read_arm-returns t c =
 pub read_block-loop-a-init : goal.read_block-loop-a-init
 read_block-loop-a-init t c =
     let z = c.requires in (block_first _ _ _, refl, refl, omega arith, z.here, z.few)
-
-pub read_block-read_statement-requires : goal.read_block-read_statement-requires
-read_block-read_statement-requires t c =
-    let loop = c.loop-a in
-    let z = c.requires in
-    let v = loop.invariant in
-    (omega (arith, c.decreases, v.3), record { tokens = z.tokens; table = v.2 ∙ z.table; list = v.1 ∙ z.list; here = v.4; few = v.5 })
 
 pub read_block-returns-in_err-a : goal.read_block-returns-in_err-a
 read_block-returns-in_err-a t c =
@@ -241,12 +154,6 @@ read_block-returns-then-a-here t c =
       onward = goes_on (omega (arith, w.past, v.3)) w.within w.few;
     }
 
-pub read_block-loop-a-smaller : goal.read_block-loop-a-smaller
-read_block-loop-a-smaller t c =
-    let read-statement = c.read_statement in
-    let if1 = c.if-a-here in
-    let w = went read-statement.ensures.onward c.in_ok-a.was in omega (arith, w.past, w.within, if1.false)
-
 pub read_block-loop-a-preserved : goal.read_block-loop-a-preserved
 read_block-loop-a-preserved t c =
     let loop = c.loop-a in
@@ -256,24 +163,9 @@ read_block-loop-a-preserved t c =
     let w = went read-statement.ensures.onward c.in_ok-a.was in
     (turn_again v.0 (omega (arith, v.4, c.requires.tokens)) (λ x p. went_again (read-statement.ensures.gives x p) c.in_ok-a.was if1.false (λ y q. tt)) (omega (arith, w.past, if1.false)), read-statement.auto.names ∙ v.1, read-statement.auto.words ∙ v.2, omega (arith, w.past, v.3), w.within, w.few)
 
-pub read_forall-refuse-requires : goal.read_forall-refuse-requires
-read_forall-refuse-requires t c =
-    let z = c.requires.0 in (z.tokens, z.table)
-
 pub read_forall-returns-in_default : goal.read_forall-returns-in_default
 read_forall-returns-in_default t c =
     let y = c.refuse.ensures in record { gives = forall_shut c.args.inside c.looped.ensures c.in_default.is y; onward = nowhere y }
-
-pub read_forall-moved-requires : goal.read_forall-moved-requires
-read_forall-moved-requires t c =
-    omega (arith, c.requires.1, c.requires.0.tokens)
-
-pub read_forall-loop_head-requires : goal.read_forall-loop_head-requires
-read_forall-loop_head-requires t c =
-    let moved = c.moved in
-    let z = c.requires in
-    let m = moved.ensures in
-    (record { tokens = z.0.tokens; table = z.0.table; list = z.0.list; here = omega (arith, m.at, z.1); few = omega (arith, m.count, z.0.few) }, omega (arith, c.args.inside.few))
 
 pub read_forall-returns-in_err-a : goal.read_forall-returns-in_err-a
 read_forall-returns-in_err-a t c =
@@ -286,15 +178,6 @@ read_forall-returns-in_err-a t c =
       onward = nowhere c.in_err-a.was;
     }
 
-pub read_forall-read_block-requires : goal.read_forall-read_block-requires
-read_forall-read_block-requires t c =
-    let moved = c.moved in
-    let loop_head = c.loop_head in
-    let z = c.requires in
-    let m = moved.ensures in
-    let w = went loop_head.ensures.onward c.in_ok-a.was in
-    (omega (arith, c.decreases, m.at, w.past, w.within), record { tokens = z.0.tokens; table = loop_head.auto.words ∙ z.0.table; list = loop_head.auto.names ∙ z.0.list; here = w.within; few = w.few })
-
 pub read_forall-returns-in_err-b : goal.read_forall-returns-in_err-b
 read_forall-returns-in_err-b t c =
     let args = c.args in
@@ -306,19 +189,6 @@ read_forall-returns-in_err-b t c =
       gives = forall_open args.inside c.looped.ensures c.in-Some.is (here _ (on _ (advanced moved.ensures) refl (λ _ _. on _ loop_head.ensures.gives c.in_ok-a.was (λ _ _. here _ (off _ read-block'.ensures.gives c.in_err-b.was)))));
       onward = nowhere c.in_err-b.was;
     }
-
-pub read_forall-overflow_cast-a : goal.read_forall-overflow_cast-a
-read_forall-overflow_cast-a t c =
-    let loop_head = c.loop_head in
-    let w = went loop_head.ensures.onward c.in_ok-a.was in omega (arith, w.within, c.requires.0.tokens)
-
-pub read_forall-loop_end-requires : goal.read_forall-loop_end-requires
-read_forall-loop_end-requires t c =
-    let loop_head = c.loop_head in
-    let read-block' = c.read_block in
-    let z = c.requires in
-    let w = went read-block'.ensures.onward c.in_ok-b.was in
-    (record { tokens = z.0.tokens; table = read-block'.auto.words ∙ loop_head.auto.words ∙ z.0.table; list = read-block'.auto.names ∙ loop_head.auto.names ∙ z.0.list; here = w.within; few = w.few }, (went_on loop_head.ensures.gives c.in_ok-a.was).is.1.1)
 
 pub read_forall-returns : goal.read_forall-returns
 read_forall-returns t c =
@@ -335,10 +205,6 @@ read_forall-returns t c =
       onward = further (loop_end.ensures args.source.now).onward (omega (arith, m.at, v.past, w.past)) w.few;
     }
 
-pub read_if-refuse-requires : goal.read_if-refuse-requires
-read_if-refuse-requires t c =
-    let z = c.requires.0 in (z.tokens, z.table)
-
 pub read_if-returns-in_default : goal.read_if-returns-in_default
 read_if-returns-in_default t c =
     let y = c.refuse.ensures in record { gives = if_shut c.args.inside c.opened.ensures c.in_default.is y; onward = nowhere y }
@@ -346,13 +212,6 @@ read_if-returns-in_default t c =
 pub read_if-loop-a-init : goal.read_if-loop-a-init
 read_if-loop-a-init t c =
     let z = c.requires in (turn_first [] tt, refl, refl, omega arith, z.1, z.0.few)
-
-pub read_if-read_arm-requires : goal.read_if-read_arm-requires
-read_if-read_arm-requires t c =
-    let loop = c.loop-a in
-    let z = c.requires in
-    let v = loop.invariant in
-    (omega (arith, c.decreases, v.3), (record { tokens = z.0.tokens; table = v.2 ∙ z.0.table; list = v.1 ∙ z.0.list; here = omega (arith, v.4); few = v.5 }, v.4))
 
 pub read_if-returns-in_err-a : goal.read_if-returns-in_err-a
 read_if-returns-in_err-a t c =
@@ -365,17 +224,6 @@ read_if-returns-in_err-a t c =
       gives = if_open args.inside c.opened.ensures c.in-Some.is (here _ (off {R = anything} _ (turn_refused v.0 (omega (arith, v.4, c.requires.0.tokens)) (λ x p. told_as (read-arm.ensures.gives x p) (λ _ _ _. tt)) c.in_err-a.was) c.in_err-a.was));
       onward = nowhere c.in_err-a.was;
     }
-
-pub read_if-overflow_cast-a : goal.read_if-overflow_cast-a
-read_if-overflow_cast-a t c =
-    let read-arm = c.read_arm in
-    let w = went read-arm.ensures.onward c.in_ok-a.was in omega (arith, w.within, c.requires.0.tokens)
-
-pub read_if-put_word-requires : goal.read_if-put_word-requires
-read_if-put_word-requires t c =
-    let loop = c.loop-a in
-    let read-arm = c.read_arm in
-    (omega arith, read-arm.auto.words ∙ loop.invariant.2 ∙ c.requires.0.table)
 
 pub read_if-returns-then-not-a : goal.read_if-returns-then-not-a
 read_if-returns-then-not-a t c =
@@ -391,11 +239,6 @@ read_if-returns-then-not-a t c =
       onward = goes_on (omega (arith, w.past, v.3)) w.within w.few;
     }
 
-pub read_if-loop-a-smaller : goal.read_if-loop-a-smaller
-read_if-loop-a-smaller t c =
-    let read-arm = c.read_arm in
-    let w = went read-arm.ensures.onward c.in_ok-a.was in omega (arith, w.past, w.within)
-
 pub read_if-loop-a-preserved : goal.read_if-loop-a-preserved
 read_if-loop-a-preserved t c =
     let loop = c.loop-a in
@@ -404,17 +247,6 @@ read_if-loop-a-preserved t c =
     let v = loop.invariant in
     let w = went read-arm.ensures.onward c.in_ok-a.was in
     (turn_again v.0 (omega (arith, v.4, c.requires.0.tokens)) (λ x p. went_again (read-arm.ensures.gives x p) c.in_ok-a.was (not_both (is_more _ if2.false)) (λ y q. tt)) (omega (arith, w.past)), read-arm.auto.names ∙ v.1, read-arm.auto.words ∙ v.2, omega (arith, w.past, v.3), arm_inside (read-arm.ensures.gives [] tt) c.in_ok-a.was (is_more _ if2.false), w.few)
-
-pub read_statement-token_at-t-requires : goal.read_statement-token_at-t-requires
-read_statement-token_at-t-requires t c =
-    let z = c.requires in (z.tokens, z.table)
-
-pub read_statement-read_assignment-requires : goal.read_statement-read_assignment-requires
-read_statement-read_assignment-requires t c =
-    let token_at = c.token_at-t in
-    let is_name = c.is_name in
-    let if1 = c.if-is_name in
-    (c.requires, omega (arith, token_at.ensures.inside, is_name.ensures.kind if1.true))
 
 pub read_statement-returns-then-is_name : goal.read_statement-returns-then-is_name
 unfolding statement_turn
@@ -428,123 +260,58 @@ read_statement-returns-then-is_name t c =
       onward = further read_assignment.ensures.onward (omega arith) (omega arith);
     }
 
-pub read_statement-read_declaration-requires : goal.read_statement-read_declaration-requires
-read_statement-read_declaration-requires t c =
-    let token_at = c.token_at-t in
-    let if2 = c.if-t-eq-CONST_WORD in
-    (c.requires, omega (arith, token_at.ensures.inside, if2.true))
-
-pub read_statement-returns-then-t-eq-CONST_WORD : goal.read_statement-returns-then-t-eq-CONST_WORD
+pub read_statement-returns-in-5 : goal.read_statement-returns-in-5
 unfolding statement_turn
-read_statement-returns-then-t-eq-CONST_WORD t c =
-    let args = c.args in
-    let token_at = c.token_at-t in
-    let is_name = c.is_name in
-    let if1 = c.if-is_name in
-    let if2 = c.if-t-eq-CONST_WORD in
-    let read_declaration = c.read_declaration in
+read_statement-returns-in-5 t c =
+    let x = c.read_declaration.ensures in
     record {
-      gives = λ before _. token _ token_at.ensures (other _ _ (sym is_name.ensures.is ∙ if1.false) (so _ _ (eq-eqb _ _ if2.true) (one_more (λ _ after. before (constant after)) (declared_in (cell_as args.inside.cell) args.inside.free read_declaration.ensures))));
-      onward = further read_declaration.ensures.onward (omega arith) (omega arith);
+      gives = λ before _. token _ c.token_at-t.ensures (other _ _ (sym c.is_name.ensures.is ∙ c.if-is_name.false) (rw c.in-5.is (one_more (λ _ after. before (constant after)) (declared_in (cell_as c.args.inside.cell) c.args.inside.free x))));
+      onward = further x.onward (omega arith) (omega arith);
     }
 
-pub read_statement-read_if-requires : goal.read_statement-read_if-requires
-read_statement-read_if-requires t c =
-    let token_at = c.token_at-t in
-    let if3 = c.if-t-eq-IF_WORD in
-    let z = c.requires in (omega (arith, c.decreases), (z, omega (arith, token_at.ensures.inside, if3.true)))
-
-pub read_statement-returns-then-t-eq-IF_WORD : goal.read_statement-returns-then-t-eq-IF_WORD
+pub read_statement-returns-in-13 : goal.read_statement-returns-in-13
 unfolding statement_turn
-read_statement-returns-then-t-eq-IF_WORD t c =
-    let token_at = c.token_at-t in
-    let is_name = c.is_name in
-    let if1 = c.if-is_name in
-    let if2 = c.if-t-eq-CONST_WORD in
-    let if3 = c.if-t-eq-IF_WORD in
-    let read_if = c.read_if in
+read_statement-returns-in-13 t c =
+    let x = c.read_if.ensures in
     record {
-      gives = λ before _. token _ token_at.ensures (other _ _ (sym is_name.ensures.is ∙ if1.false) (other _ _ (ne_eqb _ _ if2.false) (so _ _ (eq-eqb _ _ if3.true) (one_more _ read_if.ensures))));
-      onward = further read_if.ensures.onward (omega arith) (omega arith);
+      gives = λ before _. token _ c.token_at-t.ensures (other _ _ (sym c.is_name.ensures.is ∙ c.if-is_name.false) (rw c.in-13.is (one_more _ x)));
+      onward = further x.onward (omega arith) (omega arith);
     }
 
-pub read_statement-read_forall-requires : goal.read_statement-read_forall-requires
-read_statement-read_forall-requires t c =
-    let token_at = c.token_at-t in
-    let if4 = c.if-t-eq-FORALL_WORD in
-    let z = c.requires in (omega (arith, c.decreases), (z, omega (arith, token_at.ensures.inside, if4.true)))
-
-pub read_statement-returns-then-t-eq-FORALL_WORD : goal.read_statement-returns-then-t-eq-FORALL_WORD
+pub read_statement-returns-in-12 : goal.read_statement-returns-in-12
 unfolding statement_turn
-read_statement-returns-then-t-eq-FORALL_WORD t c =
-    let token_at = c.token_at-t in
-    let is_name = c.is_name in
-    let if1 = c.if-is_name in
-    let if2 = c.if-t-eq-CONST_WORD in
-    let if3 = c.if-t-eq-IF_WORD in
-    let if4 = c.if-t-eq-FORALL_WORD in
-    let read_forall = c.read_forall in
+read_statement-returns-in-12 t c =
+    let x = c.read_forall.ensures in
     record {
-      gives = λ before _. token _ token_at.ensures (other _ _ (sym is_name.ensures.is ∙ if1.false) (other _ _ (ne_eqb _ _ if2.false) (other _ _ (ne_eqb _ _ if3.false) (so _ _ (eq-eqb _ _ if4.true) (one_more _ read_forall.ensures)))));
-      onward = further read_forall.ensures.onward (omega arith) (omega arith);
-    }
-
-pub read_statement-returns-then-t-ne-EXIT_WORD : goal.read_statement-returns-then-t-ne-EXIT_WORD
-unfolding statement_turn
-read_statement-returns-then-t-ne-EXIT_WORD t c =
-    let token_at = c.token_at-t in
-    let is_name = c.is_name in
-    let if1 = c.if-is_name in
-    let if2 = c.if-t-eq-CONST_WORD in
-    let if3 = c.if-t-eq-IF_WORD in
-    let if4 = c.if-t-eq-FORALL_WORD in
-    let if5 = c.if-t-ne-EXIT_WORD in
-    let z = c.requires in
-    record {
-      gives = λ before _. token _ token_at.ensures (other _ _ (sym is_name.ensures.is ∙ if1.false) (other _ _ (ne_eqb _ _ if2.false) (other _ _ (ne_eqb _ _ if3.false) (other _ _ (ne_eqb _ _ if4.false) (other _ _ (first_not _ (ne_eqb _ _ if5.true)) (returned _ (ends refl)))))));
-      onward = goes_on (omega arith) z.here z.few;
+      gives = λ before _. token _ c.token_at-t.ensures (other _ _ (sym c.is_name.ensures.is ∙ c.if-is_name.false) (rw c.in-12.is (one_more _ x)));
+      onward = further x.onward (omega arith) (omega arith);
     }
 
 pub read_statement-returns-then-inside-eq0 : goal.read_statement-returns-then-inside-eq0
 unfolding statement_turn
 read_statement-returns-then-inside-eq0 t c =
-    let args = c.args in
-    let token_at = c.token_at-t in
-    let is_name = c.is_name in
-    let if1 = c.if-is_name in
-    let if2 = c.if-t-eq-CONST_WORD in
-    let if3 = c.if-t-eq-IF_WORD in
-    let if4 = c.if-t-eq-FORALL_WORD in
-    let if5 = c.if-t-ne-EXIT_WORD in
-    let if6 = c.if-inside-eq0 in
     let z = c.requires in
     record {
-      gives = λ before _. token _ token_at.ensures (other _ _ (sym is_name.ensures.is ∙ if1.false) (other _ _ (ne_eqb _ _ if2.false) (other _ _ (ne_eqb _ _ if3.false) (other _ _ (ne_eqb _ _ if4.false) (other _ _ (second_not (eq-eqb _ _ if5.false) (le-ltb 0 args.inside.loops (omega (arith, if6.true)))) (returned _ (ends refl)))))));
+      gives = λ before _. token _ c.token_at-t.ensures (other _ _ (sym c.is_name.ensures.is ∙ c.if-is_name.false) (rw c.in-10.is (other _ _ (le-ltb 0 c.args.inside.loops (omega (arith, c.if-inside-eq0.true))) (returned _ (ends refl)))));
       onward = goes_on (omega arith) z.here z.few;
     }
 
-pub read_statement-read_exit-requires : goal.read_statement-read_exit-requires
-read_statement-read_exit-requires t c =
-    let token_at = c.token_at-t in
-    let if5 = c.if-t-ne-EXIT_WORD in
-    let z = c.requires in (z.table, omega (arith, token_at.ensures.inside, if5.false, z.tokens))
-
-pub read_statement-returns : goal.read_statement-returns
+pub read_statement-returns-else-inside-eq0 : goal.read_statement-returns-else-inside-eq0
 unfolding statement_turn
-read_statement-returns t c =
-    let args = c.args in
-    let token_at = c.token_at-t in
-    let is_name = c.is_name in
-    let if1 = c.if-is_name in
-    let if2 = c.if-t-eq-CONST_WORD in
-    let if3 = c.if-t-eq-IF_WORD in
-    let if4 = c.if-t-eq-FORALL_WORD in
-    let if5 = c.if-t-ne-EXIT_WORD in
-    let if6 = c.if-inside-eq0 in
-    let read_exit = c.read_exit in
+read_statement-returns-else-inside-eq0 t c =
     let z = c.requires in
-    let x = read_exit.ensures in
+    let x = c.read_exit.ensures in
     record {
-      gives = λ before _. token _ token_at.ensures (other _ _ (sym is_name.ensures.is ∙ if1.false) (other _ _ (ne_eqb _ _ if2.false) (other _ _ (ne_eqb _ _ if3.false) (other _ _ (ne_eqb _ _ if4.false) (so _ _ (both_hold (eq-eqb _ _ if5.false) (lt-ltb 0 args.inside.loops (omega (arith, if6.false)))) (on _ (x.gives _ _ _) refl (λ _ _. returned _ (once (omega (arith, x.at))))))))));
-      onward = goes_on (omega (arith, x.at)) (omega (arith, x.at, token_at.ensures.inside, if5.false)) (omega (arith, x.count, z.few));
+      gives = λ before _. token _ c.token_at-t.ensures (other _ _ (sym c.is_name.ensures.is ∙ c.if-is_name.false) (rw c.in-10.is (so _ _ (lt-ltb 0 c.args.inside.loops (omega (arith, c.if-inside-eq0.false))) (on _ (x.gives _ _ _) refl (λ _ _. returned _ (once (omega (arith, x.at))))))));
+      onward = goes_on (omega (arith, x.at)) (omega (arith, x.at, c.token_at-t.ensures.inside, c.in-10.is)) (omega (arith, x.count, z.few));
+    }
+
+pub read_statement-returns-in_default : goal.read_statement-returns-in_default
+unfolding statement_turn
+read_statement-returns-in_default t c =
+    let z = c.requires in
+    let k = c.token_at-t.result.kind in
+    record {
+      gives = λ before _. token _ c.token_at-t.ensures (other _ _ (sym c.is_name.ensures.is ∙ c.if-is_name.false) (simp (ne_eqb k 5 (λ q. omega arith), ne_eqb k 13 (λ q. omega arith), ne_eqb k 12 (λ q. omega arith), ne_eqb k 10 (λ q. omega arith)) (returned _ (ends refl))));
+      onward = goes_on (omega arith) z.here z.few;
     }

@@ -13,12 +13,6 @@ returns-in_err-a c =
     rw (passed c.from_residual.ensures.1 c.in_err-a.was)
     λ source. record { gives = λ _ _. off _ (expect.ensures.gives _ _) c.in_err-a.was; onward = nowhere c.in_err-a.was }
 
-pub overflow_cast-a : goal.overflow_cast-a
-overflow_cast-a c =
-    let pre = c.requires in
-    let expect = c.expect in
-    let w = went expect.ensures.onward c.in_ok-a.was in omega (arith, w.within, pre.0.tokens)
-
 pub returns : goal.returns
 unfolding loop_end
 returns c =

@@ -1,9 +1,9 @@
 use Rattle.read_state.proofs.Going.{passed}
 use Rattle.read_state.proofs.Steps.{on, on_told, off, returned, declared}
-use Rattle.read_state.proofs.Going.{nowhere, went, goes_on, still}
+use Rattle.read_state.proofs.Going.{nowhere, went, goes_on}
 use Rattle.read_statements.specs.Promises.Promises.{loop_head}
 use native.Mathlib.Omega.{arith}
-use mathlib.Core.Path.{refl, ◌∙◌}
+use mathlib.Core.Path.{refl}
 use Rattle.read_statements.proofs.loop_head.Goals as goal
 
 pub returns-in_err-a : goal.returns-in_err-a
@@ -13,17 +13,6 @@ returns-in_err-a c =
     rw (passed c.from_residual.ensures.1 c.in_err-a.was)
     record { gives = off _ fresh.ensures.gives c.in_err-a.was; onward = nowhere c.in_err-a.was }
 
-pub overflow_sub-i : goal.overflow_sub-i
-overflow_sub-i c =
-    let fresh = c.fresh in
-    let w = went fresh.ensures.onward c.in_ok-a.was in omega (arith, w.past)
-
-pub loop_range-requires : goal.loop_range-requires
-loop_range-requires c =
-    let pre = c.requires in
-    let fresh = c.fresh in
-    still pre.0 refl refl (went fresh.ensures.onward c.in_ok-a.was) (omega arith)
-
 pub returns-in_err-b : goal.returns-in_err-b
 unfolding loop_head
 returns-in_err-b c =
@@ -31,16 +20,6 @@ returns-in_err-b c =
     let loop_range = c.loop_range in
     rw (passed c.from_residual-in_err-b.ensures.1 c.in_err-b.was)
     record { gives = on_told _ fresh.ensures.gives c.in_ok-a.was (off _ loop_range.ensures.gives c.in_err-b.was); onward = nowhere c.in_err-b.was }
-
-pub declare-requires : goal.declare-requires
-declare-requires c =
-    let pre = c.requires in
-    let fresh = c.fresh in
-    let loop_range = c.loop_range in
-    let z = pre.0 in
-    let v = went fresh.ensures.onward c.in_ok-a.was in
-    let w = went loop_range.ensures.onward c.in_ok-b.was in
-    (z.tokens, loop_range.auto.words ∙ z.table, omega (arith, v.few, w.few), z.list)
 
 pub returns : goal.returns
 unfolding loop_head

@@ -1,10 +1,10 @@
 use Rattle.read_state.proofs.Going.{passed}
 use Rattle.value.proofs.Theorems.Laws.{encode_decode}
 use Rattle.read_state.proofs.Steps.{on, on_told, off, returned}
-use Rattle.read_state.proofs.Going.{nowhere, went, goes_on, still}
+use Rattle.read_state.proofs.Going.{nowhere, went, goes_on}
 use Rattle.read_statements.specs.Promises.Promises.{loop_range}
 use native.Mathlib.Omega.{arith}
-use mathlib.Core.Path.{refl, ◌∙◌}
+use mathlib.Core.Path.{refl}
 use Rattle.read_statements.proofs.Single.{put_as}
 use Rattle.read_statements.proofs.loop_range.Goals as goal
 
@@ -15,12 +15,6 @@ returns-in_err-a c =
     rw (passed c.from_residual.ensures.1 c.in_err-a.was)
     record { gives = off _ (expect.ensures.gives _ _) c.in_err-a.was; onward = nowhere c.in_err-a.was }
 
-pub read_range-requires : goal.read_range-requires
-read_range-requires c =
-    let pre = c.requires in
-    let expect = c.expect in
-    still pre refl refl (went expect.ensures.onward c.in_ok-a.was) pre.few
-
 pub returns-in_err-b : goal.returns-in_err-b
 unfolding loop_range
 returns-in_err-b c =
@@ -28,13 +22,6 @@ returns-in_err-b c =
     let read_range = c.read_range in
     rw (passed c.from_residual-in_err-b.ensures.1 c.in_err-b.was)
     record { gives = on _ (expect.ensures.gives _ _) c.in_ok-a.was (λ _ _. off _ read_range.ensures.gives c.in_err-b.was); onward = nowhere c.in_err-b.was }
-
-pub put_word-requires-2 : goal.put_word-requires-2
-put_word-requires-2 c =
-    let pre = c.requires in
-    let read_range = c.read_range in
-    let put_word = c.put_word in
-    (omega arith, put_word.auto.words ∙ read_range.auto.words ∙ pre.table)
 
 pub returns : goal.returns
 unfolding loop_range

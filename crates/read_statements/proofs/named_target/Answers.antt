@@ -1,6 +1,5 @@
 use Rattle.read_state.proofs.Going.{passed}
 use Rattle.read_state.proofs.Steps.{on_told, off, so, other, named, refused_last, carried}
-use Rattle.read_expressions.proofs.Fields.{slot_below}
 use Rattle.read_state.proofs.Going.{nowhere, went, goes_on}
 use native.Mathlib.Omega.{arith}
 use mathlib.Core.Path.{sym}
@@ -15,20 +14,6 @@ returns-in_err-a c =
     let dot_field = c.dot_field in
     rw (passed c.from_residual.ensures.1 c.in_err-a.was)
     record { gives = off _ dot_field.ensures.gives c.in_err-a.was; onward = nowhere c.in_err-a.was }
-
-pub entry_in-e-requires : goal.entry_in-e-requires
-entry_in-e-requires c =
-    let pre = c.requires in
-    let dot_field = c.dot_field in
-    let p = pre in
-    let w = went dot_field.ensures.onward c.in_ok-a.was in
-    let b = slot_below dot_field.ensures.gives c.in_ok-a.was in
-    (omega (arith, b, w.few, p.few), p.list)
-
-pub overflow_sub-a : goal.overflow_sub-a
-overflow_sub-a c =
-    let dot_field = c.dot_field in
-    let w = went dot_field.ensures.onward c.in_ok-a.was in omega arith
 
 pub returns-then-e-eq-CONST_FIELD : goal.returns-then-e-eq-CONST_FIELD
 unfolding named_target

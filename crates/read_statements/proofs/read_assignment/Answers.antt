@@ -2,7 +2,7 @@ use Rattle.read_state.proofs.Going.{passed}
 use Rattle.read_state.proofs.Steps.{on, off, here, returned, put_in}
 use Rattle.read_state.proofs.Going.{nowhere, went, goes_on}
 use native.Mathlib.Omega.{arith}
-use mathlib.Core.Path.{refl, ◌∙◌}
+use mathlib.Core.Path.{refl}
 use Rattle.grammar.specs.Statements.{read_assignment}
 use Rattle.read_statements.proofs.Single.{put_as}
 use Rattle.read_statements.proofs.read_assignment.Goals as goal
@@ -13,12 +13,6 @@ returns-in_err-a c =
     let read_target = c.read_target in
     rw (passed c.from_residual.ensures.1 c.in_err-a.was)
     record { gives = here _ (off _ read_target.ensures.gives c.in_err-a.was); onward = nowhere c.in_err-a.was }
-
-pub forbid-requires : goal.forbid-requires
-forbid-requires c =
-    let pre = c.requires in
-    let read_target = c.read_target in
-    let p = pre.0 in let w = went read_target.ensures.onward c.in_ok-a.was in (p.tokens, p.table, w.within)
 
 pub returns-in_err-b : goal.returns-in_err-b
 unfolding read_assignment
@@ -31,16 +25,6 @@ returns-in_err-b c =
       onward = nowhere c.in_err-b.was;
     }
 
-pub read_clauses-requires : goal.read_clauses-requires
-read_clauses-requires c =
-    let pre = c.requires in
-    let read_target = c.read_target in
-    let forbid = c.forbid in
-    let p = pre.0 in
-    let v = went read_target.ensures.onward c.in_ok-a.was in
-    let w = went forbid.ensures.onward c.in_ok-b.was in
-    record { tokens = p.tokens; table = p.table; list = read_target.auto.names ∙ p.list; here = w.within; few = omega (arith, v.few, w.few) }
-
 pub returns-in_err-d : goal.returns-in_err-d
 unfolding read_assignment
 returns-in_err-d c =
@@ -52,25 +36,6 @@ returns-in_err-d c =
       gives = here _ (on _ read_target.ensures.gives c.in_ok-a.was (λ to _. on _ (forbid.ensures.gives _ _) c.in_ok-b.was (λ _ _. off _ read-clauses.ensures.gives c.in_err-d.was)));
       onward = nowhere c.in_err-d.was;
     }
-
-pub put_word-requires : goal.put_word-requires
-put_word-requires c =
-    let pre = c.requires in
-    let read-clauses = c.read_clauses in
-    (omega arith, read-clauses.auto.words ∙ pre.0.table)
-
-pub overflow_cast-d : goal.overflow_cast-d
-overflow_cast-d c =
-    let pre = c.requires in
-    let read-clauses = c.read_clauses in
-    let z = pre.0 in let w = went read-clauses.ensures.onward c.in_ok-d.was in omega (arith, w.within, z.tokens)
-
-pub put_word-requires-2 : goal.put_word-requires-2
-put_word-requires-2 c =
-    let pre = c.requires in
-    let read-clauses = c.read_clauses in
-    let put_word = c.put_word in
-    (omega arith, put_word.auto.words ∙ read-clauses.auto.words ∙ pre.0.table)
 
 pub returns : goal.returns
 unfolding read_assignment

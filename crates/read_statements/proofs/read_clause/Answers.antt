@@ -1,9 +1,9 @@
 use Rattle.read_state.proofs.Going.{passed}
 use Rattle.read_expressions.proofs.Operands.{looked}
 use Rattle.read_state.proofs.Steps.{on, off, here, returned, put_in}
-use Rattle.read_state.proofs.Going.{nowhere, went, goes_on, still}
+use Rattle.read_state.proofs.Going.{nowhere, went, goes_on}
 use native.Mathlib.Omega.{arith}
-use mathlib.Core.Path.{refl, ◌∙◌}
+use mathlib.Core.Path.{refl}
 use Rattle.grammar.specs.Statements.{clause_turn}
 use Rattle.read_statements.proofs.Single.{expression}
 use Rattle.read_statements.proofs.read_clause.Goals as goal
@@ -14,12 +14,6 @@ returns-in_err-a c =
     let expect = c.expect in
     rw (passed c.from_residual.ensures.1 c.in_err-a.was)
     record { gives = λ got h. here _ (looked _ (off _ (expect.ensures.gives _ _) c.in_err-a.was)); onward = nowhere c.in_err-a.was }
-
-pub read_expression-requires : goal.read_expression-requires
-read_expression-requires c =
-    let pre = c.requires in
-    let expect = c.expect in
-    (still pre refl refl (went expect.ensures.onward c.in_ok-a.was) pre.few, omega arith)
 
 pub returns-in_err-b : goal.returns-in_err-b
 unfolding clause_turn
@@ -32,16 +26,6 @@ returns-in_err-b c =
       onward = nowhere c.in_err-b.was;
     }
 
-pub clause_end-requires : goal.clause_end-requires
-clause_end-requires c =
-    let pre = c.requires in
-    let expect = c.expect in
-    let read_expression = c.read_expression in
-    let p = pre in
-    let v = went expect.ensures.onward c.in_ok-a.was in
-    let w = went read_expression.ensures.onward c.in_ok-b.was in
-    still p refl read_expression.auto.words w (omega (arith, v.few, p.few))
-
 pub returns-in_err-d : goal.returns-in_err-d
 unfolding clause_turn
 returns-in_err-d c =
@@ -53,19 +37,6 @@ returns-in_err-d c =
       gives = λ got h. here _ (looked _ (on _ (expect.ensures.gives _ _) c.in_ok-a.was (λ _ _. on _ (expression read_expression.ensures).gives c.in_ok-b.was (λ e _. off _ (clause_end.ensures.gives (record { got = got; token = _; expr = e }) h) c.in_err-d.was))));
       onward = nowhere c.in_err-d.was;
     }
-
-pub overflow_cast-d : goal.overflow_cast-d
-overflow_cast-d c =
-    let pre = c.requires in
-    let clause_end = c.clause_end in
-    let z = pre in let w = went clause_end.ensures.onward c.in_ok-d.was in omega (arith, w.within, z.tokens)
-
-pub put_word-requires : goal.put_word-requires
-put_word-requires c =
-    let pre = c.requires in
-    let read_expression = c.read_expression in
-    let clause_end = c.clause_end in
-    (omega arith, clause_end.auto.words ∙ read_expression.auto.words ∙ pre.table)
 
 pub returns : goal.returns
 unfolding clause_turn

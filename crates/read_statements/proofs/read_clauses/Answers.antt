@@ -13,12 +13,6 @@ loop-a-init c =
     let pre = c.requires in
     (turn_first [] refl, refl, omega arith, pre.here, omega arith)
 
-pub read_clause-requires : goal.read_clause-requires
-read_clause-requires c =
-    let pre = c.requires in
-    let loop = c.loop-a in
-    let p = pre in let v = loop.invariant in record { tokens = p.tokens; table = v.1 ∙ p.table; list = p.list; here = v.3; few = omega (arith, v.4, p.few) }
-
 pub returns-in_err-a : goal.returns-in_err-a
 returns-in_err-a c =
     let pre = c.requires in
@@ -42,11 +36,6 @@ returns-then-not-a c =
       gives = turn_done v.0 (omega (arith, v.3, pre.tokens)) (λ x p. went_done (read-clause.ensures.gives x p) c.in_ok-a.was (λ y q. not_both q.0 (no_more _ if1.true)));
       onward = goes_on (omega (arith, w.past, v.2)) w.within (omega (arith, w.few, v.4));
     }
-
-pub loop-a-smaller : goal.loop-a-smaller
-loop-a-smaller c =
-    let read-clause = c.read_clause in
-    let w = went read-clause.ensures.onward c.in_ok-a.was in omega (arith, w.past, w.within)
 
 pub loop-a-preserved : goal.loop-a-preserved
 loop-a-preserved c =

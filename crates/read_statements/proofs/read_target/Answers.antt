@@ -43,12 +43,6 @@ returns-in_err-a c =
       onward = nowhere c.in_err-a.was;
     }
 
-pub forbid-requires : goal.forbid-requires
-forbid-requires c =
-    let pre = c.requires in
-    let variable-target = c.variable_target in
-    let p = pre.0 in let w = went variable-target.ensures.onward c.in_ok-a.was in (p.tokens, p.table, w.within)
-
 pub returns-in_err-b : goal.returns-in_err-b
 unfolding read_target
 returns-in_err-b c =

@@ -1,5 +1,5 @@
 use Rattle.read_state.proofs.Going.{passed}
-use Rattle.read_state.proofs.Steps.{on, on_told, off, so, other, stated, named, found_it, missed_it, below_slot, refused, carried, advanced, declared}
+use Rattle.read_state.proofs.Steps.{on, on_told, off, so, other, stated, named, found_it, missed_it, refused, carried, advanced, declared}
 use Rattle.read_state.proofs.Going.{nowhere, went, goes_on}
 use native.Mathlib.Omega.{arith}
 use mathlib.Core.Path.{refl, sym, ◌∙◌}
@@ -14,23 +14,6 @@ returns-in_err-a c =
     let fresh = c.fresh in
     rw (passed c.from_residual.ensures.1 c.in_err-a.was)
     record { gives = missed_it _ _ _ find_name.ensures c.in_default.is (off _ fresh.ensures.gives c.in_err-a.was); onward = nowhere c.in_err-a.was }
-
-pub count_variables-k-requires : goal.count_variables-k-requires
-count_variables-k-requires c =
-    let pre = c.requires in
-    let fresh = c.fresh in
-    let w = went fresh.ensures.onward c.in_ok-a.was in (omega (arith, w.few, pre.0.few), pre.0.list)
-
-pub overflow_sub-a : goal.overflow_sub-a
-overflow_sub-a c =
-    let fresh = c.fresh in
-    let w = went fresh.ensures.onward c.in_ok-a.was in omega arith
-
-pub declare-b-requires : goal.declare-b-requires
-declare-b-requires c =
-    let pre = c.requires in
-    let fresh = c.fresh in
-    let p = pre.0 in let w = went fresh.ensures.onward c.in_ok-a.was in (p.tokens, p.table, omega arith, p.list)
 
 pub returns-in_default : goal.returns-in_default
 unfolding new_variable
@@ -50,12 +33,6 @@ returns-in_default c =
           (λ _ _. carried _ k (sym (k.number ∙ count))))));
       onward = goes_on (omega (arith, w.past, d.at, k.at)) (omega (arith, w.within, d.at, k.at)) (omega (arith, w.few, d.count, k.count));
     }
-
-pub entry_in-e-requires : goal.entry_in-e-requires
-entry_in-e-requires c =
-    let pre = c.requires in
-    let find_name = c.find_name in
-    let p = pre.0 in let b = below_slot find_name.ensures.below c.in-Some.is in (omega (arith, b, p.few), p.list)
 
 pub returns-then-e-eq-VARIABLE : goal.returns-then-e-eq-VARIABLE
 unfolding old_variable

@@ -2,7 +2,7 @@ use Rattle.read_state.proofs.Going.{passed}
 use Rattle.read_state.proofs.Steps.{on, off, token, here, advanced, put_in}
 use Rattle.read_state.proofs.Going.{nowhere, went, goes_on}
 use native.Mathlib.Omega.{arith}
-use mathlib.Core.Path.{refl, ◌∙◌}
+use mathlib.Core.Path.{refl}
 use Rattle.grammar.specs.Statements.{when_clause}
 use Rattle.read_statements.proofs.Single.{expression, turn_told}
 use Rattle.read_statements.proofs.when_clause.Goals as goal
@@ -17,13 +17,6 @@ returns-in_err-b c =
       gives = λ b _. on _ (advanced moved.ensures) refl (λ _ _. here _ (off _ (expression read_expression.ensures).gives c.in_err-b.was));
       onward = nowhere c.in_err-b.was;
     }
-
-pub token_at-t-requires : goal.token_at-t-requires
-token_at-t-requires c =
-    let pre = c.requires in
-    let read_expression = c.read_expression in
-    let put_word = c.put_word in
-    (pre.0.tokens, put_word.auto.words ∙ read_expression.auto.words ∙ pre.0.table)
 
 pub returns : goal.returns
 unfolding when_clause
