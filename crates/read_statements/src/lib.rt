@@ -423,22 +423,18 @@ fn read_statement(
     if is_name(t) {
         return read_assignment(source, names, words, scan, s, inside);
     }
-    if t.kind == kind::CONST_WORD {
-        return read_declaration(source, names, words, scan, s, 0 < inside.free);
+    match t.kind {
+        kind::CONST_WORD => read_declaration(source, names, words, scan, s, 0 < inside.free),
+        kind::IF_WORD => read_if(source, names, words, scan, s, inside),
+        kind::FORALL_WORD => read_forall(source, names, words, scan, s, inside),
+        kind::EXIT_WORD => {
+            if inside.loops == 0 {
+                return Ok(s);
+            }
+            Ok(read_exit(words, s))
+        }
+        _ => Ok(s),
     }
-    if t.kind == kind::IF_WORD {
-        return read_if(source, names, words, scan, s, inside);
-    }
-    if t.kind == kind::FORALL_WORD {
-        return read_forall(source, names, words, scan, s, inside);
-    }
-    if t.kind != kind::EXIT_WORD {
-        return Ok(s);
-    }
-    if inside.loops == 0 {
-        return Ok(s);
-    }
-    Ok(read_exit(words, s))
 }
 
 // A list of statements.

@@ -5,7 +5,7 @@ use Rattle.token.specs.Kind.{operation}
 use Rattle.program.specs.Syntax.{Expr}
 use Rattle.grammar.specs.Reader.{Reader, refuse}
 use Rattle.grammar.specs.Expressions as grammar
-use Rattle.grammar.specs.Expressions.{plain, climb, levels, operand_in}
+use Rattle.grammar.specs.Expressions.{climb, levels, operand_in}
 use Rattle.read_state.specs.declared.Reading.{Reading}
 use Rattle.read_state.specs.Promises.Reading.{Read}
 use Rattle.read_state.specs.Promises.Reading.{anything, Gives, Onward}

@@ -8,7 +8,7 @@ use Rattle.grammar.specs.Reader.{done}
 use Rattle.grammar.specs.Statements.{choices, arm_end, arm_turn, statement_turn}
 use Rattle.read_expressions.specs.Promises.Promises.{cell_as}
 use Rattle.read_state.specs.Promises.Reading.{anything}
-use Rattle.read_state.proofs.Steps.{on, off, made, told_as, so, other, both_hold, first_not, second_not, token, here, returned, carried, advanced, put_in}
+use Rattle.read_state.proofs.Steps.{on, off, made, told_as, so, other, token, here, returned, carried, advanced, put_in}
 use Rattle.read_state.proofs.Turns.{turn_first, turn_again, turn_done, turn_refused}
 use Rattle.read_state.proofs.Going.{nowhere, went, goes_on, further}
 use Rattle.read_statements.specs.Promises.Promises.{once, ends, NoneFollows}
@@ -260,99 +260,58 @@ read_statement-returns-then-is_name t c =
       onward = further read_assignment.ensures.onward (omega arith) (omega arith);
     }
 
-pub read_statement-returns-then-t-eq-CONST_WORD : goal.read_statement-returns-then-t-eq-CONST_WORD
+pub read_statement-returns-in-5 : goal.read_statement-returns-in-5
 unfolding statement_turn
-read_statement-returns-then-t-eq-CONST_WORD t c =
-    let args = c.args in
-    let token_at = c.token_at-t in
-    let is_name = c.is_name in
-    let if1 = c.if-is_name in
-    let if2 = c.if-t-eq-CONST_WORD in
-    let read_declaration = c.read_declaration in
+read_statement-returns-in-5 t c =
+    let x = c.read_declaration.ensures in
     record {
-      gives = λ before _. token _ token_at.ensures (other _ _ (sym is_name.ensures.is ∙ if1.false) (so _ _ (eq-eqb _ _ if2.true) (one_more (λ _ after. before (constant after)) (declared_in (cell_as args.inside.cell) args.inside.free read_declaration.ensures))));
-      onward = further read_declaration.ensures.onward (omega arith) (omega arith);
+      gives = λ before _. token _ c.token_at-t.ensures (other _ _ (sym c.is_name.ensures.is ∙ c.if-is_name.false) (rw c.in-5.is (one_more (λ _ after. before (constant after)) (declared_in (cell_as c.args.inside.cell) c.args.inside.free x))));
+      onward = further x.onward (omega arith) (omega arith);
     }
 
-pub read_statement-returns-then-t-eq-IF_WORD : goal.read_statement-returns-then-t-eq-IF_WORD
+pub read_statement-returns-in-13 : goal.read_statement-returns-in-13
 unfolding statement_turn
-read_statement-returns-then-t-eq-IF_WORD t c =
-    let token_at = c.token_at-t in
-    let is_name = c.is_name in
-    let if1 = c.if-is_name in
-    let if2 = c.if-t-eq-CONST_WORD in
-    let if3 = c.if-t-eq-IF_WORD in
-    let read_if = c.read_if in
+read_statement-returns-in-13 t c =
+    let x = c.read_if.ensures in
     record {
-      gives = λ before _. token _ token_at.ensures (other _ _ (sym is_name.ensures.is ∙ if1.false) (other _ _ (ne_eqb _ _ if2.false) (so _ _ (eq-eqb _ _ if3.true) (one_more _ read_if.ensures))));
-      onward = further read_if.ensures.onward (omega arith) (omega arith);
+      gives = λ before _. token _ c.token_at-t.ensures (other _ _ (sym c.is_name.ensures.is ∙ c.if-is_name.false) (rw c.in-13.is (one_more _ x)));
+      onward = further x.onward (omega arith) (omega arith);
     }
 
-pub read_statement-returns-then-t-eq-FORALL_WORD : goal.read_statement-returns-then-t-eq-FORALL_WORD
+pub read_statement-returns-in-12 : goal.read_statement-returns-in-12
 unfolding statement_turn
-read_statement-returns-then-t-eq-FORALL_WORD t c =
-    let token_at = c.token_at-t in
-    let is_name = c.is_name in
-    let if1 = c.if-is_name in
-    let if2 = c.if-t-eq-CONST_WORD in
-    let if3 = c.if-t-eq-IF_WORD in
-    let if4 = c.if-t-eq-FORALL_WORD in
-    let read_forall = c.read_forall in
+read_statement-returns-in-12 t c =
+    let x = c.read_forall.ensures in
     record {
-      gives = λ before _. token _ token_at.ensures (other _ _ (sym is_name.ensures.is ∙ if1.false) (other _ _ (ne_eqb _ _ if2.false) (other _ _ (ne_eqb _ _ if3.false) (so _ _ (eq-eqb _ _ if4.true) (one_more _ read_forall.ensures)))));
-      onward = further read_forall.ensures.onward (omega arith) (omega arith);
-    }
-
-pub read_statement-returns-then-t-ne-EXIT_WORD : goal.read_statement-returns-then-t-ne-EXIT_WORD
-unfolding statement_turn
-read_statement-returns-then-t-ne-EXIT_WORD t c =
-    let token_at = c.token_at-t in
-    let is_name = c.is_name in
-    let if1 = c.if-is_name in
-    let if2 = c.if-t-eq-CONST_WORD in
-    let if3 = c.if-t-eq-IF_WORD in
-    let if4 = c.if-t-eq-FORALL_WORD in
-    let if5 = c.if-t-ne-EXIT_WORD in
-    let z = c.requires in
-    record {
-      gives = λ before _. token _ token_at.ensures (other _ _ (sym is_name.ensures.is ∙ if1.false) (other _ _ (ne_eqb _ _ if2.false) (other _ _ (ne_eqb _ _ if3.false) (other _ _ (ne_eqb _ _ if4.false) (other _ _ (first_not _ (ne_eqb _ _ if5.true)) (returned _ (ends refl)))))));
-      onward = goes_on (omega arith) z.here z.few;
+      gives = λ before _. token _ c.token_at-t.ensures (other _ _ (sym c.is_name.ensures.is ∙ c.if-is_name.false) (rw c.in-12.is (one_more _ x)));
+      onward = further x.onward (omega arith) (omega arith);
     }
 
 pub read_statement-returns-then-inside-eq0 : goal.read_statement-returns-then-inside-eq0
 unfolding statement_turn
 read_statement-returns-then-inside-eq0 t c =
-    let args = c.args in
-    let token_at = c.token_at-t in
-    let is_name = c.is_name in
-    let if1 = c.if-is_name in
-    let if2 = c.if-t-eq-CONST_WORD in
-    let if3 = c.if-t-eq-IF_WORD in
-    let if4 = c.if-t-eq-FORALL_WORD in
-    let if5 = c.if-t-ne-EXIT_WORD in
-    let if6 = c.if-inside-eq0 in
     let z = c.requires in
     record {
-      gives = λ before _. token _ token_at.ensures (other _ _ (sym is_name.ensures.is ∙ if1.false) (other _ _ (ne_eqb _ _ if2.false) (other _ _ (ne_eqb _ _ if3.false) (other _ _ (ne_eqb _ _ if4.false) (other _ _ (second_not (eq-eqb _ _ if5.false) (le-ltb 0 args.inside.loops (omega (arith, if6.true)))) (returned _ (ends refl)))))));
+      gives = λ before _. token _ c.token_at-t.ensures (other _ _ (sym c.is_name.ensures.is ∙ c.if-is_name.false) (rw c.in-10.is (other _ _ (le-ltb 0 c.args.inside.loops (omega (arith, c.if-inside-eq0.true))) (returned _ (ends refl)))));
       onward = goes_on (omega arith) z.here z.few;
     }
 
-pub read_statement-returns : goal.read_statement-returns
+pub read_statement-returns-else-inside-eq0 : goal.read_statement-returns-else-inside-eq0
 unfolding statement_turn
-read_statement-returns t c =
-    let args = c.args in
-    let token_at = c.token_at-t in
-    let is_name = c.is_name in
-    let if1 = c.if-is_name in
-    let if2 = c.if-t-eq-CONST_WORD in
-    let if3 = c.if-t-eq-IF_WORD in
-    let if4 = c.if-t-eq-FORALL_WORD in
-    let if5 = c.if-t-ne-EXIT_WORD in
-    let if6 = c.if-inside-eq0 in
-    let read_exit = c.read_exit in
+read_statement-returns-else-inside-eq0 t c =
     let z = c.requires in
-    let x = read_exit.ensures in
+    let x = c.read_exit.ensures in
     record {
-      gives = λ before _. token _ token_at.ensures (other _ _ (sym is_name.ensures.is ∙ if1.false) (other _ _ (ne_eqb _ _ if2.false) (other _ _ (ne_eqb _ _ if3.false) (other _ _ (ne_eqb _ _ if4.false) (so _ _ (both_hold (eq-eqb _ _ if5.false) (lt-ltb 0 args.inside.loops (omega (arith, if6.false)))) (on _ (x.gives _ _ _) refl (λ _ _. returned _ (once (omega (arith, x.at))))))))));
-      onward = goes_on (omega (arith, x.at)) (omega (arith, x.at, token_at.ensures.inside, if5.false)) (omega (arith, x.count, z.few));
+      gives = λ before _. token _ c.token_at-t.ensures (other _ _ (sym c.is_name.ensures.is ∙ c.if-is_name.false) (rw c.in-10.is (so _ _ (lt-ltb 0 c.args.inside.loops (omega (arith, c.if-inside-eq0.false))) (on _ (x.gives _ _ _) refl (λ _ _. returned _ (once (omega (arith, x.at))))))));
+      onward = goes_on (omega (arith, x.at)) (omega (arith, x.at, c.token_at-t.ensures.inside, c.in-10.is)) (omega (arith, x.count, z.few));
+    }
+
+pub read_statement-returns-in_default : goal.read_statement-returns-in_default
+unfolding statement_turn
+read_statement-returns-in_default t c =
+    let z = c.requires in
+    let k = c.token_at-t.result.kind in
+    record {
+      gives = λ before _. token _ c.token_at-t.ensures (other _ _ (sym c.is_name.ensures.is ∙ c.if-is_name.false) (simp (ne_eqb k 5 (λ q. omega arith), ne_eqb k 13 (λ q. omega arith), ne_eqb k 12 (λ q. omega arith), ne_eqb k 10 (λ q. omega arith)) (returned _ (ends refl))));
+      onward = goes_on (omega arith) z.here z.few;
     }
