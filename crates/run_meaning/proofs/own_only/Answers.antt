@@ -14,11 +14,11 @@ use Rattle.cell_meaning.specs.Places.{own_place}
 use Rattle.run_meaning.specs.declared.Bounds.{Bounds}
 use Rattle.run_meaning.specs.Reach.{own_only}
 use Rattle.run_meaning.proofs.Theorems.Covering.{offsets_length}
-use Rattle.run_meaning.specs.Promises.Fitting.{bound_at, bounds_of, place_at}
+use Rattle.run_meaning.specs.Promises.Fitting.{no_bound, bound_at, bounds_of, place_at}
 use Rattle.run_meaning.proofs.own_only.Goals as goal
 
 abbrev none : Bounds
-none = record { back0 = 0; ahead0 = 0; back1 = 0; ahead1 = 0; back2 = 0; ahead2 = 0 }
+none = record { dims = replicate 3 no_bound }
 
 own_bound : (k : ℕ) → bound_at none k ≡ own_only
 own_bound zero = refl

@@ -12,6 +12,7 @@ use Rattle.program.specs.declared.Rule.{Rule}
 use Rattle.cell_meaning.specs.Promises.Stands.{Holds}
 use Rattle.cell_meaning.specs.Places.{own_place}
 use Rattle.run_meaning.specs.Reach.{own_only}
+use Rattle.run_meaning.specs.declared.Bound as declared
 use Rattle.run_meaning.specs.declared.Bounds.{Bounds}
 use Rattle.run_meaning.specs.declared.Reach.{Reach}
 
@@ -21,11 +22,19 @@ held_fields {words} {rule} p h = ap length h.fields ∙ length_list_of _ rule.fi
 
 -- ---- the reach record
 
+-- a bound, as a box of the definition has it
+abbrev pub seen : declared.Bound → Bound
+seen b = record { back = b.back; ahead = b.ahead }
+
+-- a bound that is in no box
+abbrev pub no_bound : declared.Bound
+no_bound = record { back = 0; ahead = 0 }
+
 -- a box's bound in one dimension
 abbrev pub bound_at : Bounds → ℕ → Bound
-bound_at b zero = record { back = b.back0; ahead = b.ahead0 }
-bound_at b (suc zero) = record { back = b.back1; ahead = b.ahead1 }
-bound_at b (suc (suc k)) = record { back = b.back2; ahead = b.ahead2 }
+bound_at b zero = seen (get_or b.dims 0 no_bound)
+bound_at b (suc zero) = seen (get_or b.dims 1 no_bound)
+bound_at b (suc (suc k)) = seen (get_or b.dims 2 no_bound)
 
 -- the bounds of the first n dimensions
 abbrev pub bounds_of : Bounds → ℕ → List Bound
