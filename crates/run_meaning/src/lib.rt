@@ -4,7 +4,7 @@
 ghost use Rattle.std.specs.Prelude.{◌≡◌, ◌*◌, ◌≤◌, min};
 ghost use Rattle.run_meaning.specs.Promises.Fitting.{OwnOnly};
 
-use value::limits::{MOST_DIMS, MOST_PLACES, PLACE_WORDS};
+use value::limits::{MOST_DIMS, MOST_PLACES};
 
 // In one dimension: how far the lowest index that is written lies below 0, and the highest above it.
 #[derive(Clone, Copy, Debug, PartialEq, Eq)]
@@ -19,14 +19,14 @@ pub struct Bounds {
     pub dims: [Bound; MOST_DIMS],
 }
 
-// The reach: the box, and the places that can be read, the own cell among them. Place k has the word of its index in dimension d at 3 * k + d.
+// The reach: the box, and the places that can be read, the own cell among them. A place has the word of its index in each dimension.
 // A count over 256: there are too many, and the box holds.
 // Kept: only Clone and Copy, since nothing compares or prints its 768 words.
 #[derive(Clone, Copy)]
 pub struct Reach {
     pub bounds: Bounds,
     pub count: u32,
-    pub places: [u32; PLACE_WORDS],
+    pub places: [[u32; MOST_DIMS]; MOST_PLACES],
 }
 
 // The reach that has the own cell alone.
@@ -42,7 +42,7 @@ pub fn own_only() -> Reach
             dims: [own; MOST_DIMS],
         },
         count: 1,
-        places: [0; PLACE_WORDS],
+        places: [[0; MOST_DIMS]; MOST_PLACES],
     }
 }
 
