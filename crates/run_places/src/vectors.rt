@@ -59,7 +59,7 @@ fn uses(words: &[u32], n: usize, dims: usize, which: usize, at: usize) -> bool
     ensures { result ≡ uses which (indices_in (table_of words.now n dims) dims at) }
 {
     let mut here = at;
-    for k in 0..dims {
+    for _ in 0..dims {
         if is_variable(words, n, dims, which, here) {
             return true;
         }
