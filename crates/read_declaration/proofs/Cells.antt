@@ -13,11 +13,10 @@ use Rattle.grammar.specs.Source.{Declared, declared}
 use Rattle.read_state.specs.Promises.Reading.{Gives}
 use Rattle.read_state.specs.declared.Reading.{Reading}
 use Rattle.read_state.specs.Promises.Reading.{Read}
-use Rattle.std.specs.Prelude.{Result, Ok, Err, IsErrAnd}
-use Rattle.std.proofs.lemmas.Result.{err_from_is_err_and}
+use Rattle.std.specs.Prelude.{Ok, Err}
 use Rattle.read_state.proofs.Steps.{went_on, no_further}
 use Rattle.read_constants.proofs.Values.{word_of}
-use Rattle.read_declaration.specs.Promises.Fields.{Fields, Dims, Fielded, DeclaresField, next_in}
+use Rattle.read_declaration.specs.Promises.Fields.{Fields, Dims, Fielded, DeclaresField}
 use Rattle.read_declaration.specs.declared.CellRead.{CellRead}
 
 -- the fields, named or not
@@ -33,10 +32,6 @@ module _ {A : Type 0} {R Q : A → Reading → Type 0} {m : Reader A} {source : 
   -- a refusal, as part of the code's answer
   pub stopped : {c : Read} {e : Refusal} → c ≡ r → r ≡ Err e → Gives Q m source sc s ns ws c ns₁ ws₁
   stopped {c} e y = rw e (no_further x y)
-
--- what the exit of a `?` returns goes on no more than the answer that it was used on
-pub passed_on : (q : Result CellRead Refusal) {r : Read} {e : Refusal} → IsErrAnd q (λ f. f ≡ e) → r ≡ Err e → next_in q ≡ r
-passed_on q h y = let p = err_from_is_err_and q h in ap next_in p.1 ∙ ap Err p.2 ∙ sym y
 
 -- the cell, from its number of dimensions and its fields
 pub cell_of : {words : List ℕ} {z : ℤ} {a t : Reading} {d : Declared} (c : CellRead) → Dims z a → Fielded words c.base z d t → c.dims ≡ a.value → c.named ≡ t.named → c.fields ≡ t.fields → DeclaresField words c d t

@@ -46,3 +46,7 @@ still x l k w h = record { tokens = x.tokens; table = k ∙ x.table; list = l �
 -- what the exit of a `?` returns is the answer that it was used on
 pub passed : {A E : Type 0} {q r : prelude.Result A E} {e : E} → prelude.IsErrAnd q (λ f. f ≡ e) → r ≡ prelude.Err e → q ≡ r
 passed {q = q} h y = let p = err_from_is_err_and q h in p.1 ∙ ap prelude.Err p.2 ∙ sym y
+
+-- where the answer of the code is more than a reading's end, which `end` tells of it
+pub passed_by : {A : Type 0} (end : prelude.Result A Refusal → Read) → ((f : Refusal) → end (Err f) ≡ Err f) → (q : prelude.Result A Refusal) {r : Read} {e : Refusal} → prelude.IsErrAnd q (λ f. f ≡ e) → r ≡ Err e → end q ≡ r
+passed_by end same q {e = e} h y = let p = err_from_is_err_and q h in ap end (p.1 ∙ ap prelude.Err p.2) ∙ same e ∙ sym y

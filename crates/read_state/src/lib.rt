@@ -24,7 +24,7 @@ pub struct Note {
 // The state of a reading: the position of the next token, what is noted so far, how many names are declared; and what was read last: a value
 // or a range (`value`, the upper bound; `low`, the lower one), the number of a slot, a field, a variable or a kind of names (`number`), how
 // many fields there are and whether they have names (`fields`, `named`), whether one more part follows (`more`).
-#[derive(Clone, Copy, Debug, PartialEq, Eq, Hash)]
+#[derive(Clone, Copy, Debug, Default, PartialEq, Eq, Hash)]
 pub struct Reading {
     pub at: usize,
     pub noted: Option<Note>,

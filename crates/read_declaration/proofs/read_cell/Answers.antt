@@ -1,11 +1,12 @@
-use Rattle.read_state.proofs.Going.{nowhere, went, goes_on}
+use Rattle.read_state.proofs.Going.{nowhere, went, goes_on, passed_by}
 use native.Mathlib.Omega.{arith}
 use mathlib.Core.Path.{◌∙◌, refl}
 use Rattle.grammar.specs.Source.{read_cell}
 use Rattle.read_state.specs.Promises.Reading.{anything}
 use Rattle.read_state.proofs.Steps.{on, off, here, no_further}
 use lib.IntN.{pos}
-use Rattle.read_declaration.proofs.Cells.{told_at, stopped, passed_on, cell_of}
+use Rattle.read_declaration.specs.Promises.Fields.{next_in}
+use Rattle.read_declaration.proofs.Cells.{told_at, stopped, cell_of}
 use Rattle.read_declaration.proofs.read_cell.Goals as goal
 
 pub returns-in_err-a : goal.returns-in_err-a
@@ -13,7 +14,7 @@ unfolding read_cell
 returns-in_err-a c =
     let read_dims = c.read_dims in
     let y = c.in_err-a.was in
-    let e = passed_on _ c.from_residual.ensures.1 y in
+    let e = passed_by next_in (λ f. refl) _ c.from_residual.ensures.1 y in
     record { gives = stopped (off {Q = anything} _ read_dims.ensures.gives y) e y; onward = nowhere (e ∙ y) }
 
 pub returns-in_err-b : goal.returns-in_err-b
@@ -22,7 +23,7 @@ returns-in_err-b c =
     let read_dims = c.read_dims in
     let expect = c.expect in
     let y = c.in_err-b.was in
-    let e = passed_on _ c.from_residual-in_err-b.ensures.1 y in
+    let e = passed_by next_in (λ f. refl) _ c.from_residual-in_err-b.ensures.1 y in
     record {
       gives = stopped (on {Q = anything} _ read_dims.ensures.gives c.in_ok-a.was (λ z d. off _ (expect.ensures.gives _ _) y)) e y;
       onward = nowhere (e ∙ y);
@@ -41,7 +42,7 @@ returns-in_err-e c =
     let expect = c.expect in
     let expect2 = c.expect-2 in
     let y = c.in_err-e.was in
-    let e = passed_on _ c.from_residual-in_err-e.ensures.1 y in
+    let e = passed_by next_in (λ f. refl) _ c.from_residual-in_err-e.ensures.1 y in
     record {
       gives =
           stopped (on {Q = anything} _ read_dims.ensures.gives c.in_ok-a.was (λ z d. on _ (expect.ensures.gives _ _) c.in_ok-b.was
@@ -69,7 +70,7 @@ returns-in_err-d c =
     let expect2 = c.expect-2 in
     let read_fields = c.read_fields in
     let y = c.in_err-d.was in
-    let e = passed_on _ c.from_residual-in_err-d.ensures.1 y in
+    let e = passed_by next_in (λ f. refl) _ c.from_residual-in_err-d.ensures.1 y in
     record {
       gives =
           stopped (on {Q = anything} _ read_dims.ensures.gives c.in_ok-a.was (λ z d. on _ (expect.ensures.gives _ _) c.in_ok-b.was

@@ -37,10 +37,10 @@ returns-then-a-lt1 c =
     let read_constant = c.read_constant in
     let y = c.refuse.ensures in
     let bad : within (pos 1) (pos 3) (decode_of c.in_ok-a.a.value) ≡ false =
-        elim c.then-a-lt1.branch [
-          | then-a-lt1-via-then-a-lt1 w ↦ dims_none _ w.if-a-lt1.true
-          | then-a-lt1-via-else-a-lt1+then-a-gt-DIMS w ↦ dims_many _ w.if-a-gt-DIMS.true (search rules)
-        ] in
+    elim c.then-a-lt1.branch [
+      | then-a-lt1-via-then-a-lt1 w ↦ dims_none _ w.if-a-lt1.true
+      | then-a-lt1-via-else-a-lt1+then-a-gt-DIMS w ↦ dims_many _ w.if-a-gt-DIMS.true (search rules)
+    ] in
     record { gives = on_told _ read_constant.ensures.gives c.in_ok-a.was (other _ _ bad (refused_last _ y)); onward = nowhere y }
 
 pub returns : goal.returns
