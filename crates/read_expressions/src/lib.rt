@@ -140,6 +140,7 @@ fn read_index(source: &[u8], names: &[u32], words: &mut [u32], scan: Scan, s: Re
 }
 
 // The elements of a relative index and its `]`: k of them are read, and there are as many as dimensions.
+// Kept: a loop that counts. It ends at a token and not at a number, so a `for` over the dimensions is no plainer.
 fn read_indices(
     source: &[u8],
     names: &[u32],
@@ -299,28 +300,20 @@ fn read_primary(
     ensures { Reads anything (read_primary (cell_as inside.cell) (some_free inside.free) (inner_in (cell_as inside.cell) inside.free)) source.now scan s.count s names.now words.old result names.now words.new }
 {
     let t = token_at(words, scan, s.at);
-    if t.kind == kind::LITERAL {
-        return Ok(s.moved());
+    match t.kind {
+        kind::LITERAL => Ok(s.moved()),
+        kind::PAREN => read_bracket(source, names, words, scan, s, inside, kind::UNPAREN),
+        kind::BRACKET => read_neighbour(source, names, words, scan, s, inside),
+        kind::CELL => read_own(source, names, words, scan, s, inside.cell),
+        kind::TIME => plain(words, scan, s.moved()),
+        kind::NAME => {
+            let Some(slot) = find_name(source, names, s.count, false, t.start, t.len) else {
+                return refuse(words, scan, s, s.at, Reason::UnknownName);
+            };
+            name_use(source, names, words, scan, s, inside, slot)
+        }
+        _ => refuse(words, scan, s, s.at, Reason::NotAllowed),
     }
-    if t.kind == kind::PAREN {
-        return read_bracket(source, names, words, scan, s, inside, kind::UNPAREN);
-    }
-    if t.kind == kind::BRACKET {
-        return read_neighbour(source, names, words, scan, s, inside);
-    }
-    if t.kind == kind::CELL {
-        return read_own(source, names, words, scan, s, inside.cell);
-    }
-    if t.kind == kind::TIME {
-        return plain(words, scan, s.moved());
-    }
-    if t.kind == kind::NAME {
-        let Some(slot) = find_name(source, names, s.count, false, t.start, t.len) else {
-            return refuse(words, scan, s, s.at, Reason::UnknownName);
-        };
-        return name_use(source, names, words, scan, s, inside, slot);
-    }
-    refuse(words, scan, s, s.at, Reason::NotAllowed)
 }
 
 // The name in a slot, in an expression.

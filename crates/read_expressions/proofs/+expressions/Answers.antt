@@ -228,122 +228,57 @@ read_operand-returns t c =
       onward = read-primary2.ensures.onward;
     }
 
-pub read_primary-returns-then-t-eq-LITERAL : goal.read_primary-returns-then-t-eq-LITERAL
+pub read_primary-returns-in-2 : goal.read_primary-returns-in-2
 unfolding grammar.read_primary
-read_primary-returns-then-t-eq-LITERAL t c =
-    let token_at = c.token_at-t in
-    let if1 = c.if-t-eq-LITERAL in
-    let moved = c.moved in
-    let m = moved.ensures in
+read_primary-returns-in-2 t c =
+    let m = c.moved.ensures in
     record {
-      gives = token _ token_at.ensures (so _ _ (eq-eqb _ _ if1.true) (made _ (advanced m) (λ _ _ _. tt)));
-      onward = goes_on (omega (arith, m.at)) (omega (arith, m.at, token_at.ensures.inside, if1.true)) (omega (arith, m.count));
+      gives = token _ c.token_at-t.ensures (rw c.in-2.is (made _ (advanced m) (λ _ _ _. tt)));
+      onward = goes_on (omega (arith, m.at)) (omega (arith, m.at, c.token_at-t.ensures.inside, c.in-2.is)) (omega (arith, m.count));
     }
 
-pub read_primary-returns-then-t-eq-PAREN : goal.read_primary-returns-then-t-eq-PAREN
+pub read_primary-returns-in-40 : goal.read_primary-returns-in-40
 unfolding grammar.read_primary
-read_primary-returns-then-t-eq-PAREN t c =
-    let token_at = c.token_at-t in
-    let if1 = c.if-t-eq-LITERAL in
-    let if2 = c.if-t-eq-PAREN in
-    let read_bracket = c.read_bracket in
+read_primary-returns-in-40 t c =
+    let x = c.read_bracket.ensures in record { gives = token _ c.token_at-t.ensures (rw c.in-40.is x.gives); onward = x.onward }
+
+pub read_primary-returns-in-91 : goal.read_primary-returns-in-91
+unfolding grammar.read_primary
+read_primary-returns-in-91 t c =
+    let x = c.read_neighbour.ensures in record { gives = token _ c.token_at-t.ensures (rw c.in-91.is x.gives); onward = x.onward }
+
+pub read_primary-returns-in-3 : goal.read_primary-returns-in-3
+unfolding grammar.read_primary
+read_primary-returns-in-3 t c =
+    let x = c.read_own.ensures in record { gives = token _ c.token_at-t.ensures (rw c.in-3.is x.gives); onward = x.onward }
+
+pub read_primary-returns-in-4 : goal.read_primary-returns-in-4
+unfolding grammar.read_primary
+read_primary-returns-in-4 t c =
+    let m = c.moved-in-4.ensures in
+    let x = c.plain.ensures in
     record {
-      gives = token _ token_at.ensures (other _ _ (ne_eqb _ _ if1.false) (so _ _ (eq-eqb _ _ if2.true) read_bracket.ensures.gives));
-      onward = read_bracket.ensures.onward;
+      gives = token _ c.token_at-t.ensures (rw c.in-4.is (made _ (on _ (advanced m) refl (λ _ _. x.gives _ _)) (λ _ _ _. tt)));
+      onward = further x.onward (omega (arith, m.at)) (omega (arith, m.count));
     }
 
-pub read_primary-returns-then-t-eq-BRACKET : goal.read_primary-returns-then-t-eq-BRACKET
+pub read_primary-returns-in_default-find_name : goal.read_primary-returns-in_default-find_name
 unfolding grammar.read_primary
-read_primary-returns-then-t-eq-BRACKET t c =
-    let token_at = c.token_at-t in
-    let if1 = c.if-t-eq-LITERAL in
-    let if2 = c.if-t-eq-PAREN in
-    let if3 = c.if-t-eq-BRACKET in
-    let read_neighbour = c.read_neighbour in
-    record {
-      gives = token _ token_at.ensures (other _ _ (ne_eqb _ _ if1.false) (other _ _ (ne_eqb _ _ if2.false) (so _ _ (eq-eqb _ _ if3.true) read_neighbour.ensures.gives)));
-      onward = read_neighbour.ensures.onward;
-    }
+read_primary-returns-in_default-find_name t c =
+    let y = c.refuse.ensures in
+    record { gives = token _ c.token_at-t.ensures (rw c.in-1.is (missed_it _ _ _ c.find_name.ensures c.in_default-find_name.is (refused _ y))); onward = nowhere y }
 
-pub read_primary-returns-then-t-eq-CELL : goal.read_primary-returns-then-t-eq-CELL
+pub read_primary-returns-in-Some : goal.read_primary-returns-in-Some
 unfolding grammar.read_primary
-read_primary-returns-then-t-eq-CELL t c =
-    let token_at = c.token_at-t in
-    let if1 = c.if-t-eq-LITERAL in
-    let if2 = c.if-t-eq-PAREN in
-    let if3 = c.if-t-eq-BRACKET in
-    let if4 = c.if-t-eq-CELL in
-    let read_own = c.read_own in
-    record {
-      gives = token _ token_at.ensures (other _ _ (ne_eqb _ _ if1.false) (other _ _ (ne_eqb _ _ if2.false) (other _ _ (ne_eqb _ _ if3.false) (so _ _ (eq-eqb _ _ if4.true) read_own.ensures.gives))));
-      onward = read_own.ensures.onward;
-    }
-
-pub read_primary-returns-then-t-eq-TIME : goal.read_primary-returns-then-t-eq-TIME
-unfolding grammar.read_primary
-read_primary-returns-then-t-eq-TIME t c =
-    let token_at = c.token_at-t in
-    let if1 = c.if-t-eq-LITERAL in
-    let if2 = c.if-t-eq-PAREN in
-    let if3 = c.if-t-eq-BRACKET in
-    let if4 = c.if-t-eq-CELL in
-    let if5 = c.if-t-eq-TIME in
-    let moved2 = c.moved-then-t-eq-TIME in
-    let plain = c.plain in
-    let m = moved2.ensures in
-    record {
-      gives = token _ token_at.ensures (other _ _ (ne_eqb _ _ if1.false) (other _ _ (ne_eqb _ _ if2.false) (other _ _ (ne_eqb _ _ if3.false) (other _ _ (ne_eqb _ _ if4.false) (so _ _ (eq-eqb _ _ if5.true) (made _ (on _ (advanced m) refl (λ _ _. plain.ensures.gives _ _)) (λ _ _ _. tt)))))));
-      onward = further plain.ensures.onward (omega (arith, m.at)) (omega (arith, m.count));
-    }
+read_primary-returns-in-Some t c =
+    let x = c.name_use.ensures in
+    record { gives = token _ c.token_at-t.ensures (rw c.in-1.is (found_it _ _ _ c.find_name.ensures c.in-Some.is x.gives)); onward = x.onward }
 
 pub read_primary-returns-in_default : goal.read_primary-returns-in_default
 unfolding grammar.read_primary
 read_primary-returns-in_default t c =
-    let token_at = c.token_at-t in
-    let if1 = c.if-t-eq-LITERAL in
-    let if2 = c.if-t-eq-PAREN in
-    let if3 = c.if-t-eq-BRACKET in
-    let if4 = c.if-t-eq-CELL in
-    let if5 = c.if-t-eq-TIME in
-    let if6 = c.if-t-eq-NAME in
-    let find_name = c.find_name in
-    let refuse = c.refuse in
-    let y = refuse.ensures in
+    let y = c.refuse-in_default.ensures in
     record {
-      gives = token _ token_at.ensures (other _ _ (ne_eqb _ _ if1.false) (other _ _ (ne_eqb _ _ if2.false) (other _ _ (ne_eqb _ _ if3.false) (other _ _ (ne_eqb _ _ if4.false) (other _ _ (ne_eqb _ _ if5.false) (so _ _ (eq-eqb _ _ if6.true) (missed_it _ _ _ find_name.ensures c.in_default.is (refused _ y))))))));
-      onward = nowhere y;
-    }
-
-pub read_primary-returns-then-t-eq-NAME : goal.read_primary-returns-then-t-eq-NAME
-unfolding grammar.read_primary
-read_primary-returns-then-t-eq-NAME t c =
-    let token_at = c.token_at-t in
-    let if1 = c.if-t-eq-LITERAL in
-    let if2 = c.if-t-eq-PAREN in
-    let if3 = c.if-t-eq-BRACKET in
-    let if4 = c.if-t-eq-CELL in
-    let if5 = c.if-t-eq-TIME in
-    let if6 = c.if-t-eq-NAME in
-    let find_name = c.find_name in
-    let name_use = c.name_use in
-    record {
-      gives = token _ token_at.ensures (other _ _ (ne_eqb _ _ if1.false) (other _ _ (ne_eqb _ _ if2.false) (other _ _ (ne_eqb _ _ if3.false) (other _ _ (ne_eqb _ _ if4.false) (other _ _ (ne_eqb _ _ if5.false) (so _ _ (eq-eqb _ _ if6.true) (found_it _ _ _ find_name.ensures c.in-Some.is name_use.ensures.gives)))))));
-      onward = name_use.ensures.onward;
-    }
-
-pub read_primary-returns : goal.read_primary-returns
-unfolding grammar.read_primary
-read_primary-returns t c =
-    let token_at = c.token_at-t in
-    let if1 = c.if-t-eq-LITERAL in
-    let if2 = c.if-t-eq-PAREN in
-    let if3 = c.if-t-eq-BRACKET in
-    let if4 = c.if-t-eq-CELL in
-    let if5 = c.if-t-eq-TIME in
-    let if6 = c.if-t-eq-NAME in
-    let refuse2 = c.refuse-2 in
-    let y = refuse2.ensures in
-    record {
-      gives = token _ token_at.ensures (other _ _ (ne_eqb _ _ if1.false) (other _ _ (ne_eqb _ _ if2.false) (other _ _ (ne_eqb _ _ if3.false) (other _ _ (ne_eqb _ _ if4.false) (other _ _ (ne_eqb _ _ if5.false) (other _ _ (ne_eqb _ _ if6.false) (refused _ y)))))));
+      gives = token _ c.token_at-t.ensures (simp (ne_eqb c.token_at-t.result.kind 2 (λ q. omega arith), ne_eqb c.token_at-t.result.kind 40 (λ q. omega arith), ne_eqb c.token_at-t.result.kind 91 (λ q. omega arith), ne_eqb c.token_at-t.result.kind 3 (λ q. omega arith), ne_eqb c.token_at-t.result.kind 4 (λ q. omega arith), ne_eqb c.token_at-t.result.kind 1 (λ q. omega arith)) (refused _ y));
       onward = nowhere y;
     }
