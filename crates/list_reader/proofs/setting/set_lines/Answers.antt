@@ -11,9 +11,9 @@ returns-then-is_time c =
 
 pub loop-at-preserved : goal.loop-at-preserved
 loop-at-preserved c = (
-    set_again c.args.sizes.now c.args.fields c.args.text.now c.args.from c.args.grid.now c.loop-at.invariant.0 c.loop-at-test.true c.line_end-end.ensures c.if-text-end.false c.is_time.ensures
-        c.if-is_time.false c.store_line.ensures,
-    c.store_line.auto.grid ∙ c.loop-at.invariant.1,
+  set_again c.args.sizes.now c.args.fields c.args.text.now c.args.from c.args.grid.now c.loop-at.invariant.0 c.loop-at-test.true c.line_end-end.ensures c.if-text-end.false c.is_time.ensures
+      c.if-is_time.false c.store_line.ensures,
+  c.store_line.auto.grid ∙ c.loop-at.invariant.1,
 )
 
 pub returns : goal.returns
