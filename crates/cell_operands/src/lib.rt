@@ -6,6 +6,7 @@ pub mod neighbour;
 pub mod noted;
 pub mod operators;
 pub mod primary;
+pub mod scene;
 pub mod sort;
 pub mod table;
 
