@@ -1,6 +1,7 @@
 // What is lent to the evaluation of a cell.
 ghost use Rattle.std.specs.Prelude.{◌≡◌, ◌<◌, ◌≤◌};
-ghost use Rattle.value.specs.Limits.{most_fields};
+ghost use Rattle.value.specs.Limits.{most_tokens, most_fields};
+ghost use Rattle.token.specs.Kind.{level_of};
 ghost use Rattle.cell_meaning.specs.Links.{word_in};
 ghost use Rattle.cell_meaning.specs.Promises.Leaves.{leaf_word};
 ghost use Rattle.cell_operands.specs.Promises.Scene.{Lent, Ready, table};
@@ -47,9 +48,10 @@ impl Scene<'_> {
     // The kind of the token at a position.
     #[inline(always)]
     pub fn kind(&self, at: usize) -> u32
-        ensures { result ≡ (table self.now).kind at }
+        ensures is { result ≡ (table self.now).kind at }
+        ensures few { self.now.site.tokens ≤ most_tokens }
     {
-        self.word(0, at)
+        word_at(self.words, self.site.tokens, 0, at)
     }
 
     // The place of the first byte of the token at a position.
@@ -83,5 +85,25 @@ impl Scene<'_> {
         ensures { result ≡ leaf_word self.now.leaves at k }
     {
         leaf_word(self.leaves, at, k)
+    }
+
+    // The level of the operator at a position; 0, where there is none.
+    #[inline(always)]
+    pub fn level(&self, at: usize) -> u32
+        requires { at ≤ self.now.site.tokens }
+        ensures is { result ≡ level_of ((table self.now).kind at) }
+        ensures within { 1 ≤ result → at < self.now.site.tokens }
+        ensures few { self.now.site.tokens ≤ most_tokens }
+    {
+        leaf_word(self.leaves, at, 3)
+    }
+
+    // The kind of the operator at a position.
+    #[inline(always)]
+    pub fn operator(&self, at: usize) -> u32
+        requires { (at ≤ self.now.site.tokens) × (1 ≤ level_of ((table self.now).kind at)) }
+        ensures { result ≡ (table self.now).kind at }
+    {
+        leaf_word(self.leaves, at, 1)
     }
 }

@@ -1,5 +1,5 @@
 use Rattle.cell_operands.proofs.OperatorLaws.{OperatorWays}
-use Rattle.cell_operands.proofs.operators.told.Goals as goal
+use Rattle.cell_operands.proofs.scene.Scene.told.Goals as goal
 
 pub returns-in-Number : goal.returns-in-Number
 returns-in-Number c = search OperatorWays
