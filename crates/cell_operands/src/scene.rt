@@ -1,10 +1,10 @@
 // What is lent to the evaluation of a cell.
 ghost use Rattle.std.specs.Prelude.{◌≡◌, ◌<◌, ◌≤◌};
-ghost use Rattle.value.specs.Limits.{most_tokens, most_fields};
+ghost use Rattle.value.specs.Limits.{most_tokens, most_open, most_fields};
 ghost use Rattle.token.specs.Kind.{level_of};
 ghost use Rattle.cell_meaning.specs.Links.{word_in};
 ghost use Rattle.cell_meaning.specs.Promises.Leaves.{leaf_word};
-ghost use Rattle.cell_operands.specs.Promises.Scene.{Lent, Ready, table};
+ghost use Rattle.cell_operands.specs.Promises.Scene.{Lent, Ready, deeper, table};
 
 use crate::Site;
 use crate::table::{leaf_word, link_at, place_at, word_at};
@@ -13,6 +13,7 @@ use value::limits::LEAF_WORDS;
 
 // The leaf table, the word table, the sizes of the grid, the coordinates of the cell and the grid; the numbers of the cell's evaluation; and how many
 // loops are open.
+#[derive(Drop)]
 pub struct Scene<'a> {
     pub leaves: &'a [u32; LEAF_WORDS],
     pub words: &'a [u32],
@@ -35,7 +36,41 @@ impl<'a> Model for Scene<'a> {
     };
 }
 
-impl Scene<'_> {
+impl<'a> Scene<'a> {
+    // The number of tokens.
+    #[inline(always)]
+    pub fn tokens(&self) -> usize
+        ensures is { result ≡ self.now.site.tokens }
+        ensures few { result ≤ most_tokens }
+    {
+        self.site.tokens
+    }
+
+    // The number of loops that are open.
+    #[inline(always)]
+    pub fn depth(&self) -> usize
+        ensures is { result ≡ self.now.depth }
+        ensures few { result ≤ most_open }
+    {
+        self.depth
+    }
+
+    // The same with one more loop open.
+    pub fn deeper(&self) -> Scene<'a>
+        requires { self.now.depth < most_open }
+        ensures { result ≡ deeper self.now }
+    {
+        Scene {
+            leaves: self.leaves,
+            words: self.words,
+            sizes: self.sizes,
+            point: self.point,
+            grid: self.grid,
+            site: self.site,
+            depth: self.depth + 1,
+        }
+    }
+
     // Word w of the token at a position.
     #[inline(always)]
     pub fn word(&self, w: usize, at: usize) -> u32

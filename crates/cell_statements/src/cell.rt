@@ -6,6 +6,7 @@ ghost use Rattle.cell_statements.specs.Promises.Running.{Fit, Evaluates};
 use crate::blocks::block;
 use crate::{Going, Outcome};
 use cell_operands::Site;
+use cell_operands::scene::Scene;
 use program::Rule;
 use value::limits::{LEAF_WORDS, MOST_NAMES, MOST_OPEN};
 
@@ -58,17 +59,24 @@ pub fn evaluate_cell(
     let fields = rule.fields as usize;
     let site = Site {
         base: rule.base,
-        fields: fields,
-        slots: slots,
-        cell: cell,
+        fields,
+        slots,
+        cell,
         tokens: rule.tokens,
-        time: time,
+        time,
+    };
+    let scene = Scene {
+        leaves,
+        words,
+        sizes,
+        point,
+        grid,
+        site,
+        depth: 0,
     };
     clear(vars, slots);
     copy_fields(grid, cell, next);
-    let flow = block(
-        leaves, words, sizes, point, grid, vars, index, next, site, 0, rule.body,
-    );
+    let flow = block(&scene, vars, index, next, rule.body);
     match flow {
         Going::On => Outcome::Done,
         Going::Leaving => Outcome::Done,

@@ -15,6 +15,10 @@ Lent = record { leaves : List ℕ; words : List ℕ; sizes : List ℕ; point : L
 abbrev pub Ready : Lent → Type 0
 Ready s = SiteReady s.leaves s.words s.sizes s.point s.grid s.site s.depth
 
+-- with one more loop open
+abbrev pub deeper : Lent → Lent
+deeper s = record { leaves = s.leaves; words = s.words; sizes = s.sizes; point = s.point; grid = s.grid; site = s.site; depth = s.depth + 1 }
+
 abbrev pub table : Lent → Table
 table s = site_table s.words s.sizes s.site
 
