@@ -14,9 +14,7 @@ use Rattle.cell_meaning.specs.Operators.{placed, apply_unary, compare, apply_bin
 use Rattle.cell_meaning.specs.Evaluation.{Env, element_at, eval}
 use Rattle.cell_meaning.specs.Promises.Stands.{array_in, is_unary, parsed, decode_expression, decode_chain, decode_operand, decode_primary, decode_bracket}
 use Rattle.cell_meaning.specs.Links.{Table}
-use Rattle.cell_operands.specs.Promises.Working.{told_of, OperandOnward, primary_from, EvalsExpression, EvalsOperand, EvalsPrimary, EvalsBracket, Leaf, Quick, Joins}
-use Rattle.cell_operands.specs.declared.Told.{Told}
-use Rattle.cell_operands.specs.declared.Told.TheVariants.{Found, Failed}
+use Rattle.cell_operands.specs.Promises.Working.{Told, Found, Failed, told_of, OperandOnward, primary_from, EvalsExpression, EvalsOperand, EvalsPrimary, EvalsBracket, Leaf, Quick, Joins}
 use Rattle.cell_operands.proofs.OperatorLaws.{level_some, told_compare}
 use Rattle.token.proofs.Levels.{level_few}
 use Rattle.cell_operands.proofs.DecodingLaws.{never, went_on, was_unary, was_paren, was_name, was_array, was_bracket, was_expression, was_end, was_more}

@@ -9,9 +9,7 @@ use Rattle.value.specs.declared.Value.{Value}
 use Rattle.cell_meaning.specs.Evaluation.{Env}
 use Rattle.cell_meaning.specs.Promises.Stands.{is_sign_kind, is_unary}
 use Rattle.cell_meaning.specs.Links.{Table}
-use Rattle.cell_operands.specs.Promises.Working.{EvalsOperand, EvalsPrimary, EvalsName, EvalsPlain, Leaf}
-use Rattle.cell_operands.specs.declared.Told.{Told}
-use Rattle.cell_operands.specs.declared.Told.TheVariants.{Found, Failed}
+use Rattle.cell_operands.specs.Promises.Working.{Told, Found, Failed, EvalsOperand, EvalsPrimary, EvalsName, EvalsPlain, Leaf}
 use Rattle.cell_operands.proofs.DecodingLaws.{was_bare, was_name, unary_none}
 
 -- a fault is no value

@@ -9,13 +9,12 @@ ghost use Rattle.cell_meaning.specs.Promises.Stands.{indices_in};
 ghost use Rattle.cell_meaning.specs.Links.{table_of};
 ghost use Rattle.cell_meaning.specs.Promises.Leaves.{leaf_word, sort, OffsetsAre};
 ghost use Rattle.cell_operands.specs.Promises.Scene.{In};
-ghost use Rattle.cell_operands.specs.Promises.Working.{Leaf, OperandNoted};
-ghost use Rattle.cell_operands.specs.declared.Told.TheVariants.{Found};
+ghost use Rattle.cell_operands.specs.Promises.Working.{Found, short, Leaf, OperandNoted};
 
 use crate::neighbour::entry_of;
 use crate::scene::Scene;
 use crate::table::leaf_word;
-use crate::{Told, sort};
+use crate::{Evaluated, sort};
 use value::Value;
 use value::limits::{LEAF_WORDS, MOST_NAMES, MOST_OPEN};
 
@@ -113,20 +112,27 @@ impl Scene<'_> {
         entry_of(self.grid, self.site.cell, self.site.fields, which)
     }
 
-    // The operand that is noted at a position. Where none is, a fault is returned, which says nothing.
+    // The operand that is noted at a position, if one is.
     #[inline(always)]
-    pub fn noted(&self, vars: &[i32; MOST_NAMES], index: &[i32; MOST_OPEN], at: usize) -> Told
+    pub fn noted(
+        &self,
+        vars: &[i32; MOST_NAMES],
+        index: &[i32; MOST_OPEN],
+        at: usize,
+    ) -> Option<Evaluated>
         requires { at ≤ self.now.site.tokens }
-        ensures { In OperandNoted self.now vars.now index.now at result }
+        ensures { In OperandNoted self.now vars.now index.now at (short result) }
     {
         let sort = leaf_word(self.leaves, at, 0);
         let next = leaf_word(self.leaves, at, 2) as usize;
         if sort == sort::NEAR {
-            return Told::Found(self.near_value(vars, index, at), next);
+            let value = self.near_value(vars, index, at);
+            return Some(Evaluated { value, next });
         }
         if is_simple(sort) {
-            return Told::Found(self.simple_value(vars, index, at), next);
+            let value = self.simple_value(vars, index, at);
+            return Some(Evaluated { value, next });
         }
-        Told::Failed(0, 0)
+        None
     }
 }

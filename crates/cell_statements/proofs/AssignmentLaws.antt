@@ -21,9 +21,7 @@ use Rattle.program.specs.Syntax.{Range, no_range, Expr, Target, Clause}
 use Rattle.cell_meaning.specs.Evaluation.{Env, bind, eval, Frame, frame, in_field, store, met, assign_first}
 use Rattle.cell_meaning.specs.Promises.Stands.{range_in, ranges_in, ExprAt, target_in, first_clause, GuardAt, ClausesAt}
 use Rattle.cell_meaning.specs.Links.{Table}
-use Rattle.cell_operands.specs.Promises.Working.{told_of, EvalsExpression, Quick}
-use Rattle.cell_operands.specs.declared.Told.{Told}
-use Rattle.cell_operands.specs.declared.Told.TheVariants.{Found, Failed}
+use Rattle.cell_operands.specs.Promises.Working.{Told, Found, Failed, told_of, EvalsExpression, Quick}
 use Rattle.cell_operands.proofs.PrimaryLaws.{result_of, fault_of}
 use Rattle.cell_statements.specs.Promises.Running.{left_by_exit, field_range, Stores, AssignsOne, ConditionAt, guarded, Guards, Assigns}
 use Rattle.cell_statements.specs.declared.Going.{Going}

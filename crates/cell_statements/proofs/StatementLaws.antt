@@ -18,10 +18,8 @@ use Rattle.program.specs.Syntax.{Range, Expr, Target, Block, empty, assign, sele
 use Rattle.cell_meaning.specs.Evaluation.{Env, bind, eval, Frame, frame, onward, assign_first, each, exec}
 use Rattle.cell_meaning.specs.Promises.Stands.{ExprAt, range_in, LoopAt, assigns, Stands, Elsif, Choice}
 use Rattle.cell_meaning.specs.Links.{Table, begins}
-use Rattle.cell_operands.specs.Promises.Working.{SiteReady, EvalsExpression}
+use Rattle.cell_operands.specs.Promises.Working.{Told, Found, Failed, SiteReady, EvalsExpression}
 use Rattle.cell_operands.specs.declared.Site.{Site}
-use Rattle.cell_operands.specs.declared.Told.{Told}
-use Rattle.cell_operands.specs.declared.Told.TheVariants.{Found, Failed}
 use Rattle.cell_operands.proofs.PrimaryLaws.{result_of, fault_of}
 use Rattle.cell_statements.specs.Promises.Running.{left_by_exit, Assigns, RunsBlock, rest_after, RunsStatement, LoopSettles, Forward, choice_outcome, Chooses, body_of, RunsLoop}
 use Rattle.cell_statements.specs.declared.Going.{Going}

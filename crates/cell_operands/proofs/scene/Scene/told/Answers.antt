@@ -1,11 +1,8 @@
-use Rattle.cell_operands.proofs.OperatorLaws.{OperatorWays}
+use Rattle.cell_operands.proofs.OperatorLaws.{OperatorWays, told_fault}
 use Rattle.cell_operands.proofs.scene.Scene.told.Goals as goal
 
-pub returns-in-Number : goal.returns-in-Number
-returns-in-Number c = search OperatorWays
+pub returns-in-Ok : goal.returns-in-Ok
+returns-in-Ok c = search OperatorWays
 
-pub returns-in-OutOfRange : goal.returns-in-OutOfRange
-returns-in-OutOfRange c = search OperatorWays
-
-pub returns-in-ZeroDivisor : goal.returns-in-ZeroDivisor
-returns-in-ZeroDivisor c = search OperatorWays
+pub returns-in-Err : goal.returns-in-Err
+returns-in-Err c = rw (c.new.ensures, c.from.ensures) (told_fault _ _ _ c.in-Err.is c.place.ensures)
