@@ -18,7 +18,7 @@ use Rattle.cell_operands.specs.Promises.Working.{Told, Found, Failed, told_of, O
 use Rattle.cell_operands.proofs.OperatorLaws.{level_some, told_compare}
 use Rattle.token.proofs.Levels.{level_few}
 use Rattle.cell_operands.proofs.DecodingLaws.{never, went_on, was_unary, was_paren, was_name, was_array, was_bracket, was_expression, was_end, was_more}
-use Rattle.cell_operands.proofs.PrimaryLaws.{as_value, result_of, fault_of}
+use Rattle.cell_operands.proofs.PrimaryLaws.{found_next, as_value, result_of, fault_of}
 use Rattle.cell_operands.proofs.LeafLaws.{lost, bare}
 
 -- ---- what an answer says of the outcome
@@ -368,7 +368,7 @@ module _ (t : Table) (env : Env) (vars vs : List ℤ) where
                 (j.applied (λ z. let y = level_some op ew some_level l in omega arith)) g
 
             same_next : Pending left op own last here → next ≡ m
-            same_next (first z w e) = let q : Found b next ≡ Found c m = sym (j.alone z) ∙ g in cc
+            same_next (first z w e) = found_next (sym (j.alone z) ∙ g)
             same_next (behind_operator ch s eo ew l) =
                 (result_of (placed (t.place last) (apply_binary op left.n b.n)) next (sym g ∙ j.applied (λ z. let y = level_some op ew some_level l in omega arith))).1
 

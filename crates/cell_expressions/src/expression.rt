@@ -2,32 +2,46 @@
 ghost use Rattle.std.specs.Prelude.{◌≡◌, ◌<◌, ◌≤◌};
 ghost use Rattle.value.specs.Limits.{most_tokens};
 ghost use Rattle.cell_operands.specs.Promises.Scene.{table, In};
-ghost use Rattle.cell_operands.specs.Promises.Working.{primary_from, EvalsExpression, EvalsOperand, EvalsPrimary, EvalsBracket, Leaf, Quick, Joins};
+ghost use Rattle.cell_operands.specs.Promises.Working.{primary_from, short, EvalsExpression, EvalsOperand, EvalsPrimary, EvalsBracket, Leaf, Quick, Joins};
 
-use cell_operands::Told;
+use cell_operands::Evaluated;
 use cell_operands::operators::is_unary;
 use cell_operands::scene::Scene;
+use program::reply::Refusal;
 use token::kind;
 use token::kind::level_of;
+use value::Value;
 use value::limits::{MOST_NAMES, MOST_OPEN};
-use value::{Value, Worked};
+
+// What is returned where nothing that can be evaluated stands; it says nothing. In the table of an accepted source there is no such place.
+const NOTHING: Refusal = Refusal {
+    number: 0,
+    place: 0,
+};
 
 // The value after an operator at a position, joined with the left one; the value itself, where there is no operator.
 #[inline(always)]
-fn joined(scene: &Scene, last: usize, op: u32, a: Value, b: Value, next: usize) -> Told
+fn joined(
+    scene: &Scene,
+    last: usize,
+    op: u32,
+    a: Value,
+    b: Value,
+    next: usize,
+) -> Result<Evaluated, Refusal>
     ensures { Joins ((table scene.now).place last) op a.n b next result }
 {
     if op == 0 {
-        return Told::Found(b, next);
+        return Ok(Evaluated { value: b, next });
     }
     if op == kind::PLUS {
-        let sum = a.add(b);
-        if let Worked::Number(v) = sum {
-            return Told::Found(v, next);
+        if let Ok(value) = a.add(b) {
+            return Ok(Evaluated { value, next });
         }
     }
     if op == kind::EQUAL {
-        return Told::Found(a.equal(b), next);
+        let value = a.equal(b);
+        return Ok(Evaluated { value, next });
     }
     scene.operate(last, op, a, b, next)
 }
@@ -39,28 +53,27 @@ fn short_operand(
     vars: &[i32; MOST_NAMES],
     index: &[i32; MOST_OPEN],
     at: usize,
-) -> Told
+) -> Option<Evaluated>
     requires { at ≤ scene.now.site.tokens }
-    ensures { In Leaf scene.now vars.now index.now at result }
+    ensures { In Leaf scene.now vars.now index.now at (short result) }
 {
-    let short = scene.noted(vars, index, at);
-    let Told::Found(v, next) = short else {
-        return scene.leaf(vars, index, at);
-    };
-    Told::Found(v, next)
+    if let Some(noted) = scene.noted(vars, index, at) {
+        return Some(noted);
+    }
+    scene.leaf(vars, index, at)
 }
 
 // The expression at a position, of operators of a level or tighter, if it has no parentheses, unary operators and array constants, no operator
-// is tighter than the one before it, and there is no fault. Else a fault is returned, which says nothing; but at level 5 it is that of the primary.
+// is tighter than the one before it, and there is no fault. At level 5 it is the primary, if that has no parentheses and no array constant.
 pub fn quick(
     scene: &Scene,
     vars: &[i32; MOST_NAMES],
     index: &[i32; MOST_OPEN],
     at: usize,
     level: u32,
-) -> Told
+) -> Option<Evaluated>
     requires { (1 ≤ level) × (at ≤ scene.now.site.tokens) }
-    ensures { In Quick scene.now vars.now index.now at level result }
+    ensures { In Quick scene.now vars.now index.now at level (short result) }
 {
     let mut left = Value { n: 0 };
     let mut op: u32 = 0;
@@ -68,26 +81,22 @@ pub fn quick(
     let mut last: usize = 0;
     let mut here = at;
     loop {
-        let part = short_operand(scene, vars, index, here);
-        let Told::Found(b, next) = part else {
-            return part;
-        };
-        let tight = scene.level(next);
+        let right = short_operand(scene, vars, index, here)?;
+        let tight = scene.level(right.next);
         if own < tight {
-            return Told::Failed(0, 0);
+            return None;
         }
-        let done = joined(scene, last, op, left, b, next);
-        let Told::Found(c, m) = done else {
-            return Told::Failed(0, 0);
+        let Ok(done) = joined(scene, last, op, left, right.value, right.next) else {
+            return None;
         };
         if tight < level {
-            return Told::Found(c, m);
+            return Some(done);
         }
-        left = c;
-        op = scene.operator(next);
+        left = done.value;
+        op = scene.operator(right.next);
         own = tight;
-        last = m;
-        here = m + 1;
+        last = done.next;
+        here = done.next + 1;
     }
 }
 
@@ -99,15 +108,14 @@ fn expression(
     index: &[i32; MOST_OPEN],
     at: usize,
     level: u32,
-) -> Told
+) -> Result<Evaluated, Refusal>
     requires { (1 ≤ level) × (at ≤ scene.now.site.tokens) }
     ensures { In EvalsExpression scene.now vars.now index.now at level result }
 {
-    let short = quick(scene, vars, index, at, level);
-    let Told::Found(v, next) = short else {
-        return chain(scene, vars, index, at, level);
-    };
-    Told::Found(v, next)
+    match quick(scene, vars, index, at, level) {
+        Some(done) => Ok(done),
+        None => chain(scene, vars, index, at, level),
+    }
 }
 
 // The expression at a position, of operators of a level or tighter, worked out by every way that an expression can go. Operators of one level go
@@ -119,50 +127,39 @@ pub fn chain(
     index: &[i32; MOST_OPEN],
     at: usize,
     level: u32,
-) -> Told
+) -> Result<Evaluated, Refusal>
     requires { (1 ≤ level) × (at ≤ scene.now.site.tokens) }
     ensures { In EvalsExpression scene.now vars.now index.now at level result }
 {
-    let first = operand(scene, vars, index, at);
-    let Told::Found(v, past) = first else {
-        return first;
-    };
-    let mut left = v;
-    let mut here = past;
+    let mut left = operand(scene, vars, index, at)?;
     loop {
-        let op = scene.kind(here);
+        let op = scene.kind(left.next);
         let own = level_of(op);
         if own < level {
-            return Told::Found(left, here);
+            return Ok(left);
         }
-        let right = expression(scene, vars, index, here + 1, own + 1);
-        let Told::Found(b, next) = right else {
-            return right;
-        };
-        let done = scene.operate(here, op, left, b, next);
-        let Told::Found(c, m) = done else {
-            return done;
-        };
-        left = c;
-        here = m;
+        let right = expression(scene, vars, index, left.next + 1, own + 1)?;
+        left = scene.operate(left.next, op, left.value, right.value, right.next)?;
     }
 }
 
 // The operand at a position: a primary with at most one unary operator.
 #[cycle(expressions)]
-fn operand(scene: &Scene, vars: &[i32; MOST_NAMES], index: &[i32; MOST_OPEN], at: usize) -> Told
+fn operand(
+    scene: &Scene,
+    vars: &[i32; MOST_NAMES],
+    index: &[i32; MOST_OPEN],
+    at: usize,
+) -> Result<Evaluated, Refusal>
     requires { at ≤ scene.now.site.tokens }
     ensures { In EvalsOperand scene.now vars.now index.now at result }
 {
     let op = scene.kind(at);
-    let inner = primary(scene, vars, index, primary_from(op, at));
-    let Told::Found(v, next) = inner else {
-        return inner;
-    };
+    let inner = primary(scene, vars, index, primary_from(op, at))?;
     if is_unary(op) {
-        return scene.operate_unary(at, op, v, next);
+        return scene.operate_unary(at, op, inner.value, inner.next);
     }
-    inner
+    Ok(inner)
 }
 
 // The position of the primary of an operand whose first token is of this kind.
@@ -170,15 +167,17 @@ fn primary_from(kind: u32, at: usize) -> usize
     requires { at ≤ most_tokens }
     ensures { result ≡ primary_from kind at }
 {
-    if is_unary(kind) {
-        return at + 1;
-    }
-    at
+    if is_unary(kind) { at + 1 } else { at }
 }
 
 // The primary at a position.
 #[cycle(expressions)]
-fn primary(scene: &Scene, vars: &[i32; MOST_NAMES], index: &[i32; MOST_OPEN], at: usize) -> Told
+fn primary(
+    scene: &Scene,
+    vars: &[i32; MOST_NAMES],
+    index: &[i32; MOST_OPEN],
+    at: usize,
+) -> Result<Evaluated, Refusal>
     requires { at ≤ scene.now.site.tokens }
     ensures { In EvalsPrimary scene.now vars.now index.now at result }
 {
@@ -189,17 +188,13 @@ fn primary(scene: &Scene, vars: &[i32; MOST_NAMES], index: &[i32; MOST_OPEN], at
     if kind == kind::NAME {
         if scene.word(2, at) == 2 {
             if scene.kind(at + 1) == kind::BRACKET {
-                let inner = bracket(scene, vars, index, at + 1, kind::UNBRACKET);
-                let Told::Found(i, past) = inner else {
-                    return inner;
-                };
-                return scene.element(at, i, past);
+                let inner = bracket(scene, vars, index, at + 1, kind::UNBRACKET)?;
+                return scene.element(at, inner.value, inner.next);
             }
-            return Told::Failed(0, 0);
+            return Err(NOTHING);
         }
-        return quick(scene, vars, index, at, 5);
     }
-    quick(scene, vars, index, at, 5)
+    quick(scene, vars, index, at, 5).ok_or(NOTHING)
 }
 
 // The expression between the opening token at a position and a token of the closing kind.
@@ -210,16 +205,16 @@ fn bracket(
     index: &[i32; MOST_OPEN],
     at: usize,
     close: u32,
-) -> Told
+) -> Result<Evaluated, Refusal>
     requires { (at < scene.now.site.tokens) × (at < most_tokens) × (1 ≤ close) }
     ensures { In EvalsBracket scene.now vars.now index.now at close result }
 {
-    let inner = expression(scene, vars, index, at + 1, 1);
-    let Told::Found(v, past) = inner else {
-        return inner;
-    };
-    if scene.kind(past) == close {
-        return Told::Found(v, past + 1);
+    let inner = expression(scene, vars, index, at + 1, 1)?;
+    if scene.kind(inner.next) == close {
+        return Ok(Evaluated {
+            value: inner.value,
+            next: inner.next + 1,
+        });
     }
-    Told::Failed(0, 0)
+    Err(NOTHING)
 }

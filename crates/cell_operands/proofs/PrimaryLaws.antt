@@ -94,6 +94,11 @@ module _ (t : Table) (place name : ℕ) (z : ℤ) (k next : ℕ) (ek : k ≡ enc
 pub as_value : (env : Env) (vars vs : List ℤ) (e : Expr) (at next : ℕ) {v : Value} → eval env vars vs e ≡ result v.n → next ≡ at → Found v at ≡ told_of (eval env vars vs e) next
 as_value env vars vs e at next {v} x h = ap (Found v) (sym h) ∙ sym (ap (λ (o : Outcome ℤ). told_of o next) x)
 
+-- where two values stand past the same expression
+pub found_next : {v w : Value} {a b : ℕ} → Found v a ≡ Found w b → a ≡ b
+found_next {v} {w} {a} {b} q =
+    let r : ◌≡◌ {A = Evaluated} (record { value = v; next = a }) (record { value = w; next = b }) = cc in ap (λ (x : Evaluated). x.next) r
+
 -- what is evaluated, by its answer
 pub result_of : (o : Outcome ℤ) (next : ℕ) {v : Value} {at : ℕ} → Found v at ≡ told_of o next → (o ≡ result v.n) × (next ≡ at)
 result_of (result z) next {v} {at} q = let r : ◌≡◌ {A = Evaluated} (record { value = v; next = at }) (record { value = value z; next = next }) = cc in (ap (λ (x : Evaluated). result x.value.n) (sym r), ap (λ (x : Evaluated). x.next) (sym r))

@@ -19,7 +19,7 @@ abbrev pub decreases-primary : goal.decreases-primary
 decreases-primary l = 5 * (l.scene.now.site.tokens - l.at) + 1
 
 abbrev pub invariant-chain-loop-left : goal.invariant-chain-loop-left
-invariant-chain-loop-left l = In Chain l.scene l.vars l.index l.at l.level l.left l.here
+invariant-chain-loop-left l = In Chain l.scene l.vars l.index l.at l.level l.left.value l.left.next
 
 abbrev pub decreases-chain-loop-left : goal.decreases-chain-loop-left
-decreases-chain-loop-left l = l.scene.site.tokens - l.here
+decreases-chain-loop-left l = l.scene.site.tokens - l.left.next

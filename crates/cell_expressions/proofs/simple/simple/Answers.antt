@@ -37,5 +37,5 @@ returns c =
     let if2-left = c.if-shape-gt2.false in
     let leaf-word2-ensures = c.leaf_word-next.ensures in
     rw (← c.scene.view_is) (two_operands ready pre leaf-word-ensures if1-left if2-left leaf-word2-ensures c.if-shape-eq1.false _ _
-    (rw (← c.scene.view_is) at c.simple_value-a.ensures) (rw (← c.scene.view_is) at c.simple_value-b.ensures) c.leaf_word-past.ensures c.leaf_word.ensures
+    (rw (← c.scene.view_is) at c.simple_value-a.ensures) (rw (← c.scene.view_is) at c.simple_value-b.ensures) c.leaf_word-2.ensures c.leaf_word.ensures
     c.compare.ensures)
