@@ -5,15 +5,16 @@ ghost use Rattle.value.specs.Worked.{truth};
 ghost use Rattle.cell_meaning.specs.Evaluation.{in_field};
 ghost use Rattle.cell_meaning.specs.Promises.Stands.{first_clause};
 ghost use Rattle.cell_operands.specs.Promises.Scene.{table, env, In};
-ghost use Rattle.cell_operands.specs.Promises.Working.{EvalsExpression, Quick};
+ghost use Rattle.cell_operands.specs.Promises.Working.{EvalsExpression};
 ghost use Rattle.cell_statements.specs.Promises.Running.{field_range, Stores, AssignsOne, Guards, Assigns};
 
-use crate::Going;
+use crate::Flow;
 use cell_expressions::expression::{chain, quick};
 use cell_expressions::simple::simple;
-use cell_operands::Told;
+use cell_operands::Evaluated;
 use cell_operands::scene::Scene;
 use cell_operands::table::word_at;
+use program::reply::{Reason, Refusal};
 use token::kind;
 use value::Value;
 use value::limits::{MOST_NAMES, MOST_OPEN};
@@ -46,11 +47,7 @@ fn put_field(next: &mut [i32], which: usize, v: Value)
 }
 
 // Whether a value is in the range of a field; that of no field is 0 alone.
-fn fits_field(
-    scene: &Scene,
-    which: usize,
-    v: Value,
-) -> bool
+fn fits_field(scene: &Scene, which: usize, v: Value) -> bool
     ensures { result ≡ in_field (field_range (env scene.now) which) v.n }
 {
     if which < scene.site.fields {
@@ -69,19 +66,19 @@ fn put(
     at: usize,
     here: usize,
     v: Value,
-) -> Going
+) -> Result<Flow, Refusal>
     ensures { Stores (table scene.now) (env scene.now) at here v.n (take scene.now.site.slots vars.old) next.old (take scene.now.site.slots vars.new) next.new result }
 {
     let which = scene.word(2, at) as usize;
     if scene.kind(at) == kind::CELL {
         if fits_field(scene, which, v) {
             put_field(next, which, v);
-            return Going::On;
+            return Ok(Flow::On);
         }
-        return Going::Faulted(33, scene.place(here));
+        return Err(Refusal::new(Reason::AssignedValue, scene.place(here)));
     }
     put_variable(scene, vars, which, v);
-    Going::On
+    Ok(Flow::On)
 }
 
 // The expression at a position: in one loop where that can be, else by every way that an expression can go.
@@ -90,38 +87,31 @@ fn long(
     vars: &[i32; MOST_NAMES],
     index: &[i32; MOST_OPEN],
     at: usize,
-) -> Told
+) -> Result<Evaluated, Refusal>
     requires { at ≤ scene.now.site.tokens }
     ensures { In EvalsExpression scene.now vars.now index.now at 1 result }
 {
-    let short = quick(
-        scene, vars, index, at, 1,
-    );
-    let Told::Found(v, next) = short else {
-        return chain(
-            scene, vars, index, at, 1,
-        );
-    };
-    Told::Found(v, next)
+    match quick(scene, vars, index, at, 1) {
+        Some(done) => Ok(done),
+        None => chain(scene, vars, index, at, 1),
+    }
 }
 
-// The expression at a position, of which a first answer may be known already.
-pub fn settled(
-    first: Told,
+// The expression at a position.
+#[inline(always)]
+pub fn evaluated(
     scene: &Scene,
     vars: &[i32; MOST_NAMES],
     index: &[i32; MOST_OPEN],
     at: usize,
-) -> Told
-    requires { (at ≤ scene.now.site.tokens) × In Quick scene.now vars.now index.now at 1 first }
+) -> Result<Evaluated, Refusal>
+    requires { at ≤ scene.now.site.tokens }
     ensures { In EvalsExpression scene.now vars.now index.now at 1 result }
 {
-    let Told::Found(v, next) = first else {
-        return long(
-            scene, vars, index, at,
-        );
-    };
-    Told::Found(v, next)
+    match simple(scene, vars, index, at) {
+        Some(done) => Ok(done),
+        None => long(scene, vars, index, at),
+    }
 }
 
 // The clause at a `:=`, for the assignment at a position: its expression is worked out and stored.
@@ -132,62 +122,29 @@ fn assign_one(
     next: &mut [i32],
     at: usize,
     here: usize,
-) -> Going
+) -> Result<Flow, Refusal>
     requires { (here < scene.now.site.tokens) × (here < most_tokens) }
     ensures { AssignsOne (table scene.now) (env scene.now) (take scene.now.depth index.now) at here (take scene.now.site.slots vars.old) next.old (take scene.now.site.slots vars.new) next.new result }
 {
-    let from = here + 1;
-    let first = simple(
-        scene, vars, index, from,
-    );
-    let told = settled(
-        first, scene, vars, index, from,
-    );
-    match told {
-        Told::Found(v, _) => put(
-            scene, vars, next, at, here, v,
-        ),
-        Told::Failed(k, p) => Going::Faulted(k, p),
-    }
+    let right = evaluated(scene, vars, index, here + 1)?;
+    put(scene, vars, next, at, here, right.value)
 }
 
-// What the condition of a clause or an arm says.
-#[derive(Clone, Copy)]
-pub enum Verdict {
-    Holds,
-    Fails,
-    Faulted(u32, u32),
-}
-
-// The condition of the clause at a `:=`; a clause without one is chosen.
+// Whether the condition of the clause at a `:=` holds; a clause without one is chosen.
 fn guard(
     scene: &Scene,
     vars: &[i32; MOST_NAMES],
     index: &[i32; MOST_OPEN],
     here: usize,
-) -> Verdict
+) -> Result<bool, Refusal>
     requires { here < scene.now.site.tokens }
     ensures { Guards (table scene.now) (env scene.now) (take scene.now.depth index.now) here (take scene.now.site.slots vars.now) result }
 {
     if scene.word(2, here) == 0 {
-        return Verdict::Holds;
+        return Ok(true);
     }
-    let from = scene.inner(here);
-    let first = simple(
-        scene, vars, index, from,
-    );
-    let told = settled(
-        first, scene, vars, index, from,
-    );
-    match told {
-        Told::Found(v, _) => {
-            if is_true(v) {
-                return Verdict::Holds;
-            }
-            Verdict::Fails
-        }
-        Told::Failed(k, p) => Verdict::Faulted(k, p),
-    }
+    let condition = evaluated(scene, vars, index, scene.inner(here))?;
+    Ok(is_true(condition.value))
 }
 
 // The position of the first `:=` of the assignment at a position.
@@ -208,28 +165,16 @@ pub fn assignment(
     index: &[i32; MOST_OPEN],
     next: &mut [i32],
     at: usize,
-) -> Going
+) -> Result<Flow, Refusal>
     requires { at < scene.now.site.tokens }
     ensures { Assigns (table scene.now) (env scene.now) (take scene.now.depth index.now) at (take scene.now.site.slots vars.old) next.old (take scene.now.site.slots vars.new) next.new result }
 {
     let mut here = clause_of(scene, at);
     while scene.kind(here) == kind::ASSIGN {
-        let chosen = guard(
-            scene, vars, index, here,
-        );
-        match chosen {
-            Verdict::Holds => {
-                return assign_one(
-                    scene, vars, index, next, at, here,
-                );
-            }
-            Verdict::Fails => {
-                here = scene.past(here);
-            }
-            Verdict::Faulted(k, p) => {
-                return Going::Faulted(k, p);
-            }
+        if guard(scene, vars, index, here)? {
+            return assign_one(scene, vars, index, next, at, here);
         }
+        here = scene.past(here);
     }
-    Going::On
+    Ok(Flow::On)
 }

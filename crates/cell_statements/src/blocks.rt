@@ -7,11 +7,10 @@ ghost use Rattle.cell_meaning.specs.Links.{begins};
 ghost use Rattle.cell_operands.specs.Promises.Scene.{table, env};
 ghost use Rattle.cell_statements.specs.Promises.Running.{RunsBlock, RunsStatement, Chooses, RunsLoop};
 
-use crate::Going;
-use crate::assignment::{assignment, is_true, settled};
-use cell_expressions::simple::simple;
-use cell_operands::Told;
+use crate::Flow;
+use crate::assignment::{assignment, evaluated, is_true};
 use cell_operands::scene::Scene;
+use program::reply::Refusal;
 use token::kind;
 use value::Value;
 use value::limits::{MOST_NAMES, MOST_OPEN, MOST_TURNS};
@@ -48,56 +47,35 @@ fn set_index(index: &mut [i32], depth: usize, low: Value, high: Value, k: u64)
     index[depth] = n;
 }
 
-// Where an `if` goes on: with a list of statements at a position; with none; or not at all, after a fault.
-#[derive(Clone, Copy)]
-pub enum Chosen {
-    List(usize),
-    Nothing,
-    Faulted(u32, u32),
-}
-
-// The choice at an `if`: its arms are tried in order.
+// The choice at an `if`: its arms are tried in order. The position of the statements with which it goes on, if there are any.
 fn choose(
     scene: &Scene,
     vars: &[i32; MOST_NAMES],
     index: &[i32; MOST_OPEN],
     at: usize,
-) -> Chosen
+) -> Result<Option<usize>, Refusal>
     requires { at < scene.now.site.tokens }
     ensures { Chooses (table scene.now) (env scene.now) (take scene.now.depth index.now) scene.now.depth scene.now.site.tokens at (take scene.now.site.slots vars.now) result }
 {
     let n = scene.tokens();
     let mut arm = at;
     loop {
-        let from = arm + 1;
-        let first = simple(
-            scene, vars, index, from,
-        );
-        let told = settled(
-            first, scene, vars, index, from,
-        );
-        match told {
-            Told::Found(v, m) => {
-                if is_true(v) {
-                    if m < n {
-                        return Chosen::List(m + 1);
-                    }
-                    return Chosen::Nothing;
-                }
-                let other = scene.inner(arm);
-                let kind = scene.kind(other);
-                if kind == kind::ELSE_WORD {
-                    return Chosen::List(other + 1);
-                }
-                if kind != kind::ELSIF_WORD {
-                    return Chosen::Nothing;
-                }
-                arm = other;
+        let condition = evaluated(scene, vars, index, arm + 1)?;
+        if is_true(condition.value) {
+            if condition.next < n {
+                return Ok(Some(condition.next + 1));
             }
-            Told::Failed(k, p) => {
-                return Chosen::Faulted(k, p);
-            }
+            return Ok(None);
         }
+        let other = scene.inner(arm);
+        let kind = scene.kind(other);
+        if kind == kind::ELSE_WORD {
+            return Ok(Some(other + 1));
+        }
+        if kind != kind::ELSIF_WORD {
+            return Ok(None);
+        }
+        arm = other;
     }
 }
 
@@ -109,7 +87,7 @@ pub fn block(
     index: &mut [i32; MOST_OPEN],
     next: &mut [i32],
     at: usize,
-) -> Going
+) -> Result<Flow, Refusal>
     requires { at ≤ scene.now.site.tokens }
     ensures { RunsBlock (table scene.now) (env scene.now) scene.now.depth at (take scene.now.site.slots vars.old) next.old index.old (take scene.now.site.slots vars.new) next.new index.new result }
 {
@@ -120,41 +98,29 @@ pub fn block(
         let kind = scene.kind(here);
         if kind == kind::IF_WORD {
             let past = scene.past(here);
-            let chosen = choose(
-                scene, vars, index, here,
-            );
-            match chosen {
-                Chosen::List(m) => {
+            match choose(scene, vars, index, here)? {
+                Some(m) => {
                     if top < MOST_OPEN {
                         ends[top] = past as u32;
                         top += 1;
                         here = m;
                     } else {
-                        let inner = block(scene, vars, index, next, m);
-                        let Going::On = inner else {
-                            return inner;
-                        };
-                        here = past;
+                        match block(scene, vars, index, next, m)? {
+                            Flow::On => here = past,
+                            Flow::Leaving => return Ok(Flow::Leaving),
+                        }
                     }
                 }
-                Chosen::Nothing => {
-                    here = past;
-                }
-                Chosen::Faulted(k, p) => {
-                    return Going::Faulted(k, p);
-                }
+                None => here = past,
             }
         } else if begins(kind) {
-            let flow = statement(
-                scene, vars, index, next, here,
-            );
-            let Going::On = flow else {
-                return flow;
-            };
-            here = scene.past(here);
+            match statement(scene, vars, index, next, here)? {
+                Flow::On => here = scene.past(here),
+                Flow::Leaving => return Ok(Flow::Leaving),
+            }
         } else {
             if top == 0 {
-                return Going::On;
+                return Ok(Flow::On);
             }
             top -= 1;
             here = ends[top] as usize;
@@ -170,25 +136,21 @@ fn statement(
     index: &mut [i32; MOST_OPEN],
     next: &mut [i32],
     at: usize,
-) -> Going
+) -> Result<Flow, Refusal>
     requires { (at < scene.now.site.tokens) × ((table scene.now).kind at ≡ keyword.if → ⊥) }
     ensures { RunsStatement (table scene.now) (env scene.now) scene.now.depth at (take scene.now.site.slots vars.old) next.old index.old (take scene.now.site.slots vars.new) next.new index.new result }
 {
     let kind = scene.kind(at);
     if kind == kind::FORALL_WORD {
-        return forall(
-            scene, vars, index, next, at,
-        );
+        return forall(scene, vars, index, next, at);
     }
     if kind == kind::EXIT_WORD {
-        return Going::Leaving;
+        return Ok(Flow::Leaving);
     }
     if kind == kind::CONST_WORD {
-        return Going::On;
+        return Ok(Flow::On);
     }
-    assignment(
-        scene, vars, index, next, at,
-    )
+    assignment(scene, vars, index, next, at)
 }
 
 // The loop at a `forall`.
@@ -199,13 +161,13 @@ fn forall(
     index: &mut [i32; MOST_OPEN],
     next: &mut [i32],
     at: usize,
-) -> Going
+) -> Result<Flow, Refusal>
     requires { at < scene.now.site.tokens }
     ensures { RunsLoop (table scene.now) (env scene.now) scene.now.depth at (take scene.now.site.slots vars.old) next.old index.old (take scene.now.site.slots vars.new) next.new index.new result }
 {
     let depth = scene.depth();
     if MOST_OPEN <= depth {
-        return Going::On;
+        return Ok(Flow::On);
     }
     let inner = scene.deeper();
     let low = Value::decode(scene.word(2, at + 1));
@@ -213,22 +175,15 @@ fn forall(
     let body = scene.inner(at);
     let count = low.span(high);
     if MOST_TURNS < count {
-        return Going::On;
+        return Ok(Flow::On);
     }
     let mut k: u64 = 0;
     while k < count {
         set_index(index, depth, low, high, k);
-        let flow = block(&inner, vars, index, next, body);
-        match flow {
-            Going::On => {}
-            Going::Leaving => {
-                return Going::On;
-            }
-            Going::Faulted(a, p) => {
-                return flow;
-            }
+        match block(&inner, vars, index, next, body)? {
+            Flow::On => k += 1,
+            Flow::Leaving => return Ok(Flow::On),
         }
-        k += 1;
     }
-    Going::On
+    Ok(Flow::On)
 }

@@ -4,10 +4,10 @@ ghost use Rattle.automaton.specs.Grid.{cell_of};
 ghost use Rattle.cell_statements.specs.Promises.Running.{Fit, Evaluates};
 
 use crate::blocks::block;
-use crate::{Going, Outcome};
 use cell_operands::Site;
 use cell_operands::scene::Scene;
 use program::Rule;
+use program::reply::Refusal;
 use value::limits::{LEAF_WORDS, MOST_NAMES, MOST_OPEN};
 
 // Sets the first variables to 0.
@@ -51,7 +51,7 @@ pub fn evaluate_cell(
     vars: &mut [i32; MOST_NAMES],
     index: &mut [i32; MOST_OPEN],
     time: u32,
-) -> Outcome
+) -> Result<(), Refusal>
     requires { Fit leaves.now words.now rule sizes.now point.now cell grid.now (length next.old) time }
     ensures { Evaluates words.now rule sizes.now cell grid.now next.new time result }
 {
@@ -76,10 +76,6 @@ pub fn evaluate_cell(
     };
     clear(vars, slots);
     copy_fields(grid, cell, next);
-    let flow = block(&scene, vars, index, next, rule.body);
-    match flow {
-        Going::On => Outcome::Done,
-        Going::Leaving => Outcome::Done,
-        Going::Faulted(k, p) => Outcome::Fault(k, p),
-    }
+    block(&scene, vars, index, next, rule.body)?;
+    Ok(())
 }

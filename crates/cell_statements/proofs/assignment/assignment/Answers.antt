@@ -1,12 +1,14 @@
-use mathlib.Core.Path.{ap}
+use mathlib.Core.Path.{ap, ◌∙◌}
+use Rattle.std.specs.Prelude.{Ok}
+use Rattle.cell_operands.proofs.LeafLaws.{passed}
 use native.Mathlib.Omega.{arith}
 use Rattle.cell_operands.proofs.TableLaws.{token, link_bounds}
 use lib.ListN.{take}
 use Rattle.cell_statements.proofs.AssignmentLaws.{assigns_none, assigns_chosen, assigns_fault, tried_more, assigns_from}
 use Rattle.cell_statements.proofs.assignment.assignment.Goals as goal
 
-pub guard-chosen-requires : goal.guard-chosen-requires
-guard-chosen-requires c =
+pub guard-requires : goal.guard-requires
+guard-requires c =
     token _ _ _ c.kind.ensures.is (omega arith)
 
 pub assign_one-requires : goal.assign_one-requires
@@ -15,15 +17,12 @@ assign_one-requires c =
     let few = c.kind.ensures.few in
     (l, omega arith)
 
-pub returns-in-Holds : goal.returns-in-Holds
-returns-in-Holds c =
+pub returns-then-branch : goal.returns-then-branch
+returns-then-branch c =
     let args = c.args in
     let inv = c.loop-vars.invariant in
-    let word-at-ensures = c.kind.ensures.is in
-    let if1-taken = c.loop-vars-test.true in
-    let guard-ensures = c.guard-chosen.ensures in
     assigns_from (ap (take args.scene.now.site.slots) inv.1) inv.2
-    (assigns_chosen _ _ _ _ _ _ inv.0 word-at-ensures if1-taken guard-ensures c.in-Holds.is c.assign_one.ensures)
+    (assigns_chosen _ _ _ _ _ _ inv.0 c.kind.ensures.is c.loop-vars-test.true c.guard.ensures (c.in_ok-guard.was ∙ ap Ok c.if-branch.true) c.assign_one.ensures)
 
 pub loop-vars-smaller : goal.loop-vars-smaller
 loop-vars-smaller c =
@@ -35,21 +34,21 @@ loop-vars-preserved c =
     let inv = c.loop-vars.invariant in
     let word-at-ensures = c.kind.ensures.is in
     let if1-taken = c.loop-vars-test.true in (
-      tried_more _ _ _ _ _ _ inv.0 word-at-ensures if1-taken c.guard-chosen.ensures c.in-Fails.is
+      tried_more _ _ _ _ _ _ inv.0 word-at-ensures if1-taken c.guard.ensures (c.in_ok-guard.was ∙ ap Ok c.if-branch.false)
           c.past-here.ensures,
       inv.1,
       inv.2,
       inv.3,
     )
 
-pub returns-in-Faulted : goal.returns-in-Faulted
-returns-in-Faulted c =
+pub returns-in_err-guard : goal.returns-in_err-guard
+returns-in_err-guard c =
     let args = c.args in
     let inv = c.loop-vars.invariant in
-    let word-at-ensures = c.kind.ensures.is in
-    let if1-taken = c.loop-vars-test.true in
-    assigns_from (ap (take args.scene.now.site.slots) inv.1) inv.2
-    (assigns_fault _ _ _ _ _ _ inv.0 word-at-ensures if1-taken c.guard-chosen.ensures c.in-Faulted.is)
+    let y = c.in_err-guard.was in
+    rw (passed c.from_residual.ensures.1 y)
+    (assigns_from (ap (take args.scene.now.site.slots) inv.1) inv.2
+    (assigns_fault _ _ _ _ _ _ inv.0 c.kind.ensures.is c.loop-vars-test.true c.guard.ensures y))
 
 pub returns : goal.returns
 returns c =

@@ -12,8 +12,9 @@ returns-then-fits_field c =
 pub returns-then-kind-eq-CELL : goal.returns-then-kind-eq-CELL
 returns-then-kind-eq-CELL c =
     let word-at-ensures = c.word-which.ensures in
-    stores_fault _ _ _ _ _ _ _ word-at-ensures c.kind.ensures.is c.if-kind-eq-CELL.true
-    c.fits_field.ensures c.if-fits_field.false c.place.ensures
+    rw c.new.ensures
+    (stores_fault _ _ _ _ _ _ _ word-at-ensures c.kind.ensures.is c.if-kind-eq-CELL.true
+    c.fits_field.ensures c.if-fits_field.false c.place.ensures)
 
 pub returns : goal.returns
 returns c = stores_variable _ _ _ _ _ _ _ c.word-which.ensures c.kind.ensures.is c.if-kind-eq-CELL.false c.put_variable.ensures
