@@ -16,9 +16,11 @@ use Rattle.grammar.specs.Checking.{check}
 use Rattle.grammar.specs.Promises.Flat.{lent_fit, names_after}
 use Rattle.list_meaning.specs.Writing.{Wrote}
 use Rattle.read_source.specs.Promises.Promises.{Checks}
-use Rattle.move_meaning.specs.Profile.{one_move}
+use Rattle.std.specs.Prelude.{Result}
+use Rattle.move_meaning.specs.Profile.{missed, one_move}
 use Rattle.move_profile.specs.declared.Profile.{Profile}
-use Rattle.move_profile.specs.Promises.Flags.{CheckOneMove}
+use Rattle.move_profile.specs.declared.Missed.{Missed}
+use Rattle.move_profile.specs.Promises.Flags.{answer_told, CheckOneMove}
 use Rattle.run_meaning.specs.Report as report
 use Rattle.run_meaning.specs.Report.{Manner, full}
 use Rattle.run_calls.specs.Calls.{flat_names, SourceLent, source_lent, SourceLeft, source_left, Memory, memory, Lent, lent, fits, asked, read_lent, run_report, run_left}
@@ -77,11 +79,11 @@ tells_check {source} list {reply = reply} {number} {place} h p e =
 
 -- ---- the profile of sources that move a pixel once
 
-pub tells_profile : {source : List ℕ} (list : List ℕ) {ws ns reply : List ℕ} {p : Profile} {ws' ns' reply' : List ℕ} → CheckOneMove (lent_fit list (length ws) (length ns)) source ws ns p ws' ns'
-    → reply' ≡ over (p.rule ∷ p.number ∷ p.place ∷ []) reply
+pub tells_profile : {source : List ℕ} (list : List ℕ) {ws ns reply : List ℕ} {r : Result (Unit {0}) Missed} {ws' ns' reply' : List ℕ} → CheckOneMove (lent_fit list (length ws) (length ns)) source ws ns r ws' ns'
+    → {p : Profile} → missed p.rule p.number p.place ≡ answer_told r → reply' ≡ over (p.rule ∷ p.number ∷ p.place ∷ []) reply
     → TellsSource (source_left flat_names (source_lent source list ws ns) one_move) profile_entries reply p.rule ws' ns' reply'
 unfolding lent_fit names_after
-tells_profile list h e = tells_source profile_entries (λ i. record { answer = h.answer i; words = h.words i; names = h.names i }) e
+tells_profile list h told e = tells_source profile_entries (λ i. record { answer = (told ∙ h.answer) i; words = h.words i; names = h.names i }) e
 
 -- ---- a run
 
