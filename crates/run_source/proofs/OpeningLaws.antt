@@ -12,10 +12,12 @@ use lib.Signed.{non_neg}
 use mir.Syntax.{w32, w64}
 use mir.Val.{Fits, SFits, to_z, of_z}
 use mir.Facts.{to_z-of_z}
-use borrow.Author.Tests.{not-true, not-false, ne_eqb, le-ltb, lt-ltb}
+use borrow.Author.Tests.{not-true, not-false, ne_eqb, eqb-false, le-ltb, lt-ltb}
 use Rattle.value.specs.Limits.{name_words}
 use Rattle.value.proofs.Theorems.Laws.{never}
-use Rattle.std.specs.Prelude.{Result, Ok, Err}
+use Rattle.std.specs.Prelude.{Result, Ok, Err, is_ok}
+use Rattle.program.specs.Reason.{reason_number}
+use Rattle.program.proofs.Reasons.{never_none}
 use Rattle.program.specs.Refusal.{Refusal, refusal}
 use Rattle.program.specs.declared.Rule.{Rule}
 use Rattle.grammar.specs.Checking as checking
@@ -28,10 +30,10 @@ use Rattle.program.specs.Promises.Fitting.{Sized}
 use Rattle.run_meaning.specs.Promises.Fitting.{held_fields}
 use Rattle.move_meaning.specs.Profile.{profile_flag}
 use Rattle.list_meaning.specs.ListChecking.{Turned, Verdict, limits_of}
-use Rattle.list_reader.specs.declared.checking.Verdict as judged
+use Rattle.list_reader.specs.declared.checking.ListRefusal.{ListRefusal}
 use Rattle.list_reader.specs.Promises.Points.{Dimensions}
 use Rattle.list_reader.specs.Promises.Values.{fields_in}
-use Rattle.list_reader.specs.Promises.Checks.{limits, ChecksLines as ChecksList}
+use Rattle.list_reader.specs.Promises.Checks.{answer, limits, ChecksLines as ChecksList}
 use Rattle.list_reader.proofs.CursorLaws.{verdict_is, dimensions_are}
 use Rattle.run_calls.specs.Running.{CountsAsked, counts_of, Asked, ask, good_counts, admitted}
 use Rattle.run_calls.proofs.Theorems.RunningLaws.{turned, list_decides, counts_refused, refused_first, list_passes, run_refused}
@@ -44,7 +46,8 @@ use Rattle.run_loading.proofs.Theorems.SourceLoaded.{accepts}
 use Rattle.run_admission.proofs.RequestLaws.{cast_in}
 use Rattle.run_admission.specs.Promises.Admitting.{refusal_told, request_of, Admitted, Admits}
 use Rattle.run_source.specs.declared.opening.Opening.{Opening}
-use Rattle.run_source.specs.Promises.Sourcewise.{counts_right, RunOpens}
+use Rattle.run_source.specs.declared.opening.Stop.{Stop}
+use Rattle.run_source.specs.Promises.Sourcewise.{stopped, counts_right, RunBegun, RunOpens}
 
 -- ---- an accepted source
 
@@ -96,12 +99,26 @@ module _ (counted : Bool) (field rows fields : ℕ) (sizes : List ℕ) where
 -- ---- the ways through
 
 -- the opening of a run that does not begin
-abbrev Closed : Opening → ℕ → ℕ → ℕ → Type 0
-Closed r number place line = (r.begun ≡ false) × (r.number ≡ number) × (r.place ≡ place) × (r.line ≡ line)
+abbrev Closed : Result Opening Stop → ℕ → ℕ → ℕ → Type 0
+Closed r number place line = r ≡ Err (stopped number place line)
+
+same_opening : {o u : Opening} → ◌≡◌ {A = Result Opening Stop} (Ok o) (Ok u) → o ≡ u
+same_opening {o} e = ap by e
+  where
+    by : Result Opening Stop → Opening
+    by (Ok x) = x
+    by (Err s) = o
+
+same_stop : {s u : Stop} → ◌≡◌ {A = Result Opening Stop} (Err s) (Err u) → s ≡ u
+same_stop {s} e = ap by e
+  where
+    by : Result Opening Stop → Stop
+    by (Err x) = x
+    by (Ok o) = s
 
 module _ {source ws ns sizes : List ℕ} {grid : List ℤ} {scratch marks : ℕ} {start steps : ℤ} {known : Bool} {rule : Rule} {n place : ℕ} {ws' ns' : List ℕ}
     (checked : Checks (rooms_fit (length ws) (length ns)) source ws ns n place ws' ns') (loaded : Loads source ws ns known rule) where
-  pub unread : not known ≡ true → {values : List ℕ} {counts : Option CountsAsked} {r : Opening} → Closed r n place 0
+  pub unread : not known ≡ true → {values : List ℕ} {counts : Option CountsAsked} {r : Result Opening Stop} → Closed r n place 0
       → RunOpens (rooms_fit (length ws) (length ns)) source ws ns (ask (request_of sizes grid scratch marks start steps) values counts) r ws' ns'
   unread unknown {values} {counts} {r} e =
       let both = not_read (rooms_fit (length ws) (length ns)) source (ask (request_of sizes grid scratch marks start steps) values counts) checked.reply (sym loaded.is ∙ not-true known unknown) in
@@ -124,7 +141,7 @@ module _ {source ws ns sizes : List ℕ} {grid : List ℤ} {scratch marks : ℕ}
     says : refusal_told a ≡ admission is.read.program (request_of sizes grid scratch marks start steps)
     says = admits.says is.read.program is.stood.holds is.lists
 
-    turned_down : {values : List ℕ} {counts : Option CountsAsked} {number where_at line : ℕ} → admitted is.read.program flag (ask (request_of sizes grid scratch marks start steps) values counts) ≡ turned number where_at line → (number ≡ 0 → ⊥) → {r : Opening} → Closed r number where_at line
+    turned_down : {values : List ℕ} {counts : Option CountsAsked} {number where_at line : ℕ} → admitted is.read.program flag (ask (request_of sizes grid scratch marks start steps) values counts) ≡ turned number where_at line → (number ≡ 0 → ⊥) → {r : Result Opening Stop} → Closed r number where_at line
         → RunOpens (rooms_fit (length ws) (length ns)) source ws ns (ask (request_of sizes grid scratch marks start steps) values counts) r ws' ns'
     unfolding run_source
     turned_down {values} {counts} {number} {where_at} {line} t z {r} e =
@@ -141,7 +158,7 @@ module _ {source ws ns sizes : List ℕ} {grid : List ℤ} {scratch marks : ℕ}
         refused_by : (admitted is.read.program flag (ask (request_of sizes grid scratch marks start steps) values counts)).number ≡ 0 → ⊥
         refused_by k = z (ap (λ (x : Turned). x.number) (sym t) ∙ k)
 
-    pub not_admitted : {f : Refusal} → a ≡ Err f → {values : List ℕ} {counts : Option CountsAsked} {r : Opening} → Closed r f.number f.place 0 → RunOpens (rooms_fit (length ws) (length ns)) source ws ns (ask (request_of sizes grid scratch marks start steps) values counts) r ws' ns'
+    pub not_admitted : {f : Refusal} → a ≡ Err f → {values : List ℕ} {counts : Option CountsAsked} {r : Result Opening Stop} → Closed r f.number f.place 0 → RunOpens (rooms_fit (length ws) (length ns)) source ws ns (ask (request_of sizes grid scratch marks start steps) values counts) r ws' ns'
     not_admitted {f} i {values} {counts} {r} e =
         let told = sym (ap refusal_told i) ∙ says in
         turned_down
@@ -171,7 +188,7 @@ module _ {source ws ns sizes : List ℕ} {grid : List ℤ} {scratch marks : ℕ}
       fits_are false field rows = refl
 
       -- the counts are not right
-      pub not_counted : (counted : Bool) (field rows : ℕ) → counts_right counted field rows rule.fields sizes ≡ false → {values : List ℕ} {r : Opening} → Closed r 61 0 0
+      pub not_counted : (counted : Bool) (field rows : ℕ) → counts_right counted field rows rule.fields sizes ≡ false → {values : List ℕ} {r : Result Opening Stop} → Closed r 61 0 0
           → RunOpens (rooms_fit (length ws) (length ns)) source ws ns (ask (request_of sizes grid scratch marks start steps) values (counts_of counted field rows)) r ws' ns'
       not_counted counted field rows c {values} e =
           turned_down (counts_refused is.read.program flag (ask (request_of sizes grid scratch marks start steps) values (counts_of counted field rows)) admission_is (fits_are counted field rows ∙ c)) (λ k. omega (arith, k)) e
@@ -185,19 +202,25 @@ module _ {source ws ns sizes : List ℕ} {grid : List ℤ} {scratch marks : ℕ}
             (sym (verdict_is ws' rule is.read.program flag (request_of sizes grid scratch marks start steps) values is.stood.holds (found.is is.read is.stood) first_is last_is)
             ∙ sym judges.is)
 
-        pub not_listed : (v.number ≡ 0 → ⊥) → {r : Opening} → Closed r v.number 0 v.line → RunOpens (rooms_fit (length ws) (length ns)) source ws ns (ask (request_of sizes grid scratch marks start steps) values (counts_of counted field rows)) r ws' ns'
-        not_listed d e = turned_down list_says d e
+        pub not_listed : {f : ListRefusal} → v ≡ Err f → {r : Result Opening Stop} → Closed r (reason_number f.reason) 0 f.line → RunOpens (rooms_fit (length ws) (length ns)) source ws ns (ask (request_of sizes grid scratch marks start steps) values (counts_of counted field rows)) r ws' ns'
+        not_listed {f} i e = turned_down (list_says ∙ ap (λ (x : Result (Unit {0}) ListRefusal). turned (answer x).number 0 (answer x).line) i) (eqb-false _ 0 (never_none f.reason)) e
 
-        pub begun : v.number ≡ 0
-            → RunOpens (rooms_fit (length ws) (length ns)) source ws ns (ask (request_of sizes grid scratch marks start steps) values (counts_of counted field rows)) (record { begun = true; number = 0; place = 0; line = 0; rule = rule; reach = reach }) ws' ns'
-        begun l =
-            let passed : (admitted is.read.program flag (ask (request_of sizes grid scratch marks start steps) values (counts_of counted field rows))).number ≡ 0 = ap (λ (x : Turned). x.number) list_says ∙ l in
+        pub begun : v ≡ Ok tt
+            → RunOpens (rooms_fit (length ws) (length ns)) source ws ns (ask (request_of sizes grid scratch marks start steps) values (counts_of counted field rows)) (Ok (record { rule = rule; reach = reach })) ws' ns'
+        begun i =
+            let passed : (admitted is.read.program flag (ask (request_of sizes grid scratch marks start steps) values (counts_of counted field rows))).number ≡ 0 = ap (λ (x : Turned). x.number) list_says ∙ ap (λ (x : Result (Unit {0}) ListRefusal). (answer x).number) i in
             record {
               words = checked.words;
               names = checked.names;
-              closed = λ f. never (sym f);
-              refuses = λ f. never (sym f);
-              opened = λ _.
+              closed = λ _ f. never (sym (ap is_ok f));
+              refuses = λ _ f. never (sym (ap is_ok f));
+              opened = λ o f. subst (λ (x : Opening). RunBegun (rooms_fit (length ws) (length ns)) source (ask (request_of sizes grid scratch marks start steps) values (counts_of counted field rows)) ws' x.rule x.reach) (same_opening f)
+                  (begins passed);
+            }
+          where
+            begins : (admitted is.read.program flag (ask (request_of sizes grid scratch marks start steps) values (counts_of counted field rows))).number ≡ 0
+                → RunBegun (rooms_fit (length ws) (length ns)) source (ask (request_of sizes grid scratch marks start steps) values (counts_of counted field rows)) ws' rule reach
+            begins passed =
                   record {
                     read = is.read;
                     is = is.is;
@@ -219,11 +242,10 @@ module _ {source ws ns sizes : List ℕ} {grid : List ℤ} {scratch marks : ℕ}
                       first_is = refl;
                       passes = list_passes is.read.program flag (ask (request_of sizes grid scratch marks start steps) values (counts_of counted field rows)) passed;
                     };
-                  };
-            }
+                  }
 
 -- the times as the machine reads them
-pub read_opens : {source ws ns sizes : List ℕ} {grid : List ℤ} {scratch marks : ℕ} {start steps : ℤ} {values : List ℕ} {counts : Option CountsAsked} {r : Opening} {ws' ns' : List ℕ} → SFits w64 start → SFits w64 steps
+pub read_opens : {source ws ns sizes : List ℕ} {grid : List ℤ} {scratch marks : ℕ} {start steps : ℤ} {values : List ℕ} {counts : Option CountsAsked} {r : Result Opening Stop} {ws' ns' : List ℕ} → SFits w64 start → SFits w64 steps
     → RunOpens (rooms_fit (length ws) (length ns)) source ws ns (ask (request_of sizes grid scratch marks (to_z w64 (of_z w64 start)) (to_z w64 (of_z w64 steps))) values counts) r ws' ns'
     → RunOpens (rooms_fit (length ws) (length ns)) source ws ns (ask (request_of sizes grid scratch marks start steps) values counts) r ws' ns'
 read_opens {source} {ws} {ns} {sizes} {grid} {scratch} {marks} {start} {steps} {values} {counts} {r} {ws'} {ns'} h k =

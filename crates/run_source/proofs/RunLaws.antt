@@ -48,6 +48,8 @@ use Rattle.run_steps.specs.declared.Report.{Report}
 use Rattle.run_steps.specs.declared.Manner.{Manner as Way}
 use Rattle.run_steps.specs.declared.Manner.TheVariants.{Full, Quiet, Pausing, Resuming}
 use Rattle.run_source.specs.declared.opening.Opening.{Opening}
+use Rattle.run_source.specs.declared.opening.Stop.{Stop}
+use Rattle.std.specs.Prelude.{Result, Ok, Err}
 use Rattle.run_steps.specs.Promises.Stepwise.{pending_in, Begins, blocks_in, Runs, steps_give, report_in, Ran}
 use Rattle.run_steps.specs.Told.{told}
 use Rattle.run_steps.specs.Promises.Countwise.{CountsFit, CountsFilled, Tallied}
@@ -283,7 +285,7 @@ pub the_list : is_built_in built_in_names ≡ true
 unfolding same_bytes
 the_list = refl
 
-module _ (l : Lent ℕ) (list : is_built_in l.list ≡ true) {r : Opening} {ws' ns' : List ℕ} (opened : RunOpens (rooms_fit (length l.memory.words) (length l.memory.names)) l.source l.memory.words l.memory.names (asked l) r ws' ns') (way : Way) where
+module _ (l : Lent ℕ) (list : is_built_in l.list ≡ true) {r : Result Opening Stop} {ws' ns' : List ℕ} (opened : RunOpens (rooms_fit (length l.memory.words) (length l.memory.names)) l.source l.memory.words l.memory.names (asked l) r ws' ns') (way : Way) where
   opens : RunOpens (fits flat_names l) l.source l.memory.words l.memory.names (asked l) r ws' ns'
   opens = subst (λ (fit : Bool). RunOpens fit l.source l.memory.words l.memory.names (asked l) r ws' ns') (sym (ap (λ (t : Bool). t && rooms_fit (length l.memory.words) (length l.memory.names)) list)) opened
 
@@ -291,37 +293,36 @@ module _ (l : Lent ℕ) (list : is_built_in l.list ≡ true) {r : Opening} {ws' 
   unfolding names_after
   names_are = opens.names
 
-  pub closed_run : not r.begun ≡ true
-      → RunLeaves flat_names (manner_of way l.memory.marks) l (record { number = r.number; place = r.place; line = r.line; cell = 0; steps = 0; count = 0 }) (memory ws' ns' l.memory.grid l.memory.scratch l.memory.marks l.memory.counts)
-  closed_run e =
-      let shut = not-true r.begun e in
-      left_by (sym (opens.refuses shut (manner_of way l.memory.marks))) opens.words names_are (room_kept (pos 0) _ l.source _ l.memory.scratch (opens.closed shut))
-      (marks_kept (manner_of way l.memory.marks) _ l.source _ l.memory.marks (opens.closed shut))
-      (counts_kept (manner_of way l.memory.marks) _ l.source _ l.memory.counts (opens.closed shut))
+  pub closed_run : {s : Stop} → r ≡ Err s
+      → RunLeaves flat_names (manner_of way l.memory.marks) l (record { number = s.number; place = s.place; line = s.line; cell = 0; steps = 0; count = 0 }) (memory ws' ns' l.memory.grid l.memory.scratch l.memory.marks l.memory.counts)
+  closed_run {s} e =
+      left_by (sym (opens.refuses s e (manner_of way l.memory.marks))) opens.words names_are (room_kept (pos 0) _ l.source _ l.memory.scratch (opens.closed s e))
+      (marks_kept (manner_of way l.memory.marks) _ l.source _ l.memory.marks (opens.closed s e))
+      (counts_kept (manner_of way l.memory.marks) _ l.source _ l.memory.counts (opens.closed s e))
 
-  module _ (e : not r.begun ≡ false) where
-    is : RunBegun (fits flat_names l) l.source (asked l) ws' r.rule r.reach
-    is = opens.opened (not-false r.begun e)
+  module _ {o : Opening} (e : r ≡ Ok o) where
+    is : RunBegun (fits flat_names l) l.source (asked l) ws' o.rule o.reach
+    is = opens.opened o e
 
-    pub run_ready : Begins ws' r.rule l.sizes r.reach l.memory.grid l.memory.scratch l.memory.marks l.values (nat_abs l.start) (nat_abs l.steps)
-        × CountsFit l.counted r.rule.fields l.sizes l.field (length l.memory.counts)
+    pub run_ready : Begins ws' o.rule l.sizes o.reach l.memory.grid l.memory.scratch l.memory.marks l.values (nat_abs l.start) (nat_abs l.steps)
+        × CountsFit l.counted o.rule.fields l.sizes l.field (length l.memory.counts)
     run_ready = (begins_run is refl refl, counts_fit is l.counted l.field (length l.memory.counts) refl)
 
-    pub run_done : {all re : Bool} {said : Report} {grid' scratch' : List ℤ} {marks' marks'' counts' : List ℕ} (n : ℕ) → all ≡ every_step way r.rule.timed → re ≡ is_resumed way
-        → Ran ws' r.rule l.sizes r.reach all l.values (nat_abs l.start) (nat_abs l.steps) (pending_in re l.memory.marks) l.memory.grid said grid' marks'
+    pub run_done : {all re : Bool} {said : Report} {grid' scratch' : List ℤ} {marks' marks'' counts' : List ℕ} (n : ℕ) → all ≡ every_step way o.rule.timed → re ≡ is_resumed way
+        → Ran ws' o.rule l.sizes o.reach all l.values (nat_abs l.start) (nat_abs l.steps) (pending_in re l.memory.marks) l.memory.grid said grid' marks'
         → scratch' ≡ replicate n (pos 0) → length scratch' ≡ length l.memory.scratch → length marks' ≡ length l.memory.marks → marks'' ≡ marks_left way marks'
-        → Tallied ws' r.rule l.sizes r.reach all l.counted l.field grid' l.memory.counts counts'
+        → Tallied ws' o.rule l.sizes o.reach all l.counted l.field grid' l.memory.counts counts'
         → RunLeaves flat_names (manner_of way l.memory.marks) l said (memory ws' ns' grid' scratch' marks'' counts')
     run_done {all} {re} {said} {grid'} {scratch'} {marks'} {marks''} {counts'} n a e ran s j k m o =
         left_by (source_report is l.memory.marks way ran_is)
         opens.words names_are
         (cleared (pos 0) n l.memory.scratch s j ∙ room_cleared (pos 0) _ l.source _ l.memory.scratch (began is))
         (m ∙ marks_are is l.memory.marks way ran_is k ∙ marks_began is (manner_of way l.memory.marks) l.memory.marks)
-        (counts_are is l.memory.marks l.counted l.field (length l.memory.counts) refl way ran_is (subst (λ (x : Bool). Tallied ws' r.rule l.sizes r.reach x l.counted l.field grid' l.memory.counts counts') a o)
+        (counts_are is l.memory.marks l.counted l.field (length l.memory.counts) refl way ran_is (subst (λ (x : Bool). Tallied ws' o.rule l.sizes o.reach x l.counted l.field grid' l.memory.counts counts') a o)
         ∙ counts_began is (manner_of way l.memory.marks) l.memory.counts)
       where
-        ran_is : RanBy is (every_step way r.rule.timed) (pending_in (is_resumed way) l.memory.marks) said grid' marks'
-        ran_is = subst₂ (λ (x y : Bool). Ran ws' r.rule l.sizes r.reach x l.values (nat_abs l.start) (nat_abs l.steps) (pending_in y l.memory.marks) l.memory.grid said grid' marks') a e ran
+        ran_is : RanBy is (every_step way o.rule.timed) (pending_in (is_resumed way) l.memory.marks) said grid' marks'
+        ran_is = subst₂ (λ (x y : Bool). Ran ws' o.rule l.sizes o.reach x l.values (nat_abs l.start) (nat_abs l.steps) (pending_in y l.memory.marks) l.memory.grid said grid' marks') a e ran
 
     pub cast_start : T (non_neg l.start) × Fits w32 (nat_abs l.start)
     cast_start = cast_in l.start is.start_is (omega (arith, is.times))

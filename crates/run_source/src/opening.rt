@@ -1,51 +1,77 @@
 // The beginning of a run: the source is read, and the run admitted.
-ghost use Rattle.std.specs.Prelude.{◌≡◌, false, length, ◌<◌};
+ghost use Rattle.std.specs.Prelude.{◌≡◌, length, ◌<◌};
 ghost use Rattle.grammar.specs.Checking.{rooms_fit};
+ghost use Rattle.program.specs.Reason.{reason_number};
 ghost use Rattle.run_calls.specs.Running.{counts_of, ask};
 ghost use Rattle.run_admission.specs.Promises.Admitting.{request_of};
-ghost use Rattle.run_source.specs.Promises.Sourcewise.{counts_right, RunOpens};
+ghost use Rattle.run_source.specs.Promises.Sourcewise.{stopped, not_begun, counts_right, RunOpens};
 
-use list_reader::checking::check_list;
+use list_reader::checking::{ListRefusal, check_list};
 use move_profile::flag_of;
 use program::Rule;
+use program::reply::{Reason, Refusal};
 use read_source::load;
 use run_admission::admit;
-use run_meaning::{Reach, own_only};
+use run_meaning::Reach;
+use run_steps::Report;
 
-// Whether a run begins: then the rule and its reach; else the refusal's number, its place, and its line in the value list.
+// A run that begins: the rule and its reach.
 #[derive(Clone, Copy)]
 pub struct Opening {
-    pub begun: bool,
-    pub number: u32,
-    pub place: u32,
-    pub line: u64,
     pub rule: Rule,
     pub reach: Reach,
 }
 
-// A run that does not begin.
-fn closed(number: u32, place: u32, line: u64) -> Opening
-    ensures { (result.begun ≡ false) × (result.number ≡ number) × (result.place ≡ place) × (result.line ≡ line) }
-{
-    Opening {
-        begun: false,
-        number: number,
-        place: place,
-        line: line,
-        rule: Rule {
-            tokens: 0,
-            base: 0,
-            body: 0,
-            dims: 0,
-            fields: 0,
-            slots: 0,
-            timed: false,
-        },
-        reach: own_only(),
+// Why a run does not begin: the number and the place of the reply, and its line in the value list.
+#[derive(Clone, Copy, Debug, PartialEq, Eq, Hash)]
+pub struct Stop {
+    pub number: u32,
+    pub place: u32,
+    pub line: u64,
+}
+
+impl From<Refusal> for Stop {
+    ghost from_gives = { λ r s. s ≡ stopped r.number r.place 0 };
+
+    fn from(refusal: Refusal) -> Self {
+        Stop {
+            number: refusal.number,
+            place: refusal.place,
+            line: 0,
+        }
+    }
+}
+
+impl From<ListRefusal> for Stop {
+    ghost from_gives = { λ r s. s ≡ stopped (reason_number r.reason) 0 r.line };
+
+    fn from(refusal: ListRefusal) -> Self {
+        Stop {
+            number: refusal.reason.number(),
+            place: 0,
+            line: refusal.line,
+        }
+    }
+}
+
+// The report of a run that does not begin.
+impl From<Stop> for Report {
+    ghost from_gives = { λ s r. r ≡ not_begun s };
+
+    fn from(stop: Stop) -> Self {
+        Report {
+            number: stop.number,
+            place: stop.place,
+            line: stop.line,
+            cell: 0,
+            steps: 0,
+            count: 0,
+        }
     }
 }
 
 // Whether the row counts are right that a run is to keep, if any: of a field that there is, and one a row.
+#[tactic(auto, using(crate::proofs::OpeningLaws::counts_off, crate::proofs::OpeningLaws::counts_far, crate::proofs::OpeningLaws::counts_near))]
 fn counts_fit(counted: bool, field: u32, rows: usize, fields: u32, sizes: &[u32]) -> bool
     requires { 0 < length sizes.now }
     ensures { result ≡ counts_right counted field rows fields sizes.now }
@@ -74,34 +100,17 @@ pub fn open_run(
     rows: usize,
     counted: bool,
     field: u32,
-) -> Opening
+) -> Result<Opening, Stop>
     ensures { RunOpens (rooms_fit (length words.old) (length names.old)) source.now words.old names.old (ask (request_of sizes.now grid.now scratch marks start steps) values.now (counts_of counted field rows)) result words.new names.new }
 {
-    let loaded = load(source, words, names);
-    if !loaded.accepted {
-        return closed(loaded.number, loaded.place, 0);
-    }
-    let rule = loaded.rule;
-    let reach = match admit(words, rule, sizes, grid, scratch, marks, start, steps) {
-        Ok(reach) => reach,
-        Err(refusal) => return closed(refusal.number, refusal.place, 0),
-    };
+    let rule = load(source, words, names)?;
+    let reach = admit(words, rule, sizes, grid, scratch, marks, start, steps)?;
     if !counts_fit(counted, field, rows, rule.fields, sizes) {
-        return closed(61, 0, 0);
+        return Err(Stop::from(Refusal::new(Reason::RowCounts, 0)));
     }
     let flag = flag_of(source, words, names, rule);
     let first = start as u32;
     let last = first + steps as u32;
-    let verdict = check_list(values, words, rule, flag, sizes, first, last);
-    if verdict.number != 0 {
-        return closed(verdict.number, 0, verdict.line);
-    }
-    Opening {
-        begun: true,
-        number: 0,
-        place: 0,
-        line: 0,
-        rule: rule,
-        reach: reach,
-    }
+    check_list(values, words, rule, flag, sizes, first, last)?;
+    Ok(Opening { rule, reach })
 }

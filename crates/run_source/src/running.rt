@@ -8,8 +8,8 @@ ghost use Rattle.run_source.specs.Promises.Sourcewise.{every_step, marks_left, R
 ghost use Rattle.run_source.specs.Promises.Public.{manner_of, is_resumed, RunLeaves};
 ghost use Rattle.run_source.specs.Promises.Agreement.{AgreesFresh};
 
-use crate::opening::open_run;
-use run_marked_cells::rooms::{clear_numbers, set_marks};
+use crate::opening::{Stop, open_run};
+use program::reply::{Reason, Refusal};
 use run_steps::{Manner, Report, run_steps};
 use spelling::is_built_in;
 
@@ -19,9 +19,7 @@ fn all_open(manner: Manner, timed: bool) -> bool
 {
     match manner {
         Manner::Full => true,
-        Manner::Quiet => timed,
-        Manner::Pausing => timed,
-        Manner::Resuming => timed,
+        Manner::Quiet | Manner::Pausing | Manner::Resuming => timed,
     }
 }
 
@@ -29,12 +27,7 @@ fn all_open(manner: Manner, timed: bool) -> bool
 fn resumes(manner: Manner) -> bool
     ensures { result ≡ is_resumed manner }
 {
-    match manner {
-        Manner::Full => false,
-        Manner::Quiet => false,
-        Manner::Pausing => false,
-        Manner::Resuming => true,
-    }
+    matches!(manner, Manner::Resuming)
 }
 
 // Leaves the marks standing after a run that is to be resumed, and none after another.
@@ -42,14 +35,8 @@ fn leave_marks(manner: Manner, marks: &mut [u8])
     ensures { marks.new ≡ marks_left manner marks.old }
 {
     match manner {
-        Manner::Full => {
-            set_marks(marks, 0);
-        }
-        Manner::Quiet => {
-            set_marks(marks, 0);
-        }
-        Manner::Pausing => {}
-        Manner::Resuming => {}
+        Manner::Full | Manner::Quiet => marks.fill(0),
+        Manner::Pausing | Manner::Resuming => {}
     }
 }
 
@@ -72,7 +59,7 @@ fn run_listed(
 ) -> Report
     ensures { RunsListed (manner_of manner marks.old) (λ (list : List ℕ). (lent source.now list sizes.now (memory words.old names.old grid.old scratch.old marks.old counts.old) values.now start steps counted field)) result (memory words.new names.new grid.new scratch.new marks.new counts.new) }
 {
-    let opening = open_run(
+    let opening = match open_run(
         source,
         words,
         names,
@@ -86,25 +73,17 @@ fn run_listed(
         counts.len(),
         counted,
         field,
-    );
-    if !opening.begun {
-        return Report {
-            number: opening.number,
-            place: opening.place,
-            line: opening.line,
-            cell: 0,
-            steps: 0,
-            count: 0,
-        };
-    }
+    ) {
+        Ok(opening) => opening,
+        Err(stop) => return Report::from(stop),
+    };
     let rule = opening.rule;
-    let reach = opening.reach;
     let all = all_open(manner, rule.timed);
     let report = run_steps(
         words,
         rule,
         sizes,
-        reach,
+        opening.reach,
         all,
         grid,
         scratch,
@@ -117,7 +96,7 @@ fn run_listed(
         counted,
         field,
     );
-    clear_numbers(scratch);
+    scratch.fill(0);
     leave_marks(manner, marks);
     report
 }
@@ -148,14 +127,7 @@ pub fn run(
     ensures ranges { RangesKept source.now (read_lent flat_names (lent source.now list.now sizes.now (memory words.old names.old grid.old scratch.old marks.old counts.old) values.now start steps counted field)) (asked (lent source.now list.now sizes.now (memory words.old names.old grid.old scratch.old marks.old counts.old) values.now start steps counted field)) grid.new }
 {
     if !is_built_in(list) {
-        return Report {
-            number: 1,
-            place: 0,
-            line: 0,
-            cell: 0,
-            steps: 0,
-            count: 0,
-        };
+        return Report::from(Stop::from(Refusal::new(Reason::Buffers, 0)));
     }
     run_listed(
         source, words, names, sizes, grid, scratch, marks, values, start, steps, manner, counts,

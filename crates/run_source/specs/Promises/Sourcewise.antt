@@ -1,5 +1,5 @@
 -- What the functions of a run of a source promise.
-use Rattle.std.specs.Prelude.{◌≡◌, Bool, true, false, ◌&&◌, List, ℕ, ◌+◌, ◌<◌, ◌≤◌, length, get_or, replicate, eqb, ltb, pos, nat_abs}
+use Rattle.std.specs.Prelude.{◌≡◌, Bool, true, false, ◌&&◌, List, ℕ, ◌+◌, ◌<◌, ◌≤◌, length, get_or, replicate, eqb, ltb, pos, nat_abs, Result, Ok, Err}
 use Rattle.value.specs.Limits.{most_cells}
 use Rattle.automaton.specs.Shape.{product}
 use Rattle.token.specs.Lexeme.{is_built_in}
@@ -22,6 +22,7 @@ use Rattle.run_steps.specs.declared.Manner.{Manner as Way}
 use Rattle.run_steps.specs.declared.Manner.TheVariants.{Full, Quiet, Pausing, Resuming}
 use Rattle.run_source.specs.Promises.Public.{RunLeaves}
 use Rattle.run_source.specs.declared.opening.Opening.{Opening}
+use Rattle.run_source.specs.declared.opening.Stop.{Stop}
 use Rattle.run_steps.specs.Promises.Stepwise.{Listed, Runs}
 
 -- whether every cell is open in every step: in a full run, and where `time` stands in the source
@@ -63,13 +64,21 @@ pub record RunBegun (fit : Bool) (source : List ℕ) (q : Asked) (words : List �
   pub dimensions : Dimensions q.request.sizes
   pub listed : Listed q.request.sizes q.values (nat_abs q.request.start)
 
+-- why a run does not begin: the number and the place of the reply, and its line in the value list
+abbrev pub stopped : ℕ → ℕ → ℕ → Stop
+stopped number place line = record { number = number; place = place; line = line }
+
+-- the report of a run that does not begin
+abbrev pub not_begun : Stop → Report
+not_begun s = record { number = s.number; place = s.place; line = s.line; cell = 0; steps = 0; count = 0 }
+
 -- whether a run of a source begins, and what it leaves of word table and name list
-pub record RunOpens (fit : Bool) (source ws ns : List ℕ) (q : Asked) (r : Opening) (ws' ns' : List ℕ) : Type 0 where
+pub record RunOpens (fit : Bool) (source ws ns : List ℕ) (q : Asked) (r : Result Opening Stop) (ws' ns' : List ℕ) : Type 0 where
   pub words : ws' ≡ words_after fit source ws
   pub names : ns' ≡ names_after fit source ns
-  pub closed : r.begun ≡ false → run_begins source q (read_source fit source) ≡ false
-  pub refuses : r.begun ≡ false → (manner : Manner) → run_source manner fit source q ≡ refused r.number r.place r.line q.request.grid
-  pub opened : r.begun ≡ true → RunBegun fit source q ws' r.rule r.reach
+  pub closed : (s : Stop) → r ≡ Err s → run_begins source q (read_source fit source) ≡ false
+  pub refuses : (s : Stop) → r ≡ Err s → (manner : Manner) → run_source manner fit source q ≡ refused s.number s.place s.line q.request.grid
+  pub opened : (o : Opening) → r ≡ Ok o → RunBegun fit source q ws' o.rule o.reach
 
 -- ---- the whole run
 
