@@ -99,6 +99,13 @@ module _ (sizes at steps : List ℕ) (from : ℕ) (p : StepPlaced sizes at steps
           rest = sym (ap₂ (λ (ns is : List ℕ). horner number ns is) rest_is steps_are) ∙ w.rest;
         })
 
+  -- with a coordinate more it stays below the number of cells
+  pub walking_grows : (number k : ℕ) → Walking sizes at steps from number k → k < length sizes → number * get_or sizes k 0 ≤ 1048576
+  walking_grows number k w l =
+      let q = positive_behind sizes p.positive (suc k) in
+      let r : (number + 1) * (get_or sizes k 0 * product (drop (suc k) sizes)) ≤ 1048576 = subst (λ (ns : List ℕ). (number + 1) * product ns ≤ 1048576) (drop-cons sizes k 0 l) w.room in
+      omega (arith, r, grows (number * get_or sizes k 0) (product (drop (suc k) sizes)) q)
+
   -- the next number as the code has it: the step's result by its promise
   pub step_is : (k n s j : ℕ) → s ≡ get_or steps (from + k) 0 → j ≡ (get_or at k 0 + s) % n → j ≡ (get_or at k 0 + get_or steps (from + k) 0) % n
   step_is k n s j e q = q ∙ ap (λ (x : ℕ). (get_or at k 0 + x) % n) e

@@ -12,12 +12,6 @@ ghost use Rattle.run_place_marks.specs.Promises.Placing.{StepPlaced, cell_from, 
 
 use value::limits::MOST_DIMS;
 
-pub fn wide(x: u32) -> usize
-    ensures { result ≡ x }
-{
-    x as usize
-}
-
 // j + step, wrapped in a dimension of n coordinates.
 fn stepped(j: usize, step: usize, n: usize) -> usize
     requires { (j < n) × (step < n) × (n ≤ most_cells) }
@@ -34,14 +28,10 @@ fn cell_at(sizes: &[u32], at: &[usize; MOST_DIMS], steps: &[u32], from: usize) -
     requires { StepPlaced sizes.now at.now steps.now from }
     ensures { result ≡ cell_from sizes.now at.now steps.now from }
 {
-    let dims = sizes.len();
     let mut number = 0;
-    let mut k = 0;
-    while k < dims {
-        let n = wide(sizes[k]);
-        let j = stepped(at[k], wide(steps[from + k]), n);
-        number = number * n + j;
-        k += 1;
+    for k in 0..sizes.len() {
+        let n = sizes[k] as usize;
+        number = number * n + stepped(at[k], steps[from + k] as usize, n);
     }
     number
 }
@@ -57,11 +47,9 @@ pub fn note_steps(
     requires { ((k : ℕ) → k < count → StepPlaced sizes.now at.now steps.now (3 * k)) × (count ≤ most_places) × (length marks.old ≡ product sizes.now) × (length marks.old ≤ most_cells) }
     ensures { marks.new ≡ note_places sizes.now at.now steps.now count marks.old }
 {
-    let mut k = 0;
-    while k < count {
+    for k in 0..count {
         let c = cell_at(sizes, at, steps, 3 * k);
         marks[c] = marks[c] % 2 + 2;
-        k += 1;
     }
 }
 
@@ -71,12 +59,9 @@ pub fn set_coordinates(sizes: &[u32], x: u32, at: &mut [usize])
     ensures { StepCoordinates sizes.now x at.new }
 {
     let mut rest = x;
-    let mut k = sizes.len();
-    while 0 < k {
-        k -= 1;
-        let n = sizes[k];
-        at[k] = wide(rest % n);
-        rest = rest / n;
+    for k in (0..sizes.len()).rev() {
+        at[k] = (rest % sizes[k]) as usize;
+        rest /= sizes[k];
     }
 }
 
@@ -99,11 +84,8 @@ fn set_step(sizes: &[u32], places: &[u32], k: usize, steps: &mut [u32])
     requires { (length sizes.now ≤ most_dims) × Positive sizes.now × (length places.now ≡ place_words) × (k < most_places) × (length steps.old ≡ place_words) }
     ensures { Backs sizes.now places.now k (k + 1) steps.old steps.new }
 {
-    let dims = sizes.len();
-    let mut d = 0;
-    while d < dims {
+    for d in 0..sizes.len() {
         steps[3 * k + d] = back(places[3 * k + d], sizes[d]);
-        d += 1;
     }
 }
 
@@ -113,9 +95,7 @@ pub fn set_steps(sizes: &[u32], places: &[u32], count: usize, steps: &mut [u32])
     requires { (length sizes.now ≤ most_dims) × Positive sizes.now × (length places.now ≡ place_words) × (count ≤ most_places) × (length steps.old ≡ place_words) }
     ensures { Backs sizes.now places.now 0 count steps.old steps.new }
 {
-    let mut k = 0;
-    while k < count {
+    for k in 0..count {
         set_step(sizes, places, k, steps);
-        k += 1;
     }
 }

@@ -5,6 +5,3 @@ use Rattle.run_place_marks.proofs.set_coordinates.Given as goal
 
 abbrev pub invariant-loop-k : goal.invariant-loop-k
 invariant-loop-k l = (l.k ≤ length l.sizes) × Setting l.sizes l.x l.at l.rest l.k
-
-abbrev pub decreases-loop-k : goal.decreases-loop-k
-decreases-loop-k l = l.k
