@@ -1,6 +1,6 @@
 -- The laws of the cells at the steps of a list.
-use Prim.Native.Nat.{ℕ, zero, suc, ◌+◌, ◌-◌, ◌*◌, ◌%◌, ◌<◌, ◌≤◌}
-use native.Mathlib.Nat.{mod-lt, mod-eq_of_lt, add-mod_right, mul-le-mul_right, le_trans}
+use Prim.Native.Nat.{ℕ, zero, suc, ◌+◌, ◌*◌, ◌%◌, ◌<◌, ◌≤◌}
+use native.Mathlib.Nat.{mod-lt, mul-le-mul_right, le_trans}
 use native.Mathlib.Omega.{arith}
 use mathlib.Core.Path.{◌≡◌, refl, sym, ap, ap₂, ◌∙◌, subst}
 use mathlib.Core.List.{List, [], ◌∷◌}
@@ -12,17 +12,6 @@ use Rattle.automaton.specs.Promises.ShapeLaws.{Inside, Positive}
 use Rattle.automaton.proofs.ShapeLaws.{number_lt, product_pos}
 use Rattle.run_meaning.proofs.Theorems.Digits.{size_small}
 use Rattle.run_place_marks.specs.Promises.Placing.{step_from, cell_from, StepPlaced, note_places}
-
--- ---- one coordinate
-
-pub near : (j s n : ℕ) → j + s < n → j + s ≡ (j + s) % n
-near j s n l = sym (mod-eq_of_lt l)
-
-pub far : (j s n : ℕ) → j < n → s < n → n ≤ j + s → j + s - n ≡ (j + s) % n
-far j s n l m h =
-    let e : j + s ≡ j + s - n + n = omega arith in
-    let t : j + s - n < n = omega arith in
-    sym (ap (λ (x : ℕ). x % n) e ∙ add-mod_right (j + s - n) n ∙ mod-eq_of_lt t)
 
 -- ---- the number, one dimension after the other
 
@@ -112,7 +101,7 @@ module _ (sizes at steps : List ℕ) (from : ℕ) (p : StepPlaced sizes at steps
 
   -- what a step in one dimension asks
   pub step_ready : (number k n s : ℕ) → Walking sizes at steps from number k → k < length sizes → n ≡ get_or sizes k 0 → s ≡ get_or steps (from + k) 0
-      → (get_or at k 0 < n) × (s < n) × (n ≤ 1048576)
+      → (get_or at k 0 < n) × (s ≤ n) × (n ≤ 1048576)
   step_ready number k n s w l size is = (
     subst (λ (m : ℕ). get_or at k 0 < m) (sym size) (p.inside k l),
     omega (arith, size, is, p.steps_inside k l),

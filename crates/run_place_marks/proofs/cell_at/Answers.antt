@@ -7,8 +7,8 @@ use Rattle.run_place_marks.proofs.cell_at.Goals as goal
 pub loop-k-init : goal.loop-k-init
 loop-k-init c = walking_start _ _ _ _ c.requires
 
-pub stepped-requires : goal.stepped-requires
-stepped-requires c =
+pub wrap_sum-requires : goal.wrap_sum-requires
+wrap_sum-requires c =
     let l = c.loop-k in
     step_ready _ _ _ _ c.requires l.number l.k _ _ l.invariant (search rules) refl refl
 
@@ -18,11 +18,11 @@ overflow_mul-number c = omega (arith, walking_grows _ _ _ _ c.requires c.loop-k.
 pub overflow_add-number : goal.overflow_add-number
 overflow_add-number c =
     let l = c.loop-k in
-    let j = step_is _ _ _ _ c.requires l.k _ _ _ refl c.stepped.ensures in
+    let j = step_is _ _ _ _ c.requires l.k _ _ _ refl c.wrap_sum.ensures in
     omega (arith, walking_fits _ _ _ _ c.requires l.number l.k _ _ l.invariant (search rules) refl j)
 
 pub loop-k-preserved : goal.loop-k-preserved
 loop-k-preserved c =
     let l = c.loop-k in
-    let j = step_is _ _ _ _ c.requires l.k _ _ _ refl c.stepped.ensures in
+    let j = step_is _ _ _ _ c.requires l.k _ _ _ refl c.wrap_sum.ensures in
     walking_more _ _ _ _ c.requires l.number l.k _ _ l.invariant (search rules) refl j
