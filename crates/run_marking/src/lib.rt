@@ -81,13 +81,10 @@ pub fn mark_changed(
     ensures { MarksChanged sizes.now bounds steps.now listed fields old.now grid.now marks.old marks.new }
 {
     let counts = counts_of(sizes, bounds);
-    let n = marks.len();
-    let mut c = 0;
-    while c < n {
+    for c in 0..marks.len() {
         open_changed(
             sizes, bounds, &counts, steps, listed, fields, old, grid, c, marks,
         );
-        c += 1;
     }
     flag_marks(marks);
 }

@@ -1,15 +1,18 @@
 use Rattle.run_marking.proofs.NotingLaws.{noted_start, noted_more, noted_done, note_line}
+use Rattle.run_marking.proofs.BoxLaws.{wrapped}
 use native.Mathlib.Omega.{arith}
-use borrow.Author.Rules.{rules}
 use Rattle.run_marking.proofs.opening.note_line.Goals as goal
 
 pub loop-e-init : goal.loop-e-init
-loop-e-init c = (omega arith, noted_start _ _ _ _ (search rules))
+loop-e-init c = noted_start _ _
+
+pub bounds-marks-c : goal.bounds-marks-c
+bounds-marks-c c = omega (arith, wrapped _ c.wrap_sum.ensures (omega (arith, c.requires.0)), c.loop-e.invariant.len)
 
 pub loop-e-preserved : goal.loop-e-preserved
 loop-e-preserved c =
     let l = c.loop-e in
-    (omega arith, noted_more _ _ _ _ l.marks _ l.j l.e l.invariant.1 (note_line _ _ _ _ l.marks l.j l.e l.invariant.1) c.next_coordinate-j.ensures)
+    noted_more _ _ l.marks _ l.e l.invariant (note_line _ _ _ l.marks _ l.e c.wrap_sum.ensures)
 
 pub returns : goal.returns
-returns c = let l = c.loop-e in noted_done _ _ _ _ l.marks l.j l.e _ l.invariant.1 l.invariant.0 c.loop-e-test.false
+returns c = let l = c.loop-e in noted_done _ _ l.marks l.e _ l.invariant (omega arith)
