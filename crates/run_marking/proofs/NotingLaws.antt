@@ -1,6 +1,6 @@
 -- The laws of noted cells, and of lists one behind the other.
 use Prim.Native.Nat.{ℕ, zero, suc, ◌+◌, ◌%◌, ◌≤◌, ◌<◌}
-use native.Mathlib.Nat.{le_refl, le-suc, le_trans, not-suc-le-zero, eq-or-lt_of_le}
+use native.Mathlib.Nat.{add-zero, mod-eq_of_lt, mod-add-mod, le_refl, le-suc, le_trans, not-suc-le-zero, eq-or-lt_of_le}
 use native.Mathlib.Decide.{ℕ_discrete}
 use native.Mathlib.Omega.{arith}
 use mathlib.Core.Path.{◌≡◌, refl, sym, ap, ap₂, ◌∙◌, subst}
@@ -107,6 +107,15 @@ rows_skip f a (suc b) l none = go (λ m. rows_skip f a b m (λ k p r. none k p (
         ap (λ (y : List ℕ). noted_rows f b ++ y) (none b m (le_refl (suc b))) ∙ append-nil (noted_rows f b) ∙ before m
 
 -- ---- a loop over the coordinates of a dimension
+
+-- the first coordinate, and the next one after a coordinate
+pub at_first : (first n : ℕ) → first < n → first ≡ (first + 0) % n
+at_first first n l = sym (ap (λ (x : ℕ). x % n) (add-zero first) ∙ mod-eq_of_lt l)
+
+pub at_next : (first n j e : ℕ) {j' : ℕ} → j ≡ (first + e) % n → j' ≡ (j + 1) % n → j' ≡ (first + (e + 1)) % n
+at_next first n j e at is =
+    let t : first + e + 1 ≡ first + (e + 1) = omega arith in
+    is ∙ ap (λ (x : ℕ). (x + 1) % n) at ∙ mod-add-mod (first + e) n 1 ∙ ap (λ (x : ℕ). x % n) t
 
 -- the first e rows are noted
 pub record Noted (f : ℕ → List ℕ) (marks₀ marks : List ℕ) (e : ℕ) : Type 0 where

@@ -60,3 +60,11 @@ pub fn wrap_sum(a: usize, b: usize, n: usize) -> usize
     let sum = a + b;
     if sum < n { sum } else { sum - n }
 }
+
+// The coordinate after j in a dimension of n coordinates; after the last one the first.
+pub fn next_coordinate(j: usize, n: usize) -> usize
+    requires { j < n }
+    ensures { result ≡ (j + 1) % n }
+{
+    if j + 1 == n { 0 } else { j + 1 }
+}
