@@ -54,6 +54,7 @@ pub fn mark_open(
     ensures { Marks sizes.now bounds steps.now listed fields old.now grid.now marks.new }
 {
     let counts = counts_of(sizes, bounds);
+    // Kept: a walk from one marked cell to the next, no index.
     let n = marks.len();
     let mut c = next_odd(marks, 0);
     while c < n {
