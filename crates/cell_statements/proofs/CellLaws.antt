@@ -7,6 +7,10 @@ use mathlib.Core.List.{List, [], ◌∷◌, ◌++◌}
 use lib.ListN.{length, set, take, replicate}
 use lib.Seq.{take-suc-set}
 use lib.IntN.{ℤ, pos}
+use Rattle.std.specs.Prelude.{Ok, Err}
+use Rattle.program.specs.Refusal.{Refusal}
+use Rattle.cell_statements.specs.declared.Flow.{Flow}
+use Rattle.cell_statements.specs.declared.Flow.TheVariants as flow
 use Rattle.automaton.specs.Step as Step
 use Rattle.automaton.specs.Shape.{neighbour}
 use Rattle.automaton.specs.Grid.{cell_of}
@@ -18,11 +22,7 @@ use Rattle.cell_meaning.specs.Promises.Stands.{ranges_in, Stands, Holds}
 use Rattle.cell_meaning.specs.Links.{table_of}
 use Rattle.cell_operands.specs.Promises.Working.{site_table, env_of, SiteReady}
 use Rattle.cell_operands.proofs.PrimaryLaws.{own_is}
-use Rattle.cell_statements.specs.Promises.Running.{left_by_exit, RunsBlock, Fit, outcome_is, Evaluates}
-use Rattle.cell_statements.specs.declared.Going.{Going}
-use Rattle.cell_statements.specs.declared.Going.TheVariants.{On, Leaving, Faulted}
-use Rattle.cell_statements.specs.declared.Outcome.{Outcome}
-use Rattle.cell_statements.specs.declared.Outcome.TheVariants.{Done, Fault}
+use Rattle.cell_statements.specs.Promises.Running.{Going, Outcome, left_by_exit, RunsBlock, Fit, outcome_is, Evaluates}
 
 -- the first k variables are 0
 pub cleared : (vars : List ℤ) (k : ℕ) {vars' : List ℤ} → take k vars ≡ replicate k (pos 0) → k < length vars → vars' ≡ set vars k (pos 0) → take (k + 1) vars' ≡ replicate (k + 1) (pos 0)
@@ -90,11 +90,12 @@ module _ {leaves words : List ℕ} {rule : Rule} {sizes point : List ℕ} {cell 
     unfolding evaluate
     evaluated o e = record { says = λ p h. e ∙ ap end_of (ended p h) }
 
-    pub cell_on : r ≡ On → Evaluates words rule sizes cell grid next' time Done
-    cell_on e = evaluated Done (rw e refl)
+    pub cell_done : {f : Flow} → r ≡ Ok f → Evaluates words rule sizes cell grid next' time (Ok tt)
+    cell_done {f} e = evaluated (Ok tt) (rw e (by f))
+      where
+        by : (f : Flow) → Step.result next' ≡ end_of (left_by_exit (Ok f) vs' next')
+        by flow.On = refl
+        by flow.Leaving = refl
 
-    pub cell_leaving : r ≡ Leaving → Evaluates words rule sizes cell grid next' time Done
-    cell_leaving e = evaluated Done (rw e refl)
-
-    pub cell_fault : {k p : ℕ} → r ≡ Faulted k p → Evaluates words rule sizes cell grid next' time (Fault k p)
-    cell_fault {k} {p} e = evaluated (Fault k p) (rw e refl)
+    pub cell_fault : {f : Refusal} → r ≡ Err f → Evaluates words rule sizes cell grid next' time (Err f)
+    cell_fault {f} e = evaluated (Err f) (rw e refl)

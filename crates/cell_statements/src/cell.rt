@@ -4,9 +4,10 @@ ghost use Rattle.automaton.specs.Grid.{cell_of};
 ghost use Rattle.cell_statements.specs.Promises.Running.{Fit, Evaluates};
 
 use crate::blocks::block;
-use crate::{Going, Outcome};
 use cell_operands::Site;
+use cell_operands::scene::Scene;
 use program::Rule;
+use program::reply::Refusal;
 use value::limits::{LEAF_WORDS, MOST_NAMES, MOST_OPEN};
 
 // Sets the first variables to 0.
@@ -50,7 +51,7 @@ pub fn evaluate_cell(
     vars: &mut [i32; MOST_NAMES],
     index: &mut [i32; MOST_OPEN],
     time: u32,
-) -> Outcome
+) -> Result<(), Refusal>
     requires { Fit leaves.now words.now rule sizes.now point.now cell grid.now (length next.old) time }
     ensures { Evaluates words.now rule sizes.now cell grid.now next.new time result }
 {
@@ -58,20 +59,23 @@ pub fn evaluate_cell(
     let fields = rule.fields as usize;
     let site = Site {
         base: rule.base,
-        fields: fields,
-        slots: slots,
-        cell: cell,
+        fields,
+        slots,
+        cell,
         tokens: rule.tokens,
-        time: time,
+        time,
+    };
+    let scene = Scene {
+        leaves,
+        words,
+        sizes,
+        point,
+        grid,
+        site,
+        depth: 0,
     };
     clear(vars, slots);
     copy_fields(grid, cell, next);
-    let flow = block(
-        leaves, words, sizes, point, grid, vars, index, next, site, 0, rule.body,
-    );
-    match flow {
-        Going::On => Outcome::Done,
-        Going::Leaving => Outcome::Done,
-        Going::Faulted(k, p) => Outcome::Fault(k, p),
-    }
+    block(&scene, vars, index, next, rule.body)?;
+    Ok(())
 }

@@ -1,5 +1,5 @@
 -- Runs of bytes: one law for each way through the tests, and what is left of a run while it is walked.
-use mathlib.Core.Path.{◌≡◌, refl, ◌∙◌}
+use mathlib.Core.Path.{◌≡◌, refl, sym, ◌∙◌}
 use mathlib.Core.Bool.{Bool, true, false, ◌&&◌, ◌||◌}
 use mathlib.Core.List.{List, [], ◌∷◌}
 use Prim.Native.Nat.{ℕ, suc, ◌+◌, ◌≤◌, ◌<◌}
@@ -8,54 +8,64 @@ use native.Mathlib.Omega.{arith}
 use lib.ListN.{length, drop, drop_of_length-le}
 use lib.Seq.{drop-drop}
 use lib.Dec.{eqb}
-use borrow.Author.Tests.{ne_eqb}
 use Rattle.token.specs.Bytes.{kind_of}
 use Rattle.token.specs.Lexeme.{starts, in_name, in_literal, extent}
-use Rattle.token.specs.Promises.Promises.{WalksTokens, head_kind, run_test, goes_on}
+use Rattle.token.specs.declared.runs.Run.{Run}
+use Rattle.token.specs.declared.runs.Run.TheVariants.{Name, Literal}
+use Rattle.token.specs.declared.bytes.ByteKind.{ByteKind}
+use Rattle.token.specs.declared.bytes.ByteKind.TheVariants.{Letter, Digit, Underscore}
+use Rattle.token.specs.Promises.Promises.{WalksTokens, kind_number, head_kind, in_run, run_test, goes_on}
+use Rattle.token.proofs.Numbers.{apart_eqb}
 use Rattle.token.proofs.Heads.{walks, starts_as, drop_here}
 
 -- ---- the test of one byte
 
-module _ (s : List ℕ) {k : ℕ} (e : k ≡ head_kind s) where
-  pub run_digit : (named : Bool) → k ≡ 4 → true ≡ run_test named s
-  unfolding in_name in_literal
-  run_digit true h = simp (starts_as s e 3 (omega arith), starts_as s e 4 (omega arith), h)
-  run_digit false h = simp (starts_as s e 4 (omega arith), h)
+pub fits_digit : (run : Run) {k : ByteKind} → k ≡ Digit → true ≡ in_run run (kind_number k)
+fits_digit Name e = rw e
+fits_digit Literal e = rw e
 
-  pub run_letter : {named : Bool} → (k ≡ 4 → ⊥) → named ≡ true → eqb k 3 ≡ run_test named s
-  unfolding in_name
-  run_letter d h = simp (h, starts_as s e 3 (omega arith), starts_as s e 4 (omega arith), ne_eqb k 4 d) (or_false (eqb k 3))
-    where
-      or_false : (b : Bool) → b ≡ (b || false)
-      or_false true = refl
-      or_false false = refl
+pub fits_letter : {run : Run} {k : ByteKind} → k ≡ Letter → run ≡ Name → true ≡ in_run run (kind_number k)
+fits_letter e q = rw (e, q)
 
-  pub run_none : {named : Bool} → (k ≡ 4 → ⊥) → named ≡ false → false ≡ run_test named s
-  unfolding in_literal
-  run_none d h = simp (h, starts_as s e 4 (omega arith), ne_eqb k 4 d)
+pub fits_no_letter : (run : Run) {k : ByteKind} → k ≡ Letter → (run ≡ Name → ⊥) → false ≡ in_run run (kind_number k)
+fits_no_letter Name e d = absurd (d refl)
+fits_no_letter Literal e d = rw e
 
-pub ruleset Tests = (run_digit, run_letter, run_none)
+pub fits_other : (run : Run) {k : ByteKind} → (k ≡ Letter → ⊥) → (k ≡ Digit → ⊥) → false ≡ in_run run (kind_number k)
+fits_other Name {k} c d = rw (apart_eqb k Letter c, apart_eqb k Digit d)
+fits_other Literal {k} c d = rw (apart_eqb k Digit d)
+
+pub ruleset Tests = (fits_digit, fits_letter, fits_no_letter, fits_other)
+
+-- the test of the byte at the head is one of its kind
+tested : (run : Run) (s : List ℕ) {k : ℕ} → k ≡ head_kind s → run_test run s ≡ in_run run k
+unfolding in_name in_literal
+tested Name s e = rw (starts_as s e 3 (omega arith), starts_as s e 4 (omega arith))
+tested Literal s e = rw (starts_as s e 4 (omega arith))
 
 -- ---- whether a byte is in a run
 
-module _ (named : Bool) (s : List ℕ) (i : ℕ) {b : Bool} (e : b ≡ run_test named (drop i s)) where
-  pub in_itself : b ≡ true → true ≡ goes_on (run_test named) (drop i s)
+no_underscore : (run : Run) → in_run run 5 ≡ false
+no_underscore Name = refl
+no_underscore Literal = refl
+
+module _ (run : Run) (s : List ℕ) (i : ℕ) {k : ByteKind} (e : kind_number k ≡ head_kind (drop i s)) where
+  underscore : k ≡ k → starts 5 (drop i s) ≡ eqb (kind_number k) 5
+  underscore z = starts_as (drop i s) e 5 (omega arith)
+
+  pub has_before : k ≡ Underscore → (j : ByteKind) → kind_number j ≡ head_kind (drop (i + 1) s) → {b : Bool} → b ≡ in_run run (kind_number j) → b ≡ goes_on (run_test run) (drop i s)
   unfolding goes_on
-  in_itself h = simp (← e, h)
+  has_before u j p q = q ∙ sym (rw (tested run (drop i s) e, underscore refl, u, no_underscore run, drop-drop 1 i s) (tested run (drop (i + 1) s) p))
 
-  module _ {k : ℕ} (q : k ≡ head_kind (drop i s)) where
-    underscore : starts 5 (drop i s) ≡ eqb k 5
-    underscore = starts_as (drop i s) q 5 (omega arith)
+  pub has_itself : (k ≡ Underscore → ⊥) → {b : Bool} → b ≡ in_run run (kind_number k) → b ≡ goes_on (run_test run) (drop i s)
+  unfolding goes_on
+  has_itself d q = q ∙ sym (rw (tested run (drop i s) e, underscore refl, apart_eqb k Underscore d) (or_false (in_run run (kind_number k))))
+    where
+      or_false : (b : Bool) → (b || false) ≡ b
+      or_false true = refl
+      or_false false = refl
 
-    pub in_before : b ≡ false → k ≡ 5 → {d : Bool} → d ≡ run_test named (drop (i + 1) s) → d ≡ goes_on (run_test named) (drop i s)
-    unfolding goes_on
-    in_before h u p = p ∙ simp (← e, h, underscore, u, drop-drop 1 i s)
-
-    pub in_none : b ≡ false → (k ≡ 5 → ⊥) → false ≡ goes_on (run_test named) (drop i s)
-    unfolding goes_on
-    in_none h u = simp (← e, h, underscore, ne_eqb k 5 u)
-
-pub ruleset Members = (in_itself, in_before, in_none)
+pub ruleset Members = (has_before, has_itself)
 
 -- ---- the walk
 

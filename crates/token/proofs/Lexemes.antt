@@ -5,91 +5,106 @@ use mathlib.Core.List.{List, [], ◌∷◌, map}
 use Prim.Native.Nat.{ℕ, zero, suc, ◌+◌, ◌-◌, ◌≤◌, ◌<◌, min}
 use native.Mathlib.Omega.{arith}
 use native.Mathlib.Nat.{add-zero}
-use lib.Dec.{eqb, ltb}
-use lib.ListN.{length, take, drop, get_or, length-drop, drop_of_length-le}
-use lib.Seq.{slice, get_or-drop, drop-drop}
+use lib.Dec.{T, eqb, ltb}
+use lib.ListN.{length, take, drop, get_or, length-take, length-drop, length-map, drop_of_length-le}
+use lib.Seq.{get_or-drop, drop-drop}
 use borrow.Author.Tests.{ne_eqb, eqb-false, lt-ltb, le-ltb}
-use Rattle.std.specs.Prelude.{if◌then◌else◌}
-use Rattle.token.specs.Bytes.{kind_of, member, fold}
+use Rattle.std.specs.Prelude.{if◌then◌else◌, Option, Some, None, unwrap_or}
+use Rattle.std.specs.Borrow.{Bor}
+use Rattle.token.specs.Bytes.{kind_of, member, fold, same}
 use Rattle.token.specs.Lexeme.{Lexeme, find_kind, keywords, two_byte_tokens, starts, in_name, in_literal, extent, decimal, lexeme_of, unreadable, word, digits, punctuation, read_token}
 use Rattle.token.specs.declared.Lexed.{Lexed}
-use Rattle.token.specs.declared.spelling.Group.{Group}
-use Rattle.token.specs.Promises.Promises.{WalksTokens, head_kind, too_large, spellings, Groups, word_here, digits_here, lexed_of, ReadsToken}
+use Rattle.token.specs.declared.bytes.ByteKind.{ByteKind}
+use Rattle.token.specs.declared.bytes.ByteKind.TheVariants.{Letter, Digit, Underscore, Sign}
+use Rattle.token.specs.Promises.Promises.{WalksTokens, kind_number, head_kind, too_large, of_length, spelled_of, in_lower, Finds, word_here, digits_here, lexed_of, ReadsToken}
 use Rattle.token.proofs.Heads.{drop_here, starts_as}
 use Rattle.token.proofs.Extents.{extent_within, extent_first}
-use Rattle.token.proofs.Words.{bytes_of, size_a, by_length, some_kind, signs_fold, too_short}
+use Rattle.token.proofs.Numbers.{apart_eqb}
+use Rattle.token.proofs.Words.{lower_of_length, by_length, some_kind, signs_fold, too_short}
 
 -- ---- a word
 
-pub word_read : (s : List ℕ) (at : ℕ) {end k : ℕ} {g : Group} {r : Lexed} → WalksTokens (extent in_name (drop at s)) s at end → at < length s → Groups (end - at) g → k ≡ find_kind (bytes_of s at (end - at)) (slice g.from g.to spellings) 1 → r ≡ lexed_of (lexeme_of k (end - at) 0) at → r ≡ lexed_of (word_here (drop at s)) at
+pub all_lower : (n : ℕ) (t : List (Bor (List ℕ) × ℕ)) → spelled_of t ≡ of_length n keywords → T (in_lower (spelled_of t))
+unfolding fold same
+all_lower n t e = rw e (lower_of_length n keywords tt)
+
+pub pairs_lower : (t : List (Bor (List ℕ) × ℕ)) → spelled_of t ≡ two_byte_tokens → T (in_lower (spelled_of t))
+unfolding fold same
+pairs_lower t e = rw e tt
+
+pub word_read : (s : List ℕ) (at : ℕ) {end : ℕ} (t : List (Bor (List ℕ) × ℕ)) {o : Option ℕ} {k n : ℕ} {r : Lexed} → WalksTokens (extent in_name (drop at s)) s at end → at < length s → n ≡ length (take (end - at) (drop at s)) → spelled_of t ≡ of_length n keywords → Finds (map fold (take (end - at) (drop at s))) (spelled_of t) o → k ≡ unwrap_or o 1 → r ≡ lexed_of (lexeme_of k n 0) at → r ≡ lexed_of (word_here (drop at s)) at
 unfolding word
-word_read s at {end} {k} {g} e l h q p =
-    let n : end - at ≡ extent in_name (drop at s) = omega (arith, e.is) in
-    let w = bytes_of s at (end - at) in
-    let kind_is : k ≡ find_kind w keywords 1 = q ∙ rw h.is (sym (by_length w (end - at) keywords 1 (size_a s at (end - at) 0 0 (omega (arith, e.within)) (omega arith)))) in
-    p ∙ rw (kind_is, n)
+word_read s at {end} t {o} {k} {n} e l m g f q p =
+    let size : n ≡ end - at = m ∙ length-take (end - at) (drop at s) ∙ simp length-drop (omega (arith, e.within)) in
+    let here : n ≡ extent in_name (drop at s) = omega (arith, e.is, size) in
+    let w = map fold (take (end - at) (drop at s)) in
+    let found : unwrap_or o 1 ≡ find_kind w (of_length n keywords) 1 = f.is 1 ∙ rw g in
+    let kind_is : k ≡ find_kind w keywords 1 = q ∙ found ∙ sym (by_length w n keywords 1 (length-map (take (end - at) (drop at s)) fold ∙ sym m)) in
+    p ∙ rw (kind_is, ← size, here)
 
 -- ---- a literal
 
-module _ (s : List ℕ) (at : ℕ) {end k : ℕ} (e : WalksTokens (extent in_literal (drop at s)) s at end) (q : k ≡ head_kind (drop end s)) where
-  size : end - at ≡ extent in_literal (drop at s)
-  size = omega (arith, e.is)
+module _ (s : List ℕ) (at : ℕ) {end : ℕ} (e : WalksTokens (extent in_literal (drop at s)) s at end) {k : ByteKind} (q : kind_number k ≡ head_kind (drop end s)) where
+  size : k ≡ k → end - at ≡ extent in_literal (drop at s)
+  size z = omega (arith, e.is)
 
-  behind : (n : ℕ) → n < 8 → starts n (drop (extent in_literal (drop at s)) (drop at s)) ≡ eqb k n
-  behind n h = ap (starts n) (drop-drop (extent in_literal (drop at s)) at s ∙ ap (λ (x : ℕ). drop x s) (sym e.is)) ∙ starts_as (drop end s) q n h
+  behind : k ≡ k → (n : ℕ) → n < 8 → starts n (drop (extent in_literal (drop at s)) (drop at s)) ≡ eqb (kind_number k) n
+  behind z n h = ap (starts n) (drop-drop (extent in_literal (drop at s)) at s ∙ ap (λ (x : ℕ). drop x s) (sym e.is)) ∙ starts_as (drop end s) q n h
 
-  pub digits_letter : {r : Lexed} → k ≡ 3 → r ≡ lexed_of unreadable at → r ≡ lexed_of (digits_here (drop at s)) at
+  pub digits_letter : {r : Lexed} → k ≡ Letter → r ≡ lexed_of unreadable at → r ≡ lexed_of (digits_here (drop at s)) at
   unfolding digits
-  digits_letter d p = p ∙ simp (behind 3 (omega arith), d)
+  digits_letter d p = p ∙ simp (behind refl 3 (omega arith), d)
 
-  pub digits_underscore : {r : Lexed} → (k ≡ 3 → ⊥) → k ≡ 5 → r ≡ lexed_of unreadable at → r ≡ lexed_of (digits_here (drop at s)) at
+  pub digits_underscore : {r : Lexed} → k ≡ Underscore → r ≡ lexed_of unreadable at → r ≡ lexed_of (digits_here (drop at s)) at
   unfolding digits
-  digits_underscore c d p = p ∙ simp (behind 3 (omega arith), behind 5 (omega arith), d)
+  digits_underscore d p = p ∙ simp (behind refl 3 (omega arith), behind refl 5 (omega arith), d)
 
-  module _ (c : k ≡ 3 → ⊥) (d : k ≡ 5 → ⊥) {v : ℕ} (w : v ≡ min too_large (decimal 0 (take (end - at) (drop at s)))) where
+  module _ (c : k ≡ Letter → ⊥) (d : k ≡ Underscore → ⊥) {v : ℕ} (w : v ≡ min too_large (decimal 0 (take (end - at) (drop at s)))) where
     value : v ≡ min too_large (decimal 0 (take (extent in_literal (drop at s)) (drop at s)))
-    value = w ∙ rw size
+    value = w ∙ rw (size refl)
 
     pub digits_large : {r : Lexed} → too_large ≤ v → r ≡ lexed_of (lexeme_of 0 (end - at) 4) at → r ≡ lexed_of (digits_here (drop at s)) at
     unfolding digits
     digits_large h p =
         let l : 2147483647 < decimal 0 (take (extent in_literal (drop at s)) (drop at s)) = omega (arith, value) in
-        p ∙ simp (behind 3 (omega arith), behind 5 (omega arith), ne_eqb k 3 c, ne_eqb k 5 d, lt-ltb _ _ l, size)
+        p ∙ simp (behind refl 3 (omega arith), behind refl 5 (omega arith), apart_eqb k Letter c, apart_eqb k Underscore d, lt-ltb _ _ l, size refl)
 
     pub digits_value : {r : Lexed} → v < too_large → r ≡ lexed_of (lexeme_of 2 (end - at) v) at → r ≡ lexed_of (digits_here (drop at s)) at
     unfolding digits
     digits_value h p =
         let l : decimal 0 (take (extent in_literal (drop at s)) (drop at s)) ≡ v = omega (arith, value) in
-        p ∙ simp (behind 3 (omega arith), behind 5 (omega arith), ne_eqb k 3 c, ne_eqb k 5 d, l, le-ltb 2147483647 v (omega arith), size)
+        p ∙ simp (behind refl 3 (omega arith), behind refl 5 (omega arith), apart_eqb k Letter c, apart_eqb k Underscore d, l, le-ltb 2147483647 v (omega arith), size refl)
 
 pub ruleset Digits = (digits_letter, digits_underscore, digits_large, digits_value)
 
 -- ---- a token of signs
 
-pub pair_read : (s : List ℕ) (at : ℕ) {k : ℕ} → k ≡ find_kind (bytes_of s at 2) (slice 17 25 spellings) 0 → k ≡ find_kind (take 2 (drop at s)) two_byte_tokens 0
-pair_read s at e = e ∙ signs_fold (take 2 (drop at s)) two_byte_tokens 0 tt
+pub pair_read : (s : List ℕ) (at : ℕ) (t : List (Bor (List ℕ) × ℕ)) {o : Option ℕ} → spelled_of t ≡ two_byte_tokens → Finds (map fold (take 2 (drop at s))) (spelled_of t) o → Finds (take 2 (drop at s)) two_byte_tokens o
+pair_read s at t g f = record { is = λ other. f.is other ∙ rw g (signs_fold (take 2 (drop at s)) two_byte_tokens other tt) }
 
-pub pair_none : (s : List ℕ) (at : ℕ) → at < length s → length s ≤ at + 1 → 0 ≡ find_kind (take 2 (drop at s)) two_byte_tokens 0
-pair_none s at h l = sym (rw (drop_here s at h, drop_of_length-le s l) (too_short (get_or s at 0 ∷ []) two_byte_tokens 0 tt))
-
-pub ruleset Pairs = (pair_read, pair_none)
+pub pair_none : (s : List ℕ) (at : ℕ) → at < length s → length s ≤ at + 1 → Finds (take 2 (drop at s)) two_byte_tokens None
+pair_none s at h l = record { is = λ other. sym (rw (drop_here s at h, drop_of_length-le s l) (too_short (get_or s at 0 ∷ []) two_byte_tokens other tt)) }
 
 first : (s : List ℕ) (at : ℕ) → get_or (drop at s) 0 0 ≡ get_or s at 0
 first s at = get_or-drop at s 0 0 ∙ rw (add-zero at)
 
-module _ (s : List ℕ) (at : ℕ) {two : ℕ} (e : two ≡ find_kind (take 2 (drop at s)) two_byte_tokens 0) {r : Lexed} where
-  pub sign_two : (two ≡ 0 → ⊥) → r ≡ lexed_of (lexeme_of two 2 0) at → r ≡ lexed_of (punctuation (drop at s)) at
-  unfolding punctuation
-  sign_two d p = p ∙ simp (← e, ne_eqb two 0 d)
+-- no two-byte token has kind 0
+some_pair : (w : List ℕ) {two : ℕ} → Finds w two_byte_tokens (Some two) → two ≡ 0 → ⊥
+some_pair w e z = let p = some_kind w two_byte_tokens 1 tt (omega arith) in let q : unwrap_or (Some 0) 1 ≡ find_kind w two_byte_tokens 1 = rw (← z) (e.is 1) in omega (arith, p, q)
 
-  module _ (z : two ≡ 0) where
+module _ (s : List ℕ) (at : ℕ) {r : Lexed} where
+  pub sign_two : {two : ℕ} → Finds (take 2 (drop at s)) two_byte_tokens (Some two) → r ≡ lexed_of (lexeme_of two 2 0) at → r ≡ lexed_of (punctuation (drop at s)) at
+  unfolding punctuation
+  sign_two {two} e p = p ∙ simp (← e.is 0, ne_eqb two 0 (some_pair (take 2 (drop at s)) e))
+
+  module _ (e : Finds (take 2 (drop at s)) two_byte_tokens None) where
     pub sign_quote : get_or s at 0 ≡ 34 → r ≡ lexed_of (lexeme_of 18 1 0) at → r ≡ lexed_of (punctuation (drop at s)) at
     unfolding punctuation
-    sign_quote q p = p ∙ simp (← e, z, first s at, q)
+    sign_quote q p = p ∙ simp (← e.is 0, first s at, q)
 
     pub sign_one : (get_or s at 0 ≡ 34 → ⊥) → r ≡ lexed_of (lexeme_of (get_or s at 0) 1 0) at → r ≡ lexed_of (punctuation (drop at s)) at
     unfolding punctuation
-    sign_one d p = p ∙ simp (← e, z, first s at, ne_eqb (get_or s at 0) 34 d)
+    sign_one d p = p ∙ simp (← e.is 0, first s at, ne_eqb (get_or s at 0) 34 d)
 
 pub ruleset Signs = (sign_two, sign_quote, sign_one)
 
@@ -155,22 +170,24 @@ read s at h p =
       told = rw p z.2;
     }
 
-module _ (s : List ℕ) (at : ℕ) {k : ℕ} (e : k ≡ head_kind (drop at s)) where
-  pub reads_word : at < length s → {r : Lexed} → k ≡ 3 → r ≡ lexed_of (word_here (drop at s)) at → ReadsToken s at r
+module _ (s : List ℕ) (at : ℕ) (h : at < length s) {k : ByteKind} (e : kind_number k ≡ head_kind (drop at s)) where
+  head : k ≡ k → (n : ℕ) → n < 8 → starts n (drop at s) ≡ eqb (kind_number k) n
+  head z = starts_as (drop at s) e
+
+  pub reads_word : k ≡ Letter → {r : Lexed} → r ≡ lexed_of (word_here (drop at s)) at → ReadsToken s at r
   unfolding read_token
-  reads_word h a p = read s at h (p ∙ simp (starts_as (drop at s) e 3 (omega arith), a))
+  reads_word a p = read s at h (p ∙ simp (head refl 3 (omega arith), a))
 
-  pub reads_digits : at < length s → {r : Lexed} → (k ≡ 3 → ⊥) → k ≡ 4 → r ≡ lexed_of (digits_here (drop at s)) at → ReadsToken s at r
+  pub reads_digits : k ≡ Digit → {r : Lexed} → r ≡ lexed_of (digits_here (drop at s)) at → ReadsToken s at r
   unfolding read_token
-  reads_digits h a b p = read s at h (p ∙ simp (starts_as (drop at s) e 3 (omega arith), starts_as (drop at s) e 4 (omega arith), b))
+  reads_digits b p = read s at h (p ∙ simp (head refl 3 (omega arith), head refl 4 (omega arith), b))
 
-  module _ (a : k ≡ 3 → ⊥) (b : k ≡ 4 → ⊥) where
-    pub reads_sign : at < length s → {r : Lexed} → k ≡ 7 → r ≡ lexed_of (punctuation (drop at s)) at → ReadsToken s at r
-    unfolding read_token
-    reads_sign h c p = read s at h (p ∙ simp (starts_as (drop at s) e 3 (omega arith), starts_as (drop at s) e 4 (omega arith), starts_as (drop at s) e 7 (omega arith), c))
+  pub reads_sign : k ≡ Sign → {r : Lexed} → r ≡ lexed_of (punctuation (drop at s)) at → ReadsToken s at r
+  unfolding read_token
+  reads_sign c p = read s at h (p ∙ simp (head refl 3 (omega arith), head refl 4 (omega arith), head refl 7 (omega arith), c))
 
-    pub reads_none : at < length s → {r : Lexed} → (k ≡ 7 → ⊥) → r ≡ lexed_of unreadable at → ReadsToken s at r
-    unfolding read_token
-    reads_none h c p = read s at h (p ∙ simp (starts_as (drop at s) e 3 (omega arith), starts_as (drop at s) e 4 (omega arith), starts_as (drop at s) e 7 (omega arith), ne_eqb k 3 a, ne_eqb k 4 b, ne_eqb k 7 c))
+  pub reads_none : (k ≡ Letter → ⊥) → (k ≡ Digit → ⊥) → (k ≡ Sign → ⊥) → {r : Lexed} → r ≡ lexed_of unreadable at → ReadsToken s at r
+  unfolding read_token
+  reads_none a b c p = read s at h (p ∙ simp (head refl 3 (omega arith), head refl 4 (omega arith), head refl 7 (omega arith), apart_eqb k Letter a, apart_eqb k Digit b, apart_eqb k Sign c))
 
 pub ruleset Tokens = (reads_word, reads_digits, reads_sign, reads_none)

@@ -1,5 +1,5 @@
 -- Laws that belong to no one function.
-pub mod Table
+pub mod Numbers
 pub mod Heads
 pub mod Extents
 pub mod Literals

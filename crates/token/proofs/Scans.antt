@@ -5,10 +5,11 @@ use mathlib.Core.List.{List, [], ◌∷◌, ◌++◌, append_assoc, append-nil}
 use Prim.Native.Nat.{ℕ, suc, ◌+◌, ◌-◌, ◌*◌, ◌≤◌, ◌<◌}
 use native.Mathlib.Nat.{not-suc-le-zero}
 use native.Mathlib.Omega.{arith}
-use lib.ListN.{length, take, drop, set, replicate, length-set, length-append, length-take, length-drop, drop_of_length-le}
+use lib.ListN.{length, take, drop, set, replicate, length-append, length-take, length-drop, drop_of_length-le}
 use lib.Seq.{sets-eq, take_at, drop-drop}
-use borrow.Author.Fill.{fill_more}
 use borrow.Author.Tests.{eq-eqb, ne_eqb, le-leb, lt-leb}
+use Rattle.std.specs.Prelude.{Option, Some, None, unwrap_or}
+use Rattle.std.proofs.lemmas.Option.{none-some, same_Some}
 use Rattle.token.specs.Lexeme.{Lexeme, read_token}
 use Rattle.token.specs.Scanning.{Scanned, blanks, stop_number, stopped, token_from, scan_from, scan, token_words, scanned_words, scan_of}
 use Rattle.token.specs.declared.Token.{Token}
@@ -19,22 +20,22 @@ use Rattle.token.specs.Promises.Promises.{WalksTokens, ReadsToken, Stops, Fills,
 -- ---- the number of the stop
 
 module _ (count : ℕ) (t : Token) (h : 1 ≤ t.kind + t.value) where
-  pub stop_itself : t.kind ≡ 0 → Stops count t t.value
+  pub stop_itself : t.kind ≡ 0 → Stops count t (Some t.value)
   unfolding stop_number
-  stop_itself e = record { is = simp (eq-eqb t.kind 0 e); few = omega arith }
+  stop_itself e = record { is = simp (eq-eqb t.kind 0 e); some = λ z. omega (arith, e, h, same_Some _ _ z); few = λ z. absurd (none-some _ (sym z)) }
 
   module _ (d : t.kind ≡ 0 → ⊥) where
-    pub stop_many : 4096 ≤ count → Stops count t 5
+    pub stop_many : 4096 ≤ count → Stops count t (Some 5)
     unfolding stop_number
-    stop_many l = record { is = simp (ne_eqb t.kind 0 d, le-leb 4096 count l); few = omega arith }
+    stop_many l = record { is = simp (ne_eqb t.kind 0 d, le-leb 4096 count l); some = λ z. omega (arith, same_Some _ _ z); few = λ z. absurd (none-some _ (sym z)) }
 
-    pub stop_refused : count < 4096 → t.kind ≡ 18 → Stops count t 6
+    pub stop_refused : count < 4096 → t.kind ≡ 18 → Stops count t (Some 6)
     unfolding stop_number
-    stop_refused l e = record { is = simp (ne_eqb t.kind 0 d, lt-leb 4096 count l, eq-eqb t.kind 18 e); few = omega arith }
+    stop_refused l e = record { is = simp (ne_eqb t.kind 0 d, lt-leb 4096 count l, eq-eqb t.kind 18 e); some = λ z. omega (arith, same_Some _ _ z); few = λ z. absurd (none-some _ (sym z)) }
 
-    pub stop_not : count < 4096 → (t.kind ≡ 18 → ⊥) → Stops count t 0
+    pub stop_not : count < 4096 → (t.kind ≡ 18 → ⊥) → Stops count t None
     unfolding stop_number
-    stop_not l e = record { is = simp (ne_eqb t.kind 0 d, lt-leb 4096 count l, ne_eqb t.kind 18 e); few = omega arith }
+    stop_not l e = record { is = simp (ne_eqb t.kind 0 d, lt-leb 4096 count l, ne_eqb t.kind 18 e); some = λ z. absurd (none-some _ z); few = λ z. l }
 
 pub ruleset Stopping = (stop_itself, stop_many, stop_refused, stop_not)
 
@@ -61,27 +62,6 @@ store ws n a b c d h =
 -- after them, the beginning of the table is four words longer
 front : (ws vs : List ℕ) (n k : ℕ) → n ≤ length ws → length vs ≡ k → take (n + k) (take n ws ++ vs ++ drop (n + k) ws) ≡ take n ws ++ vs
 front ws vs n k h e = take_at (take n ws ++ vs) (drop (n + k) ws) (n + k) (simp (length-append, length-take) (omega arith))
-
--- ---- zeros
-
--- the first i words are 0, the others as they were
-pub record Cleared (old ws : List ℕ) (i : ℕ) : Type 0 where
-  pub is : ws ≡ replicate i 0 ++ drop i old
-  pub long : length ws ≡ length old
-
-pub clear_start : (old : List ℕ) → Cleared old old 0
-clear_start old = record { is = refl; long = refl }
-
-pub clear_more : (old : List ℕ) {ws : List ℕ} {i : ℕ} → Cleared old ws i → i < length ws → Cleared old (set ws i 0) (i + 1)
-clear_more old {ws} {i} w h =
-    record { is = ap (λ (l : List ℕ). set l i 0) w.is ∙ fill_more i 0 old (omega (arith, w.long)); long = length-set ws i 0 ∙ w.long }
-
-pub clear_all : (old : List ℕ) {ws : List ℕ} {i : ℕ} → Cleared old ws i → i ≤ length old → length ws ≤ i → ws ≡ replicate (length old) 0
-clear_all old {ws} {i} w l h =
-    let e : i ≡ length old = omega (arith, w.long) in
-    w.is ∙ rw (drop_of_length-le old {i = i} (omega arith)) (append-nil (replicate i 0) ∙ ap (λ (n : ℕ). replicate n 0) e)
-
-pub ruleset Clears = (clear_start, clear_more, clear_all)
 
 -- ---- one turn of the scan
 
@@ -159,24 +139,29 @@ module _ (source ws : List ℕ) {place count : ℕ} (g : Going source ws place c
   pub go_end : length source ≤ at → Fills source (record { count = count; number = 7; place = at; kind = 0 }) ws
   go_end h = stops g (scan_end g.turns place count (drop place source) (rest ∙ drop_of_length-le source h) ∙ rw (← w.is)) inside
 
-  module _ (h : at < length source) {r : Lexed} (p : ReadsToken source at r) {n : ℕ} (q : Stops count r.token n) where
+  module _ (h : at < length source) {r : Lexed} (p : ReadsToken source at r) {o : Option ℕ} (q : Stops count r.token o) where
     some : 0 < length (drop at source)
     some = simp length-drop (omega arith)
 
-    number : n ≡ stop_number count (read_token (drop at source))
+    number : unwrap_or o 0 ≡ stop_number count (read_token (drop at source))
     number = q.is ∙ rw p.is
 
     kind : r.token.kind ≡ (read_token (drop at source)).kind
     kind = rw p.is
 
-    pub go_stop : (n ≡ 0 → ⊥) → Fills source (record { count = count; number = n; place = at; kind = r.token.kind }) ws
-    go_stop d = stops g (scan_stop g.turns place count (drop place source) (drop at source) rest some (λ e. d (number ∙ e)) ∙ rw (← number, ← w.is, ← kind)) inside
+    pub go_stop : {n : ℕ} → o ≡ Some n → Fills source (record { count = count; number = n; place = at; kind = r.token.kind }) ws
+    go_stop {n} u =
+        let m : n ≡ stop_number count (read_token (drop at source)) = ap (λ (x : Option ℕ). unwrap_or x 0) (sym u) ∙ number in
+        let d : n ≡ 0 → ⊥ = λ z. q.some (u ∙ ap Some z) in
+        stops g (scan_stop g.turns place count (drop place source) (drop at source) rest some (λ e. d (m ∙ e)) ∙ rw (← m, ← w.is, ← kind)) inside
 
-    pub go_on : n ≡ 0 → {ws' : List ℕ} → ws' ≡ take (4 * count) ws ++ token_words (r.token ∷ []) ++ drop (4 * count + 4) ws → Going source ws' r.next.at (count + 1)
+    pub go_on : o ≡ None → {ws' : List ℕ} → ws' ≡ take (4 * count) ws ++ token_words (r.token ∷ []) ++ drop (4 * count + 4) ws → Going source ws' r.next.at (count + 1)
     unfolding token_words
-    go_on z {ws'} e =
+    go_on u {ws'} e =
+        let z : stop_number count (read_token (drop at source)) ≡ 0 = sym number ∙ rw u in
+        let few = q.few u in
         let read : Lexeme = read_token (drop at source) in
-        let turn = scan_on g.turns place count (drop place source) (drop at source) rest some (sym number ∙ z) in
+        let turn = scan_on g.turns place count (drop place source) (drop at source) rest some z in
         let token : token_from read (place + blanks false (drop place source)) ≡ r.token = rw (← w.is, p.is) in
         let more : g.turns ≡ suc (g.turns - 1) = omega (arith, g.enough, p.onward, p.within, w.is) in
         let len : r.token.len ≡ read.len = rw p.is in
@@ -192,8 +177,8 @@ module _ (source ws : List ℕ) {place count : ℕ} (g : Going source ws place c
           enough = omega (arith, g.enough, p.onward, p.within, w.is);
           within = p.within;
           many = length-append g.tokens (r.token ∷ []) ∙ omega (arith, g.many);
-          few = omega (arith, q.few, g.few);
-          long = ap length e ∙ simp (length-append, length-take, length-drop) (omega (arith, g.long, g.few, q.few));
+          few = omega (arith, few, g.few);
+          long = ap length e ∙ simp (length-append, length-take, length-drop) (omega (arith, g.long, g.few, few));
           written =
               rw (size, e) (front ws (token_words (r.token ∷ [])) (4 * count) 4 (omega (arith, g.long, g.few)) refl
               ∙ ap (λ (l : List ℕ). l ++ token_words (r.token ∷ [])) g.written ∙ sym (words_more g.tokens r.token));

@@ -1,37 +1,43 @@
 -- Fixed spellings: comparing a part of the source with one, letter case aside, and finding one.
-use mathlib.Core.Path.{◌≡◌, refl, sym, ap, ◌∙◌}
+use mathlib.Core.Path.{◌≡◌, refl, sym, ap, subst, ◌∙◌}
 use mathlib.Core.Bool.{Bool, true, false, ◌&&◌}
 use mathlib.Core.List.{List, [], ◌∷◌, map}
-use Prim.Native.Nat.{ℕ, suc, ◌+◌, ◌*◌, ◌≤◌, ◌<◌}
+use mathlib.Core.Logic.{◌⊎◌, inl, inr}
+use Prim.Native.Nat.{ℕ, zero, suc, ◌+◌, ◌≤◌, ◌<◌}
 use native.Mathlib.Omega.{arith}
 use native.Mathlib.Numerals.{add-one}
-use lib.Dec.{T, eqb, leb, ltb, eqb→eq, leb→le, ltb→lt}
-use lib.ListN.{length, take, drop, get_or, length-take, length-drop, length-map, drop_of_length-le, get_or-map}
-use lib.Seq.{slice, slice-cons, get_or-take, get_or-drop}
+use lib.Dec.{T, eqb, ltb, eqb→eq, ltb→lt}
+use lib.ListN.{length, take, drop, get_or, drop_of_length-le}
+use lib.Seq.{drop-cons}
 use borrow.Author.Tests.{eq-eqb, ne_eqb, eqb-false, le-leb, lt-leb, ltb-true, ltb-false}
-use Rattle.std.specs.Prelude.{if◌then◌else◌}
+use Rattle.std.specs.Prelude.{if◌then◌else◌, Some, None}
+use Rattle.std.specs.Borrow.{Bor}
+use Rattle.std.specs.Char.{to_ascii_lowercase}
+use Rattle.std.specs.declared.ops.Range.{Range}
+use Rattle.std.proofs.lemmas.Bool.{cases_lt}
+use Rattle.std.proofs.lemmas.Str.Ascii.{lowercase_is}
 use Rattle.token.specs.Bytes.{between, fold, same}
 use Rattle.token.specs.Lexeme.{Spelled, find_kind}
-use Rattle.token.specs.declared.spelling.Fixed.{Fixed}
-use Rattle.token.specs.declared.spelling.Group.{Group}
-use Rattle.token.specs.Promises.Promises.{of_length, spellings, spelling, all_rows, Fixes, Groups}
-use Rattle.token.proofs.Table.{both, below}
-use Rattle.token.proofs.Heads.{drop_here}
+use Rattle.token.specs.Promises.Promises.{of_length, spelled_of, in_lower, Finds, Groups}
 
--- ---- a letter's lower case
+-- ---- a letter's lower case: std's is the definition's
 
-module _ (b : ℕ) where
-  pub fold_below : b < 65 → b ≡ fold b
-  unfolding fold
-  fold_below h = simp (lt-leb 65 b h)
+pub folds : (b : ℕ) → to_ascii_lowercase b ≡ fold b
+unfolding fold
+folds b = go (cases_lt b 65) (cases_lt 90 b)
+  where
+    go : (b < 65) ⊎ (65 ≤ b) → (90 < b) ⊎ (b ≤ 90) → to_ascii_lowercase b ≡ fold b
+    go (inl p) q = (lowercase_is b).1 p ∙ sym (rw (lt-leb 65 b p))
+    go (inr p) (inl q) = (lowercase_is b).2 q ∙ sym (rw (le-leb 65 b p, lt-leb b 90 q))
+    go (inr p) (inr q) = (lowercase_is b).0 (p, q) ∙ sym (rw (le-leb 65 b p, le-leb b 90 q))
 
-  pub fold_above : 65 ≤ b → 90 < b → b ≡ fold b
-  unfolding fold
-  fold_above l h = simp (le-leb 65 b l, lt-leb b 90 h)
+pub folds_all : (s : List ℕ) → map to_ascii_lowercase s ≡ map fold s
+folds_all [] = refl
+folds_all (b ∷ s) = rw (folds b, folds_all s)
 
-  pub fold_upper : 65 ≤ b → b ≤ 90 → b + 32 ≡ fold b
-  unfolding fold
-  fold_upper l h = simp (le-leb 65 b l, le-leb b 90 h)
+fold_below : (b : ℕ) → b < 65 → fold b ≡ b
+unfolding fold
+fold_below b h = rw (lt-leb 65 b h)
 
 fold_grows : (b : ℕ) → b ≤ fold b
 unfolding fold
@@ -41,9 +47,12 @@ fold_grows b = go (between 65 90 b)
     go true = omega arith
     go false = omega arith
 
-pub ruleset Folds = (fold_below, fold_above, fold_upper)
-
 -- ---- two lists of letters, from the front
+
+-- both parts of a test hold
+both : (a b : Bool) → T (a && b) → T a × T b
+both true b t = (tt, t)
+both false b t = absurd t
 
 -- lists that pass the test are equal
 pub alike : (a b : List ℕ) → T (same a b) → a ≡ b
@@ -66,83 +75,10 @@ unlike (x ∷ a) (y ∷ b) h = go (eqb x y) (unlike a b (λ e. h (ap suc e)))
     go true e = e
     go false e = refl
 
-turn : (a b : List ℕ) (k : ℕ) → k < length a → k < length b → same (drop k a) (drop k b) ≡ (eqb (get_or a k 0) (get_or b k 0) && same (drop (k + 1) a) (drop (k + 1) b))
+same_itself : (a : List ℕ) → same a a ≡ true
 unfolding same
-turn a b k h l = rw (drop_here a k h, drop_here b k l)
-
--- ---- n bytes of the source, and m bytes of the rows
-
-abbrev pub bytes_of : List ℕ → ℕ → ℕ → List ℕ
-bytes_of s at n = map fold (take n (drop at s))
-
-abbrev pub letters_at : ℕ → ℕ → List ℕ
-letters_at start m = take m (drop start all_rows)
-
-rows_long : length all_rows ≡ 300
-unfolding all_rows
-rows_long = refl
-
--- after k letters the rest is to be compared
-pub record Comparing (s : List ℕ) (at n start m k : ℕ) : Type 0 where
-  pub left : same (bytes_of s at n) (letters_at start m) ≡ same (drop k (bytes_of s at n)) (drop k (letters_at start m))
-
-pub compare_start : (s : List ℕ) (at n start m : ℕ) → Comparing s at n start m 0
-compare_start s at n start m = record { left = refl }
-
-module _ (s : List ℕ) (at n start m : ℕ) (h : at + n ≤ length s) (l : start + m ≤ 300) where
-  pub size_a : length (bytes_of s at n) ≡ n
-  size_a = length-map (take n (drop at s)) fold ∙ length-take n (drop at s) ∙ simp length-drop (omega arith)
-
-  size_b : length (letters_at start m) ≡ m
-  size_b = length-take m (drop start all_rows) ∙ simp (length-drop, rows_long) (omega arith)
-
-  pub compare_unlike : (n ≡ m → ⊥) → false ≡ same (bytes_of s at n) (letters_at start m)
-  compare_unlike d = sym (unlike (bytes_of s at n) (letters_at start m) (λ e. d (sym size_a ∙ e ∙ size_b)))
-
-  module _ (e : n ≡ m) {k : ℕ} (w : Comparing s at n start m k) where
-    pub compare_all : n ≤ k → true ≡ same (bytes_of s at n) (letters_at start m)
-    unfolding same
-    compare_all q = sym (w.left ∙ rw (drop_of_length-le (bytes_of s at n) {i = k} (omega (arith, size_a)), drop_of_length-le (letters_at start m) {i = k} (omega (arith, size_b))))
-
-    module _ (q : k < n) {x y : ℕ} (p : x ≡ fold (get_or s (at + k) 0)) (r : y ≡ get_or all_rows (start + k) 0) where
-      left_is : get_or (bytes_of s at n) k 0 ≡ x
-      unfolding fold
-      left_is = get_or-map fold (take n (drop at s)) k 0 ∙ ap fold (get_or-take n (drop at s) k 0 q ∙ get_or-drop at s k 0) ∙ sym p
-
-      right_is : get_or (letters_at start m) k 0 ≡ y
-      right_is = get_or-take m (drop start all_rows) k 0 (omega arith) ∙ get_or-drop start all_rows k 0 ∙ sym r
-
-      here : same (bytes_of s at n) (letters_at start m) ≡ (eqb x y && same (drop (k + 1) (bytes_of s at n)) (drop (k + 1) (letters_at start m)))
-      here = w.left ∙ turn (bytes_of s at n) (letters_at start m) k (omega (arith, size_a)) (omega (arith, size_b)) ∙ rw (left_is, right_is)
-
-      pub compare_more : x ≡ y → Comparing s at n start m (k + 1)
-      compare_more u = record { left = here ∙ simp (eq-eqb x y u) }
-
-      pub compare_not : (x ≡ y → ⊥) → false ≡ same (bytes_of s at n) (letters_at start m)
-      compare_not u = sym (here ∙ simp (ne_eqb x y u))
-
-pub ruleset Compares = (compare_start, compare_unlike, compare_all, compare_more, compare_not)
-
--- ---- the rows agree with the spellings: one test over the 25 of them
-
-lettered : ℕ → Bool
-lettered i = same (letters_at (12 * i + 2) (get_or all_rows (12 * i) 0)) (spelling i).letters
-
-kinded : ℕ → Bool
-kinded i = eqb (get_or all_rows (12 * i + 1) 0) (spelling i).kind
-
-within : ℕ → Bool
-within i = leb (12 * i + 2 + get_or all_rows (12 * i) 0) 300
-
-right : ℕ → Bool
-right i = lettered i && (kinded i && within i)
-
-pub fixes : (i : ℕ) → i < 25 → {n k : ℕ} → n ≡ get_or all_rows (12 * i) 0 → k ≡ get_or all_rows (12 * i + 1) 0 → Fixes i (record { start = 12 * i + 2; len = n; kind = k })
-unfolding right lettered kinded within same all_rows
-fixes i h p q =
-    let t = both (lettered i) (kinded i && within i) (below right 25 tt i h) in
-    let u = both (kinded i) (within i) t.1 in
-    rw (p, q) record { letters = alike _ _ t.0; kind = eqb→eq _ _ u.0; fits = leb→le _ _ u.1 }
+same_itself [] = refl
+same_itself (x ∷ a) = rw (eq-eqb x x refl, same_itself a)
 
 -- ---- the search
 
@@ -182,47 +118,95 @@ by_length w n (x ∷ xs) other e = by (eqb (length x.letters) n) refl (same w x.
     by true q false p r = missed w x xs other p ∙ r ∙ sym (missed w x (of_length n xs) other p)
     by false q c p r = missed w x xs other (unlike w x.letters (λ d. eqb-false (length x.letters) n q (sym d ∙ e))) ∙ r
 
+-- ---- the tables of the code
+
 -- the groups, each as it computes
-pub group : (k : ℕ) {n : ℕ} → n ≡ k → {g : Group} → Groups k g → Groups n g
+pub group : (k : ℕ) {n : ℕ} → n ≡ k → {r : Range ℕ} → Groups k r → Groups n r
 group k e h = rw e h
 
 -- no keyword and no predefined name has another length
-pub no_group : (n : ℕ) → (n ≡ 2 → ⊥) → (n ≡ 3 → ⊥) → (n ≡ 4 → ⊥) → (n ≡ 5 → ⊥) → (n ≡ 6 → ⊥) → (n ≡ 9 → ⊥) → (n ≡ 10 → ⊥) → Groups n (record { from = 0; to = 0 })
+pub no_group : (n : ℕ) → (n ≡ 2 → ⊥) → (n ≡ 3 → ⊥) → (n ≡ 4 → ⊥) → (n ≡ 5 → ⊥) → (n ≡ 6 → ⊥) → (n ≡ 9 → ⊥) → (n ≡ 10 → ⊥) → Groups n (record { start = 0; end = 0 })
 no_group n n₂ n₃ n₄ n₅ n₆ n₉ n₁₀ =
     record {
       is = simp (ne_eqb 2 n (λ e. n₂ (sym e)), ne_eqb 3 n (λ e. n₃ (sym e)), ne_eqb 4 n (λ e. n₄ (sym e)), ne_eqb 5 n (λ e. n₅ (sym e)), ne_eqb 6 n (λ e. n₆ (sym e)), ne_eqb 9 n (λ e. n₉ (sym e)), ne_eqb 10 n (λ e. n₁₀ (sym e)));
       few = omega arith;
+      order = omega arith;
     }
 
+-- a part of the table is that part of the spellings
+pub spelled_part : (i n : ℕ) (t : List (Bor (List ℕ) × ℕ)) → spelled_of (take n (drop i t)) ≡ take n (drop i (spelled_of t))
+spelled_part zero zero t = refl
+spelled_part zero (suc n) [] = refl
+spelled_part zero (suc n) (f ∷ t) = rw (spelled_part zero n t)
+spelled_part (suc i) zero t = refl
+spelled_part (suc i) (suc n) [] = refl
+spelled_part (suc i) (suc n) (f ∷ t) = spelled_part i (suc n) t
+
+-- those of n letters are in lower case where all are
+pub lower_of_length : (n : ℕ) (t : List Spelled) → T (in_lower t) → T (in_lower (of_length n t))
+lower_of_length n [] h = tt
+lower_of_length n (x ∷ t) h =
+    let u = both (same (map fold x.letters) x.letters) (in_lower t) h in
+    go (eqb (length x.letters) n) u.0 (lower_of_length n t u.1)
+  where
+    kept : (d b : Bool) → T d → T b → T (d && b)
+    kept true b p q = q
+    kept false b p q = absurd p
+
+    go : (c : Bool) → T (same (map fold x.letters) x.letters) → T (in_lower (of_length n t)) → T (in_lower (if c then x ∷ of_length n t else of_length n t))
+    go true p q = kept _ _ p q
+    go false p q = q
+
+-- ---- a spelling and a letter of the table, letter case aside
+
+module _ (w : List ℕ) (x : List ℕ) (l : T (same (map fold x) x)) where
+  pub alike_folded : map to_ascii_lowercase w ≡ map to_ascii_lowercase x → same (map fold w) x ≡ true
+  alike_folded e =
+      let p : map fold w ≡ x = sym (folds_all w) ∙ e ∙ folds_all x ∙ alike (map fold x) x l in
+      ap (λ (y : List ℕ). same y x) p ∙ same_itself x
+
+  pub unlike_folded : (map to_ascii_lowercase w ≡ map to_ascii_lowercase x → ⊥) → same (map fold w) x ≡ false
+  unlike_folded d = go (same (map fold w) x) refl
+    where
+      go : (t : Bool) → same (map fold w) x ≡ t → t ≡ false
+      go true e = absurd (d (folds_all w ∙ alike (map fold w) x (rw e tt) ∙ sym (alike (map fold x) x l) ∙ sym (folds_all x)))
+      go false e = refl
+
+-- ---- the search of the code
+
 -- from number i on is what is left to search
-pub record Seeking (w : List ℕ) (from to other i : ℕ) : Type 0 where
-  pub left : find_kind w (slice from to spellings) other ≡ find_kind w (slice i to spellings) other
+pub record Seeking (w : List ℕ) (t : List (Bor (List ℕ) × ℕ)) (i : ℕ) : Type 0 where
+  pub left : (other : ℕ) → find_kind w (spelled_of t) other ≡ find_kind w (spelled_of (drop i t)) other
+  pub lower : T (in_lower (spelled_of (drop i t)))
 
-module _ (w : List ℕ) (from to other : ℕ) where
-  pub seek_start : Seeking w from to other from
-  seek_start = record { left = refl }
+abbrev nothing : Bor (List ℕ) × ℕ
+nothing = (record { ref_ptr = (0, 0); now = [] }, 0)
 
-  module _ {i : ℕ} (k : Seeking w from to other i) where
-    pub seek_none : to ≤ i → other ≡ find_kind w (slice from to spellings) other
-    unfolding find_kind
-    seek_none h =
-        let e : slice i to spellings ≡ [] = drop_of_length-le (take to spellings) {i = i} (omega (arith, length-take to spellings)) in
-        sym (k.left ∙ rw e)
+pub seek_start : (w : List ℕ) (t : List (Bor (List ℕ) × ℕ)) → T (in_lower (spelled_of t)) → Seeking w t 0
+seek_start w t l = record { left = λ other. refl; lower = l }
 
-    module _ (h : i < to) (l : to ≤ 25) {f : Fixed} (p : Fixes i f) {b : Bool} (q : b ≡ same w (letters_at f.start f.len)) where
-      split : find_kind w (slice from to spellings) other ≡ find_kind w (spelling i ∷ slice (i + 1) to spellings) other
-      split = k.left ∙ ap (λ (t : List Spelled). find_kind w t other) (rw add-one (slice-cons i to spellings _ h l))
+pub seek_none : {w : List ℕ} (t : List (Bor (List ℕ) × ℕ)) {i : ℕ} → Seeking w t i → length t ≤ i → Finds w (spelled_of t) None
+unfolding find_kind
+seek_none t k h = record { is = λ other. sym (k.left other ∙ rw (drop_of_length-le t h)) }
 
-      tested : same w (spelling i).letters ≡ b
-      tested = ap (same w) (sym p.letters) ∙ sym q
+module _ (s : List ℕ) (t : List (Bor (List ℕ) × ℕ)) {i : ℕ} (k : Seeking (map fold s) t i) (h : i < length t) where
+  abbrev here : Bor (List ℕ) × ℕ
+  here = get_or t i nothing
 
-      pub seek_found : b ≡ true → f.kind ≡ find_kind w (slice from to spellings) other
-      seek_found u = p.kind ∙ sym (split ∙ found w (spelling i) (slice (i + 1) to spellings) other (tested ∙ u))
+  split : drop i t ≡ here ∷ drop (i + 1) t
+  split = rw (add-one, drop-cons t i nothing h)
 
-      pub seek_next : b ≡ false → Seeking w from to other (i + 1)
-      seek_next u = record { left = split ∙ missed w (spelling i) (slice (i + 1) to spellings) other (tested ∙ u) }
+  left : (other : ℕ) → find_kind (map fold s) (spelled_of t) other ≡ find_kind (map fold s) (spelled_of (here ∷ drop (i + 1) t)) other
+  left other = k.left other ∙ ap (λ (r : List (Bor (List ℕ) × ℕ)). find_kind (map fold s) (spelled_of r) other) split
 
-pub ruleset Seeks = (seek_start, seek_none, seek_found, seek_next)
+  lower : T (same (map fold here.0.now) here.0.now) × T (in_lower (spelled_of (drop (i + 1) t)))
+  lower = both _ _ (subst (λ (r : List (Bor (List ℕ) × ℕ)). T (in_lower (spelled_of r))) split k.lower)
+
+  pub seek_found : map to_ascii_lowercase s ≡ map to_ascii_lowercase here.0.now → Finds (map fold s) (spelled_of t) (Some here.1)
+  seek_found e = record { is = λ other. sym (left other ∙ found (map fold s) _ _ other (alike_folded s here.0.now lower.0 e)) }
+
+  pub seek_next : (map to_ascii_lowercase s ≡ map to_ascii_lowercase here.0.now → ⊥) → Seeking (map fold s) t (i + 1)
+  seek_next d = record { left = λ other. left other ∙ missed (map fold s) _ _ other (unlike_folded s here.0.now lower.0 d); lower = lower.1 }
 
 -- ---- tokens of signs
 
@@ -252,7 +236,7 @@ sign_same : (b y : ℕ) → y < 65 → eqb (fold b) y ≡ eqb b y
 sign_same b y h = go (ltb b 65) refl
   where
     go : (t : Bool) → ltb b 65 ≡ t → eqb (fold b) y ≡ eqb b y
-    go true e = ap (λ (x : ℕ). eqb x y) (sym (fold_below b (ltb-true b 65 e)))
+    go true e = ap (λ (x : ℕ). eqb x y) (fold_below b (ltb-true b 65 e))
     go false e = ne_eqb (fold b) y (λ q. omega (arith, fold_grows b, ltb-false b 65 e)) ∙ sym (ne_eqb b y (λ q. omega (arith, ltb-false b 65 e)))
 
 signs_same : (w ys : List ℕ) → T (signs ys) → same (map fold w) ys ≡ same w ys

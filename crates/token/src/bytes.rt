@@ -1,65 +1,60 @@
 // Bytes sorted by kind.
 ghost use Rattle.std.specs.Prelude.{◌≡◌, drop};
 ghost use Rattle.token.specs.Bytes.{kind_of};
-ghost use Rattle.token.specs.Promises.Promises.{Sorts, head_kind};
+ghost use Rattle.token.specs.Promises.Promises.{Sorts, kind_number, head_kind};
 
-// The kinds of bytes; 0 is any other. No byte has kind END, which stands for the end of the source.
-pub const BLANK: u8 = 1;
+use ByteKind::{
+    Blank as B, Comment as C, Digit as D, Letter as A, LineEnd as L, Other as O, Sign as S,
+    Underscore as U,
+};
 
-pub const LINE_END: u8 = 2;
-
-pub const LETTER: u8 = 3;
-
-pub const DIGIT: u8 = 4;
-
-pub const UNDERSCORE: u8 = 5;
-
-pub const COMMENT: u8 = 6;
-
-pub const SIGN: u8 = 7;
-
-pub const END: u8 = 8;
-
-// The kind of each byte, sixteen in a row.
-const KINDS: [u8; 256] = *b"\
-    \x00\x00\x00\x00\x00\x00\x00\x00\x00\x01\x02\x01\x01\x02\x00\x00\
-    \x00\x00\x00\x00\x00\x00\x00\x00\x00\x00\x00\x00\x00\x00\x00\x00\
-    \x01\x07\x07\x06\x00\x07\x07\x00\x07\x07\x07\x07\x07\x07\x07\x07\
-    \x04\x04\x04\x04\x04\x04\x04\x04\x04\x04\x07\x00\x07\x07\x07\x00\
-    \x00\x03\x03\x03\x03\x03\x03\x03\x03\x03\x03\x03\x03\x03\x03\x03\
-    \x03\x03\x03\x03\x03\x03\x03\x03\x03\x03\x03\x07\x00\x07\x00\x05\
-    \x00\x03\x03\x03\x03\x03\x03\x03\x03\x03\x03\x03\x03\x03\x03\x03\
-    \x03\x03\x03\x03\x03\x03\x03\x03\x03\x03\x03\x00\x07\x00\x00\x00\
-    \x00\x00\x00\x00\x00\x00\x00\x00\x00\x00\x00\x00\x00\x00\x00\x00\
-    \x00\x00\x00\x00\x00\x00\x00\x00\x00\x00\x00\x00\x00\x00\x00\x00\
-    \x00\x00\x00\x00\x00\x00\x00\x00\x00\x00\x00\x00\x00\x00\x00\x00\
-    \x00\x00\x00\x00\x00\x00\x00\x00\x00\x00\x00\x00\x00\x00\x00\x00\
-    \x00\x00\x00\x00\x00\x00\x00\x00\x00\x00\x00\x00\x00\x00\x00\x00\
-    \x00\x00\x00\x00\x00\x00\x00\x00\x00\x00\x00\x00\x00\x00\x00\x00\
-    \x00\x00\x00\x00\x00\x00\x00\x00\x00\x00\x00\x00\x00\x00\x00\x00\
-    \x00\x00\x00\x00\x00\x00\x00\x00\x00\x00\x00\x00\x00\x00\x00\x00";
-
-// The kind of each byte, as a table to pass by reference: each use of KINDS writes all of it anew.
-pub fn kind_table() -> [u8; 256]
-    ensures { Sorts result }
-{
-    KINDS
+// The kind of a byte. No byte has kind `End`, which stands for the end of the source.
+#[derive(Clone, Copy, Debug, PartialEq, Eq)]
+pub enum ByteKind {
+    Other,
+    Blank,
+    LineEnd,
+    Letter,
+    Digit,
+    Underscore,
+    Comment,
+    Sign,
+    End,
 }
 
-fn kind_of_byte(kinds: &[u8; 256], b: u8) -> u8
-    requires { Sorts kinds.now }
-    ensures { result ≡ kind_of b }
+// The kind of each byte.
+const KINDS: [ByteKind; 256] = [
+    O, O, O, O, O, O, O, O, O, B, L, B, B, L, O, O, O, O, O, O, O, O, O, O, O, O, O, O, O, O, O, O,
+    B, S, S, C, O, S, S, O, S, S, S, S, S, S, S, S, D, D, D, D, D, D, D, D, D, D, S, O, S, S, S, O,
+    O, A, A, A, A, A, A, A, A, A, A, A, A, A, A, A, A, A, A, A, A, A, A, A, A, A, A, S, O, S, O, U,
+    O, A, A, A, A, A, A, A, A, A, A, A, A, A, A, A, A, A, A, A, A, A, A, A, A, A, A, O, S, O, O, O,
+    O, O, O, O, O, O, O, O, O, O, O, O, O, O, O, O, O, O, O, O, O, O, O, O, O, O, O, O, O, O, O, O,
+    O, O, O, O, O, O, O, O, O, O, O, O, O, O, O, O, O, O, O, O, O, O, O, O, O, O, O, O, O, O, O, O,
+    O, O, O, O, O, O, O, O, O, O, O, O, O, O, O, O, O, O, O, O, O, O, O, O, O, O, O, O, O, O, O, O,
+    O, O, O, O, O, O, O, O, O, O, O, O, O, O, O, O, O, O, O, O, O, O, O, O, O, O, O, O, O, O, O, O,
+];
+
+// The table in one place of memory: each use of a constant of this size writes all of it anew.
+static TABLE: [ByteKind; 256] = KINDS;
+
+fn table() -> &'static [ByteKind; 256]
+    ensures { Sorts result.now }
 {
-    kinds[b as usize]
+    &TABLE
 }
 
-// The kind of the byte at a position of the source, and END past its end.
-pub fn kind_at(source: &[u8], kinds: &[u8; 256], i: usize) -> u8
-    requires { Sorts kinds.now }
-    ensures { result ≡ head_kind (drop i source.now) }
+fn kind_of(b: u8) -> ByteKind
+    ensures { kind_number result ≡ kind_of b }
 {
-    if i < source.len() {
-        return kind_of_byte(kinds, source[i]);
+    table()[b as usize]
+}
+
+// The kind of the byte at a position of the source, and `End` past its end.
+pub fn kind_at(source: &[u8], i: usize) -> ByteKind
+    ensures { kind_number result ≡ head_kind (drop i source.now) }
+{
+    match source.get(i) {
+        Some(&b) => kind_of(b),
+        None => ByteKind::End,
     }
-    END
 }

@@ -4,7 +4,7 @@
 ghost use Rattle.std.specs.Prelude.{◌≡◌, ◌≤◌, ◌<◌, length, drop, false};
 ghost use Rattle.value.specs.Limits.{most_bytes, table_words};
 ghost use Rattle.token.specs.Scanning.{blanks};
-ghost use Rattle.token.specs.Promises.Promises.{Sorts, all_rows, WalksTokens, ReadsToken, Scans};
+ghost use Rattle.token.specs.Promises.Promises.{WalksTokens, ReadsToken, Scans};
 
 pub mod bytes;
 pub mod kind;
@@ -13,8 +13,10 @@ pub mod runs;
 pub mod scanning;
 mod spelling;
 
+use bytes::ByteKind;
+
 // A token: its kind, the place of its first byte, its length in bytes, and a literal's value (else 0).
-#[derive(Clone, Copy)]
+#[derive(Clone, Copy, Debug, PartialEq, Eq)]
 pub struct Token {
     pub kind: u32,
     pub start: u32,
@@ -23,7 +25,7 @@ pub struct Token {
 }
 
 // What scanning a source finds: how many tokens, the number and the place of the stop after them, and the kind of the token there.
-#[derive(Clone, Copy)]
+#[derive(Clone, Copy, Debug, PartialEq, Eq)]
 pub struct Scan {
     pub count: usize,
     pub number: u32,
@@ -32,13 +34,13 @@ pub struct Scan {
 }
 
 // A reading position, passed by value from token to token.
-#[derive(Clone, Copy)]
+#[derive(Clone, Copy, Debug, PartialEq, Eq)]
 pub struct Cursor {
     pub at: usize,
 }
 
 // A token that was read, and the position after it.
-#[derive(Clone, Copy)]
+#[derive(Clone, Copy, Debug, PartialEq, Eq)]
 pub struct Lexed {
     pub token: Token,
     pub next: Cursor,
@@ -53,31 +55,26 @@ impl Cursor {
     }
 
     // The position after the separators and comments here.
-    pub fn past_blanks(self, source: &[u8], kinds: &[u8; 256]) -> Cursor
-        requires { Sorts kinds.now }
+    pub fn past_blanks(self, source: &[u8]) -> Cursor
         ensures { WalksTokens (blanks false (drop self.at source.now)) source.now self.at result.at }
     {
-        let at = runs::blanks_end(source, kinds, self.at);
+        let at = runs::blanks_end(source, self.at);
         Cursor { at }
     }
 
     // The token here, where there is neither a separator nor a comment; where no token can be read, a stop with its number.
-    pub fn next(self, source: &[u8], kinds: &[u8; 256], rows: &[u8; 300]) -> Lexed
-        requires { Sorts kinds.now × (rows.now ≡ all_rows) × (self.at < length source.now) × (length source.now ≤ most_bytes) }
+    #[tactic(auto, using(crate::proofs::Lexemes::Tokens))]
+    pub fn next(self, source: &[u8]) -> Lexed
+        requires { (self.at < length source.now) × (length source.now ≤ most_bytes) }
         ensures { ReadsToken source.now self.at result }
     {
         let at = self.at;
-        let kind = bytes::kind_at(source, kinds, at);
-        if kind == bytes::LETTER {
-            return lexing::read_word(source, kinds, rows, at);
+        match bytes::kind_at(source, at) {
+            ByteKind::Letter => lexing::read_word(source, at),
+            ByteKind::Digit => lexing::read_digits(source, at),
+            ByteKind::Sign => lexing::read_sign(source, at),
+            _ => lexing::token_of(kind::STOP, at, 1, 3),
         }
-        if kind == bytes::DIGIT {
-            return lexing::read_digits(source, kinds, at);
-        }
-        if kind == bytes::SIGN {
-            return lexing::read_sign(source, rows, at);
-        }
-        lexing::token_of(kind::STOP, at, 1, 3)
     }
 }
 
@@ -86,10 +83,7 @@ pub fn read_at(source: &[u8], at: usize) -> Lexed
     requires { (at < length source.now) × (length source.now ≤ most_bytes) }
     ensures { ReadsToken source.now at result }
 {
-    let kinds = bytes::kind_table();
-    let rows = spelling::row_table();
-    let here = Cursor { at };
-    here.next(source, &kinds, &rows)
+    Cursor { at }.next(source)
 }
 
 // Scans a source: its tokens are written to the word table, four words a token, with zeros after them, whatever the table held before.
@@ -97,10 +91,7 @@ pub fn scan_source(source: &[u8], words: &mut [u32]) -> Scan
     requires { (length source.now ≤ most_bytes) × (length words.old ≡ table_words) }
     ensures { Scans source.now result words.new }
 {
-    let kinds = bytes::kind_table();
-    let rows = spelling::row_table();
-    let scan = scanning::read_tokens(source, &kinds, &rows, &mut *words);
-    let from = 4 * scan.count;
-    scanning::clear(&mut words[from..]);
+    let scan = scanning::read_tokens(source, &mut *words);
+    words[4 * scan.count..].fill(0);
     scan
 }

@@ -1,28 +1,29 @@
 // The tokens of a source, written into the word table one after the other.
-ghost use Rattle.std.specs.Prelude.{◌≡◌, [], ◌∷◌, ◌++◌, ◌+◌, ◌*◌, ◌≤◌, ◌<◌, length, take, drop, replicate};
+ghost use Rattle.std.specs.Prelude.{◌≡◌, [], ◌∷◌, ◌++◌, ◌+◌, ◌*◌, ◌≤◌, ◌<◌, length, take, drop};
 ghost use Rattle.value.specs.Limits.{most_bytes, most_tokens, table_words};
 ghost use Rattle.token.specs.Scanning.{token_words};
-ghost use Rattle.token.specs.Promises.Promises.{Sorts, all_rows, Stops, Fills};
+ghost use Rattle.token.specs.Promises.Promises.{Stops, Fills};
 
-use crate::{Cursor, Scan, Token};
+use crate::{Cursor, Lexed, Scan, Token, kind};
 use value::limits::MOST_TOKENS;
 use value::tables::put_four;
 
-// The number at which the sequence stops at a token read after `count` tokens, and 0 if it goes on.
-fn stop_number(count: usize, t: Token) -> u32
+// The number at which the sequence stops at a token read after `count` tokens, if it does.
+#[tactic(auto, using(crate::proofs::Scans::Stopping))]
+fn stop_number(count: usize, t: Token) -> Option<u32>
     requires { 1 ≤ t.kind + t.value }
     ensures { Stops count t result }
 {
-    if t.kind == crate::kind::STOP {
-        return t.value;
+    if t.kind == kind::STOP {
+        return Some(t.value);
     }
     if MOST_TOKENS <= count {
-        return 5;
+        return Some(5);
     }
-    if t.kind == crate::kind::REFUSED {
-        return 6;
+    if t.kind == kind::REFUSED {
+        return Some(6);
     }
-    0
+    None
 }
 
 // Writes token number i: its kind, its place and its length, its value, and 0.
@@ -34,27 +35,25 @@ fn write_token(words: &mut [u32], i: usize, t: Token)
 }
 
 // Reads the tokens of a source and writes them from the table's beginning on, up to the stop.
-pub fn read_tokens(source: &[u8], kinds: &[u8; 256], rows: &[u8; 300], words: &mut [u32]) -> Scan
-    requires { Sorts kinds.now × (rows.now ≡ all_rows) × (length source.now ≤ most_bytes) × (length words.old ≡ table_words) }
+pub fn read_tokens(source: &[u8], words: &mut [u32]) -> Scan
+    requires { (length source.now ≤ most_bytes) × (length words.old ≡ table_words) }
     ensures { Fills source.now result words.new }
 {
     let mut cursor = Cursor::start();
     let mut count: usize = 0;
     loop {
-        let here = cursor.past_blanks(source, kinds);
+        let here = cursor.past_blanks(source);
         let at = here.at;
         if source.len() <= at {
             return Scan {
                 count,
                 number: 7,
                 place: at as u32,
-                kind: crate::kind::STOP,
+                kind: kind::STOP,
             };
         }
-        let read = here.next(source, kinds, rows);
-        let token = read.token;
-        let number = stop_number(count, token);
-        if number != 0 {
+        let Lexed { token, next } = here.next(source);
+        if let Some(number) = stop_number(count, token) {
             return Scan {
                 count,
                 number,
@@ -63,18 +62,7 @@ pub fn read_tokens(source: &[u8], kinds: &[u8; 256], rows: &[u8; 300], words: &m
             };
         }
         write_token(words, count, token);
-        cursor = read.next;
+        cursor = next;
         count += 1;
-    }
-}
-
-// Sets all words to 0.
-pub fn clear(words: &mut [u32])
-    ensures { words.new ≡ replicate (length words.old) 0 }
-{
-    let mut i: usize = 0;
-    while i < words.len() {
-        words[i] = 0;
-        i += 1;
     }
 }

@@ -1,21 +1,36 @@
 -- What the functions of this crate promise, beside the definitions.
-use Rattle.std.specs.Prelude.{Bool, true, false, ◌&&◌, ◌||◌, ◌≡◌, List, [], ◌∷◌, ◌++◌, ℕ, ◌+◌, ◌-◌, ◌*◌, ◌≤◌, ◌<◌, length, take, drop, get_or, replicate, eqb, if◌then◌else◌}
-use Rattle.std.proofs.Math.Seq.{slice}
+use Rattle.std.specs.Prelude.{Bool, true, false, ◌&&◌, ◌||◌, ◌≡◌, List, [], ◌∷◌, ◌++◌, ℕ, ◌+◌, ◌-◌, ◌*◌, ◌≤◌, ◌<◌, length, map, take, drop, get_or, eqb, if◌then◌else◌, Option, Some, None, unwrap_or}
+use Rattle.std.specs.Borrow.{Bor}
+use Rattle.std.specs.declared.ops.Range.{Range}
 use Rattle.value.specs.Limits.{most_tokens}
-use Rattle.token.specs.Bytes.{byte_kind, kind_of}
-use Rattle.token.specs.Lexeme.{Lexeme, Spelled, spelled, keywords, two_byte_tokens, starts, in_name, in_literal, extent, lexeme_of, word, digits, read_token}
+use Rattle.token.specs.Bytes.{byte_kind, kind_of, fold, same}
+use Rattle.token.specs.Lexeme.{Lexeme, Spelled, spelled, keywords, two_byte_tokens, find_kind, starts, in_name, in_literal, extent, lexeme_of, word, digits, read_token}
 use Rattle.token.specs.Scanning.{blanks, token_from, stop_number, scan, token_words, scanned_words, scan_of}
 use Rattle.token.specs.declared.Token.{Token}
 use Rattle.token.specs.declared.Scan.{Scan}
 use Rattle.token.specs.declared.Lexed.{Lexed}
-use Rattle.token.specs.declared.spelling.Fixed.{Fixed}
-use Rattle.token.specs.declared.spelling.Group.{Group}
+use Rattle.token.specs.declared.bytes.ByteKind.{ByteKind}
+use Rattle.token.specs.declared.bytes.ByteKind.TheVariants.{Other, Blank, LineEnd, Letter, Digit, Underscore, Comment, Sign, End}
+use Rattle.token.specs.declared.runs.Run.{Run}
+use Rattle.token.specs.declared.runs.Run.TheVariants.{Name, Literal}
+
+-- the number of a kind of bytes, and 8 for the end
+abbrev pub kind_number : ByteKind → ℕ
+kind_number Other = byte_kind.other
+kind_number Blank = byte_kind.blank
+kind_number LineEnd = byte_kind.line_end
+kind_number Letter = byte_kind.letter
+kind_number Digit = byte_kind.digit
+kind_number Underscore = byte_kind.underscore
+kind_number Comment = byte_kind.comment
+kind_number Sign = byte_kind.sign
+kind_number End = 8
 
 -- the table has the kind of each byte
-pub record Sorts (table : List ℕ) : Type 0 where
-  pub each : (b : ℕ) → b < 256 → get_or table b 0 ≡ kind_of b
+pub record Sorts (table : List ByteKind) : Type 0 where
+  pub each : (b : ℕ) → b < 256 → kind_number (get_or table b Other) ≡ kind_of b
 
--- the kind of the byte at the head, and 8 at the end
+-- the number of the kind of the byte at the head, and 8 at the end
 unfoldable pub head_kind : List ℕ → ℕ
 head_kind [] = 8
 head_kind (b ∷ bs) = kind_of b
@@ -27,27 +42,24 @@ pub record WalksTokens (n : ℕ) (source : List ℕ) (at r : ℕ) : Type 0 where
   pub is : r ≡ at + n
   pub within : r - at ≤ length source - at
 
--- a walk over separators and comments, inside a comment or not, comes from `at` to r and goes on there as it began
-pub record Skips (inside : Bool) (source : List ℕ) (at r : ℕ) : Type 0 where
-  pub left : at + blanks inside (drop at source) ≡ r + blanks inside (drop r source)
+-- a walk over separators and comments comes from `at`, inside a comment, to r, behind the comment
+pub record Skips (source : List ℕ) (at r : ℕ) : Type 0 where
+  pub left : at + blanks true (drop at source) ≡ r + blanks false (drop r source)
   pub onward : at ≤ r
 
+-- a byte of a kind can go on a run
+abbrev pub in_run : Run → ℕ → Bool
+in_run Name k = eqb k byte_kind.letter || eqb k byte_kind.digit
+in_run Literal k = eqb k byte_kind.digit
+
 -- the test of an identifier's bytes, or of a literal's
-abbrev pub run_test : Bool → List ℕ → Bool
-run_test true = in_name
-run_test false = in_literal
+abbrev pub run_test : Run → List ℕ → Bool
+run_test Name = in_name
+run_test Literal = in_literal
 
 -- the byte at the head is in a run
 unfoldable pub goes_on : (List ℕ → Bool) → List ℕ → Bool
 goes_on test s = test s || starts byte_kind.underscore s && test (drop 1 s)
-
--- what a byte of kind k does to a walk over separators and comments: 0 ends it, 1 goes on outside a comment, 2 inside one
-unfoldable pub blank_turn : Bool → ℕ → ℕ
-blank_turn inside k =
-    if eqb k byte_kind.line_end then 1
-    else if inside || eqb k byte_kind.comment then 2
-    else if eqb k byte_kind.blank then 1
-    else 0
 
 -- ---- literals
 
@@ -76,27 +88,25 @@ spellings =
 abbrev pub spelling : ℕ → Spelled
 spelling i = get_or spellings i (spelled "" 0)
 
--- a row of twelve bytes for each: the number of its letters, its kind, its letters, and blanks
-abbrev row : Spelled → List ℕ
-row s = length s.letters ∷ s.kind ∷ s.letters ++ replicate (10 - length s.letters) 32
+-- the fixed spellings of a table of the code
+abbrev pub spelled_of : List (Bor (List ℕ) × ℕ) → List Spelled
+spelled_of [] = []
+spelled_of (f ∷ fs) = record { letters = f.0.now; kind = f.1 } ∷ spelled_of fs
 
-abbrev rows_of : List Spelled → List ℕ
-rows_of [] = []
-rows_of (s ∷ ss) = row s ++ rows_of ss
+-- the letters of each spelling are in lower case
+abbrev pub in_lower : List Spelled → Bool
+in_lower [] = true
+in_lower (s ∷ ss) = same (map fold s.letters) s.letters && in_lower ss
 
-unfoldable pub all_rows : List ℕ
-all_rows = rows_of spellings
-
--- where the letters of spelling i stand in the rows, and its kind
-pub record Fixes (i : ℕ) (f : Fixed) : Type 0 where
-  pub letters : take f.len (drop f.start all_rows) ≡ (spelling i).letters
-  pub kind : f.kind ≡ (spelling i).kind
-  pub fits : f.start + f.len ≤ 300
+-- r is the kind of a spelling in a table, none if it is not there
+pub record Finds (w : List ℕ) (table : List Spelled) (r : Option ℕ) : Type 0 where
+  pub is : (other : ℕ) → unwrap_or r other ≡ find_kind w table other
 
 -- the numbers of the keywords and predefined names of n letters
-pub record Groups (n : ℕ) (g : Group) : Type 0 where
-  pub is : slice g.from g.to spellings ≡ of_length n keywords
-  pub few : g.to ≤ 25
+pub record Groups (n : ℕ) (r : Range ℕ) : Type 0 where
+  pub is : take (r.end - r.start) (drop r.start spellings) ≡ of_length n keywords
+  pub few : r.end ≤ 25
+  pub order : r.start ≤ r.end
 
 -- ---- a token at its place
 
@@ -123,9 +133,10 @@ pub record ReadsToken (source : List ℕ) (at : ℕ) (r : Lexed) : Type 0 where
 -- ---- a source
 
 -- r is the number at which the sequence stops at a token after `count` tokens; if it goes on there are fewer than 4096
-pub record Stops (count : ℕ) (t : Token) (r : ℕ) : Type 0 where
-  pub is : r ≡ stop_number count (lexeme_of t.kind t.len t.value)
-  pub few : 1 ≤ r + (most_tokens - count)
+pub record Stops (count : ℕ) (t : Token) (r : Option ℕ) : Type 0 where
+  pub is : unwrap_or r 0 ≡ stop_number count (lexeme_of t.kind t.len t.value)
+  pub some : r ≡ Some 0 → ⊥
+  pub few : r ≡ None → count < most_tokens
 
 -- the tokens stand at the beginning of the table
 pub record Fills (source : List ℕ) (r : Scan) (table : List ℕ) : Type 0 where

@@ -1,11 +1,10 @@
 use Prim.Native.Nat.{◌-◌}
 use lib.ListN.{length}
-use Rattle.token.specs.Promises.Promises.{Sorts}
 use Rattle.token.proofs.Blanks.{Passing}
 use Rattle.token.proofs.runs.blanks_end.Given as goal
 
 abbrev pub invariant-loop-end : goal.invariant-loop-end
-invariant-loop-end l = Passing l.source l.at l.end l.inside × Sorts l.kinds
+invariant-loop-end l = Passing l.source l.at l.end
 
 abbrev pub decreases-loop-end : goal.decreases-loop-end
 decreases-loop-end l = length l.source - l.end

@@ -8,8 +8,8 @@ loop-here-init c = search (rules, Goes)
 pub returns-then-source-at : goal.returns-then-source-at
 returns-then-source-at c = search Goes
 
-pub returns-then-number-ne0 : goal.returns-then-number-ne0
-returns-then-number-ne0 c = search Goes
-
 pub loop-here-preserved : goal.loop-here-preserved
-loop-here-preserved c = (search Goes, search rules, search rules, search rules)
+loop-here-preserved c = (search Goes, search rules)
+
+pub returns-in-Some : goal.returns-in-Some
+returns-in-Some c = search Goes
