@@ -3,7 +3,6 @@ ghost use Rattle.std.specs.Prelude.{◌≡◌, ◌∷◌, ◌+◌, ◌%◌, ◌<
 ghost use Rattle.value.specs.Limits.{most_dims};
 ghost use Rattle.band_step.specs.Promises.Lending.{RowFits, copied, Lending, with_rows};
 
-use run_marked_cells::rooms::copy_numbers;
 use value::limits::MOST_DIMS;
 
 // Copies so many entries of a grid from a position on into a room.
@@ -13,7 +12,7 @@ fn copy_row(grid: &[i32], from: usize, room: &mut [i32], to: usize, width: usize
 {
     let end = from + width;
     let past = to + width;
-    copy_numbers(&grid[from..end], &mut room[to..past]);
+    room[to..past].copy_from_slice(&grid[from..end]);
 }
 
 // The row after a row; the first is after the last.

@@ -9,7 +9,6 @@ ghost use Rattle.run_source.specs.Promises.Public.{manner_of, is_resumed, RunLea
 ghost use Rattle.run_source.specs.Promises.Agreement.{AgreesFresh};
 
 use crate::opening::open_run;
-use run_marked_cells::rooms::{clear_numbers, set_marks};
 use run_steps::{Manner, Report, run_steps};
 use spelling::is_built_in;
 
@@ -43,10 +42,10 @@ fn leave_marks(manner: Manner, marks: &mut [u8])
 {
     match manner {
         Manner::Full => {
-            set_marks(marks, 0);
+            marks.fill(0);
         }
         Manner::Quiet => {
-            set_marks(marks, 0);
+            marks.fill(0);
         }
         Manner::Pausing => {}
         Manner::Resuming => {}
@@ -117,7 +116,7 @@ fn run_listed(
         counted,
         field,
     );
-    clear_numbers(scratch);
+    scratch.fill(0);
     leave_marks(manner, marks);
     report
 }

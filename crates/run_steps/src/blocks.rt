@@ -4,7 +4,6 @@ ghost use Rattle.token.specs.Promises.Promises.{Sorts};
 ghost use Rattle.run_steps.specs.Promises.Blockwise.{is_due, NextOf, Settable, DueSet};
 
 use list_reader::setting::{Due, next_time, set_lines};
-use run_marked_cells::rooms::copy_numbers;
 use run_marking::mark_changed;
 use run_meaning::Bounds;
 
@@ -72,7 +71,7 @@ pub fn set_due(
         let at = set_lines(values, kinds, next.behind, sizes, fields, grid);
         return next_block(values, kinds, at);
     }
-    copy_numbers(grid, scratch);
+    scratch.copy_from_slice(grid);
     let at = set_lines(values, kinds, next.behind, sizes, fields, grid);
     mark_changed(
         sizes,

@@ -13,7 +13,7 @@ use crate::single::one_step;
 use crate::{Bands, Report};
 use cell_leaves::fill_leaves;
 use program::Rule;
-use run_marked_cells::rooms::{copy_numbers, flag_marks, set_marks};
+use run_marked_cells::rooms::flag_marks;
 use run_marking::mark_open;
 use run_marking::ways::set_ways;
 use run_meaning::{Bounds, Reach};
@@ -52,11 +52,11 @@ fn begin_marks(resumed: bool, all_open: bool, grid: &[i32], scratch: &mut [i32],
     ensures { Started (from_lent resumed all_open) grid.now marks.old scratch.new marks.new }
 {
     if lent_marks(resumed, all_open) {
-        copy_numbers(grid, scratch);
+        scratch.copy_from_slice(grid);
         flag_marks(marks);
         return;
     }
-    set_marks(marks, 1);
+    marks.fill(1);
 }
 
 // The marks for the next step: all cells stay open, or those are marked that the last step opened. `old` holds the fields before it.
@@ -155,7 +155,7 @@ fn run_marked(
                 count = counted;
             }
             Step::Fault(cell, number, place, counted) => {
-                set_marks(marks, 0);
+                marks.fill(0);
                 return Report {
                     number,
                     place,

@@ -26,5 +26,5 @@ returns c =
     record {
       each = λ list e. read_times c.ranges.start c.ranges.steps
           (run_done (lent _ list _ (memory _ _ _ c.args.scratch.now c.args.marks.now c.args.counts.now) c.args.values.now _ _ c.args.counted c.args.field) e c.open_run-opening.ensures c.args.manner c.if-not-opening.false (length c.run_steps-report.new.scratch)
-          c.all_open-all.ensures c.resumes.ensures c.run_steps-report.ensures.ran c.clear_numbers.ensures (omega (arith, c.clear_numbers.auto, c.run_steps-report.auto.scratch)) (omega (arith, c.run_steps-report.auto.marks)) c.leave_marks.ensures c.run_steps-report.ensures.counts);
+          c.all_open-all.ensures c.resumes.ensures c.run_steps-report.ensures.ran (c.fill.ensures.after (λ y e. e)) (omega (arith, c.fill.auto.self, c.run_steps-report.auto.scratch)) (omega (arith, c.run_steps-report.auto.marks)) c.leave_marks.ensures c.run_steps-report.ensures.counts);
     }
