@@ -15,7 +15,6 @@ use band_step::lending::room_shape;
 use cell_leaves::fill_leaves;
 use program::Rule;
 use run_admission::out_of_field;
-use run_marked_cells::rooms::clear_numbers;
 use run_step::Step;
 use run_step::rows::step_rows;
 use run_steps::Report;
@@ -89,7 +88,7 @@ fn step_lent(
             count: count,
         },
         Step::Fault(cell, number, place, count) => {
-            clear_numbers(room);
+            room.fill(0);
             Report {
                 number: number,
                 place: place,
