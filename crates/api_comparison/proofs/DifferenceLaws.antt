@@ -14,10 +14,11 @@ use lib.Signed.{mag}
 use mir.Syntax.{w32}
 use mir.Val.{to_z, of_z}
 use mir.Facts.{to_z-of_z}
-use Rattle.std.specs.Prelude.{if◌then◌else◌}
+use Rattle.std.specs.Prelude.{Ok, Err, if◌then◌else◌}
 use Rattle.value.specs.Number.{eq_z}
 use Rattle.api_comparison.specs.Differences.{Difference, difference, differences, triples, comparable, compared, first_written, compared_room}
 use Rattle.api_comparison.specs.Promises.Comparing.{next_total, next_room, ComparesEntry}
+use Rattle.api_comparison.specs.declared.Incomparable.{Incomparable}
 use Rattle.api_comparison.specs.Promises.Public.{Compares}
 
 -- ---- three numbers stored one behind another
@@ -137,11 +138,11 @@ all_to_come k ds room e =
     rw z (sets-eq (triples (take k ds)) room 0 (omega arith) ∙ ap (λ (n : ℕ). triples (take k ds) ++ drop n room) y)
 
 module _ (left right : List ℤ) (k : ℕ) (room : List ℤ) where
-  pub not_compared : comparable (length left) (length right) k (length room) ≡ false → Compares left right k room (record { number = 21; total = 0 }) room
+  pub not_compared : {e : Incomparable} → comparable (length left) (length right) k (length room) ≡ false → Compares left right k room (Err e) room
   unfolding compared compared_room
   not_compared q = record { answer = simp q; room_is = simp q }
 
   pub all_compared : comparable (length left) (length right) k (length room) ≡ true → {total : ℕ} {room' : List ℤ} → total ≡ length (differences 0 left right) → room' ≡ first_written k (differences 0 left right) room
-      → Compares left right k room (record { number = 0; total = total }) room'
+      → Compares left right k room (Ok total) room'
   unfolding compared compared_room
   all_compared q t r = record { answer = ap (λ (n : ℕ). record { number = 0; total = n }) t ∙ simp q; room_is = r ∙ simp q }

@@ -1,7 +1,6 @@
 -- Two grids compared, without a source: where they differ, what a comparison returns, and what it leaves in the room lent for the list.
 use Rattle.std.specs.Prelude.{Bool, ◌&&◌, List, [], ◌∷◌, ◌++◌, ℕ, ◌+◌, ◌*◌, length, take, drop, eqb, leb, ℤ, pos, if◌then◌else◌}
 use Rattle.value.specs.Number.{eq_z}
-use Rattle.api_comparison.specs.declared.Comparison.{Comparison}
 
 -- an entry that differs: its number, its value in the left grid and its value in the right grid
 abbrev pub Difference : Type 0
@@ -30,6 +29,10 @@ most_entries = 2147483647
 -- by their lengths: the grids are equally long and not too long, and the room has 3k numbers
 unfoldable pub comparable : (left right k room : ℕ) → Bool
 comparable left right k room = eqb left right && leb left most_entries && eqb room (3 * k)
+
+-- the number of a reply, and how many entries differ
+abbrev pub Comparison : Type 0
+Comparison = record { number : ℕ; total : ℕ }
 
 -- what a comparison returns: 0 and how many entries differ; where the lengths are wrong 21 and 0
 unfoldable pub compared : (left right : List ℤ) (k : ℕ) (room : List ℤ) → Comparison

@@ -8,31 +8,16 @@ ghost use Rattle.api_comparison.specs.Differences.{comparable};
 ghost use Rattle.api_comparison.specs.Promises.Comparing.{ComparesEntry};
 ghost use Rattle.api_comparison.specs.Promises.Public.{Compares};
 
-// What a comparison returns: 0 and how many entries differ, or 21 and 0.
-#[derive(Drop)]
-pub struct Comparison {
-    pub number: u32,
-    pub total: u32,
-}
+// Why grids cannot be compared (the reply's number is 21): they are of unlike length or have over 2147483647 entries, or the room does not have 3k numbers.
+#[derive(Clone, Copy, Debug, PartialEq, Eq, Hash)]
+pub struct Incomparable;
 
 // Whether grids and a room of these lengths can be compared. 3k could be over the greatest usize, so the room is divided.
 #[tactic(auto, unfolding(crate::specs::Differences::comparable))]
 fn can_compare(left: usize, right: usize, k: usize, room: usize) -> bool
     ensures { result ≡ comparable left right k room }
 {
-    if left != right {
-        return false;
-    }
-    if 2147483647 < left {
-        return false;
-    }
-    if room % 3 != 0 {
-        return false;
-    }
-    if room / 3 != k {
-        return false;
-    }
-    true
+    left == right && left <= 2147483647 && room % 3 == 0 && room / 3 == k
 }
 
 // Writes difference n, at an entry, into its three places of the room.
@@ -63,25 +48,16 @@ fn compare_entry(room: &mut [i32], k: usize, n: usize, entry: usize, left: i32, 
 }
 
 // Lists the entries in which two grids differ, each as entry number, left value and right value, in a room of 3k numbers: the
-// first k of them; the remaining room stays. The total is of all. 21 with nothing written where the grids are of unlike length or
-// have over 2147483647 entries, or the room does not have 3k numbers.
-pub fn compare(left: &[i32], right: &[i32], k: usize, room: &mut [i32]) -> Comparison
+// first k of them; the remaining room stays. The total is of all. At a refusal nothing is written.
+pub fn compare(left: &[i32], right: &[i32], k: usize, room: &mut [i32]) -> Result<u32, Incomparable>
     ensures { Compares left.now right.now k room.old result room.new }
 {
     if !can_compare(left.len(), right.len(), k, room.len()) {
-        return Comparison {
-            number: 21,
-            total: 0,
-        };
+        return Err(Incomparable);
     }
     let mut total: usize = 0;
-    let mut i: usize = 0;
-    while i < left.len() {
+    for i in 0..left.len() {
         total = compare_entry(room, k, total, i, left[i], right[i]);
-        i += 1;
     }
-    Comparison {
-        number: 0,
-        total: total as u32,
-    }
+    Ok(total as u32)
 }

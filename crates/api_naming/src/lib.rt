@@ -64,18 +64,15 @@ pub fn run(
 pub fn field_record(rows: [Name; MOST_NAMES], number: u32) -> Name
     ensures { NamesField rows number result }
 {
-    let k = cellang::find_field(&rows, number);
-    cellang::record(&rows, k)
+    match cellang::find_field(&rows, number) {
+        Some(k) => cellang::record(&rows, k),
+        None => Name::default(),
+    }
 }
 
 // A row in which no name is declared.
 pub fn no_names() -> [Name; MOST_NAMES]
     ensures { 256 ≡ length result }
 {
-    [Name {
-        start: 0,
-        length: 0,
-        kind: 0,
-        value: 0,
-    }; MOST_NAMES]
+    [Name::default(); MOST_NAMES]
 }

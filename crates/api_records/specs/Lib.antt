@@ -1,3 +1,2 @@
 -- The name list as a row of records.
 pub mod Rows
-pub mod Promises

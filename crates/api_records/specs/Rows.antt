@@ -1,5 +1,5 @@
 -- The name list as a row of records: 256 records, of which each has four of the flat words.
-use Rattle.std.specs.Prelude.{◌≡◌, Bool, true, false, not, ◌&&◌, ◌||◌, List, [], ◌∷◌, ℕ, zero, suc, ◌+◌, ◌*◌, ◌<◌, ◌≤◌, eqb, pos, get_or, if◌then◌else◌}
+use Rattle.std.specs.Prelude.{◌≡◌, Bool, true, false, not, ◌&&◌, ◌||◌, List, [], ◌∷◌, ℕ, zero, suc, ◌+◌, ◌*◌, ◌<◌, ◌≤◌, eqb, pos, get_or, Option, Some, None, if◌then◌else◌}
 use Rattle.value.specs.Limits.{most_names}
 use Rattle.value.specs.Worked.{encode_of, decode_of}
 use Rattle.names.specs.Names.{name_kind}
@@ -50,6 +50,11 @@ is_at place r = is_declared r && eqb r.start place
 -- a record is that of the field that has a number, const or not
 abbrev pub is_field_record : ℕ → Name → Bool
 is_field_record number r = (eqb r.kind name_kind.field || eqb r.kind name_kind.const_field) && eqb (encode_of r.value) number
+
+-- the number of a record; most_names where there is none
+abbrev pub record_number : Option ℕ → ℕ
+record_number (Some k) = k
+record_number None = most_names
 
 -- r is the number of the first record that passes a test; most_names if there is none
 pub record FindsFirst (test : Name → Bool) (names : List Name) (r : ℕ) : Type 0 where

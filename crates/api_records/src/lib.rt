@@ -7,7 +7,7 @@ pub mod lookup;
 pub mod rows;
 
 // A name: the place of its first byte, its length, its kind, 0 where no name is declared, and its value.
-#[derive(Clone, Copy)]
+#[derive(Clone, Copy, Debug, Default, PartialEq, Eq, Hash)]
 pub struct Name {
     pub start: u32,
     pub length: u32,

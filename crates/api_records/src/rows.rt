@@ -25,29 +25,17 @@ fn row_at(flat: &[u32; NAME_WORDS], k: usize) -> Name
 pub fn rows_of(flat: &[u32; NAME_WORDS]) -> [Name; MOST_NAMES]
     ensures { result ≡ rows_of flat.now }
 {
-    let mut rows = [Name {
-        start: 0,
-        length: 0,
-        kind: 0,
-        value: 0,
-    }; MOST_NAMES];
-    let mut k: usize = 0;
-    while k < MOST_NAMES {
+    let mut rows = [Name::default(); MOST_NAMES];
+    for k in 0..MOST_NAMES {
         rows[k] = row_at(flat, k);
-        k = k + 1;
     }
     rows
 }
 
 // The first records of `names` are replaced by those of `rows`, so many of them.
-#[tactic(auto, using(crate::proofs::RowLaws::filled, crate::proofs::RowLaws::filled_is))]
 pub fn store_first(names: &mut [Name], rows: [Name; MOST_NAMES], count: usize)
     requires { (count ≤ most_names) × (count ≤ length names.old) }
     ensures { names.new ≡ take count rows ++ drop count names.old }
 {
-    let mut i: usize = 0;
-    while i < count {
-        names[i] = rows[i];
-        i = i + 1;
-    }
+    names[..count].copy_from_slice(&rows[..count]);
 }

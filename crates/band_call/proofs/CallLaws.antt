@@ -12,7 +12,7 @@ use mir.Syntax.{w64}
 use mir.Val.{SFits, to_z, of_z}
 use mir.Facts.{to_z-of_z}
 use borrow.Author.Tests.{eq-eqb, ne_eqb, not-true, not-false}
-use Rattle.std.specs.Prelude.{if◌then◌else◌}
+use Rattle.std.specs.Prelude.{Result, Ok, Err, if◌then◌else◌}
 use Rattle.automaton.specs.Step.{Fault, no_fault, fault_at}
 use Rattle.automaton.specs.Shape.{product, Bound}
 use Rattle.automaton.specs.Promises.ShapeLaws.{Positive}
@@ -30,8 +30,7 @@ use Rattle.run_meaning.specs.Admission.{good_times, too_far, out_of_field}
 use Rattle.run_meaning.specs.Report as report
 use Rattle.run_meaning.specs.Promises.Fitting.{held_fields}
 use Rattle.run_calls.specs.Calls.{NameForm, flat_names, SourceLent, source_fits, names_left}
-use Rattle.run_admission.specs.Promises.Admitting.{InFields}
-use Rattle.run_admission.specs.declared.Refusal as declared
+use Rattle.run_admission.specs.Promises.Admitting.{refusal_told, InFields}
 use Rattle.run_admission.proofs.RequestLaws.{good_start, good_total}
 use Rattle.band_meaning.specs.Edge.{edge}
 use Rattle.band_meaning.specs.OnSizes.{on_sizes, by_grid}
@@ -340,15 +339,15 @@ module _ (q : BandAsked) {fit : Bool} {source ws ns : List ℕ} {o : RowsOpened}
             pub band_time : (q.time ≡ pos (nat_abs q.time)) × (nat_abs q.time ≤ 2147483647)
             band_time = let k = knows in (good_start q.time (pos 1) k.2, omega (arith, good_total q.time (pos 1) k.2))
 
-            module _ {g : declared.Refusal} (fields : InFields ws' o.rule q.rows g) where
-              out_is : refusal g.number g.place ≡ band_refusal program q
+            module _ {g : Result (Unit {0}) Refusal} (fields : InFields ws' o.rule q.rows g) where
+              out_is : refusal_told g ≡ band_refusal program q
               unfolding program
               out_is = fields.says ∙ ap (λ (rs : List Range). out_of_field rs 0 q.rows) (sym open_is.holds.fields) ∙ sym rest_out
 
-              pub band_out : (g.number ≡ 0 → ⊥) → {r : Report} → ((room : List ℤ) → told r room ≡ report.refused g.number g.place 0 room) → StepsSource fit source ws ns q r ws' ns' q.room
-              band_out n e = steps_as (e q.room ∙ sym (report_refused program q g.number g.place (sym out_is) n))
+              pub band_out : {f : Refusal} → g ≡ Err f → {r : Report} → ((room : List ℤ) → told r room ≡ report.refused f.number f.place 0 room) → StepsSource fit source ws ns q r ws' ns' q.room
+              band_out {f} i e = steps_as (e q.room ∙ sym (report_refused program q f.number f.place (sym (sym (ap refusal_told i) ∙ out_is)) (λ k. absurd (omega (arith, k, fields.refused f i)))))
 
-              pub band_done : g.number ≡ 0 → (time : ℕ) → time ≡ nat_abs q.time → {r : Report} {room' : List ℤ}
+              pub band_done : {u : Unit {0}} → g ≡ Ok u → (time : ℕ) → time ≡ nat_abs q.time → {r : Report} {room' : List ℤ}
                   → LentStepped ws' o.rule q.sizes (bound o.before o.behind) q.band q.rows q.room time r room' → StepsSource fit source ws ns q r ws' ns' room'
               unfolding program band_stepped
               band_done n time t {r} {room'} s =
@@ -356,7 +355,7 @@ module _ (q : BandAsked) {fit : Bool} {source ws ns : List ℕ} {o : RowsOpened}
                   steps_as
                   (s.says y.read.program y.holds
                   ∙ ap₂ (λ (e : Bound) (m : ℕ). told_by e m o.rule.fields) y.borders t ∙ ap (told_by (edge y.read.program) (nat_abs q.time)) (sym fields_are)
-                  ∙ sym (report_done y.read.program q (ap (λ (w : Refusal). w.number) (sym out_is) ∙ n)))
+                  ∙ sym (report_done y.read.program q (ap (λ (w : Refusal). w.number) (sym out_is ∙ ap refusal_told n))))
                 where
                   told_by : Bound → ℕ → ℕ → report.Report
                   told_by e m fs =

@@ -142,9 +142,8 @@ fn band_listed(
     if opened.far != 0 {
         return refused(opened.far, opened.at);
     }
-    let entries = out_of_field(words, rule, rows);
-    if entries.number != 0 {
-        return refused(entries.number, entries.place);
+    if let Err(refusal) = out_of_field(words, rule, rows) {
+        return refused(refusal.number, refusal.place);
     }
     step_lent(
         words,

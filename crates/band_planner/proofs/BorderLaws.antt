@@ -44,22 +44,21 @@ first_is [] = refl
 first_is (d ∷ ds) = refl
 
 -- the first index of a place is that of its first word
-place_first : (places : List ℕ) (dims k : ℕ) → 0 < dims → first_index (place_at places dims k) ≡ decode_of (get_or places (3 * k) 0)
-place_first places dims k l =
-    first_is (place_at places dims k) ∙ get_or_list_of _ dims 0 (pos 0) l ∙ ap (λ (i : ℕ). decode_of (get_or places i 0)) (add-zero (3 * k))
+place_first : (places : List (List ℕ)) (dims k : ℕ) → 0 < dims → first_index (place_at places dims k) ≡ decode_of (get_or (get_or places k []) 0 0)
+place_first places dims k l = first_is (place_at places dims k) ∙ get_or_list_of (λ d. decode_of (get_or (get_or places k []) d 0)) dims 0 (pos 0) l
 
-pub no_places : (places : List ℕ) (dims : ℕ) → bound 0 0 ≡ edge_of (list_of (place_at places dims) 0)
+pub no_places : (places : List (List ℕ)) (dims : ℕ) → bound 0 0 ≡ edge_of (list_of (place_at places dims) 0)
 unfolding list_of edge_of
 no_places places dims = refl
 
-pub place_more : (places : List ℕ) (k : ℕ) {b r : Border} → ((dims : ℕ) → 0 < dims → border_of b ≡ edge_of (list_of (place_at places dims) k)) → WidensBorder b (get_or places (3 * k) 0) r
+pub place_more : (places : List (List ℕ)) (k : ℕ) {b r : Border} → ((dims : ℕ) → 0 < dims → border_of b ≡ edge_of (list_of (place_at places dims) k)) → WidensBorder b (get_or (get_or places k []) 0 0) r
     → (dims : ℕ) → 0 < dims → border_of r ≡ edge_of (list_of (place_at places dims) (k + 1))
 unfolding list_of
 place_more places k h w dims l =
     w.is ∙ ap₂ (λ (x : Bound) (z : ℤ). widen x (range z z)) (h dims l) (sym (place_first places dims k l)) ∙ sym (edge_more (list_of (place_at places dims) k) (place_at places dims k))
     ∙ ap (λ (n : ℕ). edge_of (list_of (place_at places dims) n)) (sym (add-one k))
 
-pub all_places : {places : List ℕ} {count k : ℕ} {r : Border} → ((dims : ℕ) → 0 < dims → border_of r ≡ edge_of (list_of (place_at places dims) k)) → k ≡ count → ListedBorder places count r
+pub all_places : {places : List (List ℕ)} {count k : ℕ} {r : Border} → ((dims : ℕ) → 0 < dims → border_of r ≡ edge_of (list_of (place_at places dims) k)) → k ≡ count → ListedBorder places count r
 all_places {places} h e = record { is = λ dims l. h dims l ∙ ap (λ (n : ℕ). edge_of (list_of (place_at places dims) n)) e }
 
 -- ---- a reach
@@ -71,7 +70,7 @@ module _ (reach : Reach) where
   first_bound zero = ([], refl)
   first_bound (suc dims) = let x = first_bound dims in (x.0 ++ (bound_at reach.bounds (suc dims) ∷ []), ap (λ (l : List Bound). l ++ (bound_at reach.bounds (suc dims) ∷ [])) x.1)
 
-  pub box_border : 256 < reach.count → BordersOf reach (record { before = reach.bounds.back0; behind = reach.bounds.ahead0 })
+  pub box_border : 256 < reach.count → BordersOf reach (record { before = (bound_at reach.bounds 0).back; behind = (bound_at reach.bounds 0).ahead })
   box_border l = record { is = by }
     where
       by : (dims : ℕ) → 0 < dims → bound_at reach.bounds 0 ≡ edge_of (reach_from (bounds_of reach.bounds dims) (places_of reach dims))

@@ -24,7 +24,7 @@ use Rattle.run_meaning.specs.Admission.{all_between, good_sizes}
 use Rattle.run_meaning.specs.Promises.Fitting.{bound_at, bounds_of}
 use Rattle.read_source.specs.Promises.Promises.{Loads, Checks, is_accepted}
 use Rattle.run_indices.specs.declared.Survey.{Survey}
-use Rattle.run_indices.specs.Promises.Surveying.{Surveyed}
+use Rattle.run_indices.specs.Promises.Surveying.{far_of, Surveyed}
 use Rattle.run_admission.specs.Promises.Admitting.{cells_of}
 use Rattle.run_admission.proofs.AdmissionLaws.{near_of}
 use Rattle.run_admission.proofs.RequestLaws.{some_cells, no_cells, positive}
@@ -134,7 +134,7 @@ module _ {source ws ns : List ℕ} {known : Bool} {rule : Rule} {n place : ℕ} 
               (surveyed.places (relatives_in is.read.program) is.lists ∙ ap (λ (d : ℕ). add_relatives d (some (own_place d ∷ [])) (relatives_in is.read.program)) (sym is.stood.holds.dims))
 
           -- no index is too far: there are no more border rows on a side than rows
-          borders_near : s.number ≡ 0 → (b.before ≤ get_or sizes 0 0) × (b.behind ≤ get_or sizes 0 0)
+          borders_near : (far_of s.far).number ≡ 0 → (b.before ≤ get_or sizes 0 0) × (b.behind ≤ get_or sizes 0 0)
           unfolding box written_in
           borders_near z =
               let p = is.read.program in
@@ -148,11 +148,11 @@ module _ {source ws ns : List ℕ} {known : Bool} {rule : Rule} {n place : ℕ} 
               first_of zero l = absurd (omega arith)
               first_of (suc dims) l = first_bound s.reach dims
 
-          pub opens : {first : ℕ} → first ≡ get_or sizes 0 0
+          pub opens : {far : Refusal} → far ≡ far_of s.far → {first : ℕ} → first ≡ get_or sizes 0 0
               → OpensRows (rooms_fit (length ws) (length ns)) source ws ns sizes
-              (record { number = 0; place = 0; rule = rule; far = s.number; at = s.place; rows = first; before = b.before; behind = b.behind }) ws' ns'
+              (record { number = 0; place = 0; rule = rule; far = far.number; at = far.place; rows = first; before = b.before; behind = b.behind }) ws' ns'
           unfolding written_in
-          opens f =
+          opens {far} e f =
               record {
                 words = checked.words;
                 names = checked.names;
@@ -173,9 +173,9 @@ module _ {source ws ns : List ℕ} {known : Bool} {rule : Rule} {n place : ℕ} 
                   few_cells = known_sizes.few;
                   each_size = known_sizes.each;
                   sized = sym sizes_are ∙ not-false _ right;
-                  far = surveyed.far (relatives_in is.read.program) is.lists;
+                  far = e ∙ surveyed.far (relatives_in is.read.program) is.lists;
                   rows_are = f;
                   borders = borders_are;
-                  near = λ z. let n = borders_near z in (omega (arith, f, n.0), omega (arith, f, n.1));
+                  near = λ z. let n = borders_near (ap (λ (r : Refusal). r.number) (sym e) ∙ z) in (omega (arith, f, n.0), omega (arith, f, n.1));
                 };
               }

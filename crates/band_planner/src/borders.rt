@@ -1,11 +1,10 @@
 // The border rows of a reach: its lowest and highest index in the first dimension.
-ghost use Rattle.std.specs.Prelude.{◌≡◌, ◌≤◌, length};
+ghost use Rattle.std.specs.Prelude.{◌≤◌};
 ghost use Rattle.value.specs.Limits.{most_places};
-ghost use Rattle.value.specs.Promises.Buffers.{place_words};
 ghost use Rattle.band_planner.specs.Promises.Borders.{WidensBorder, ListedBorder, BordersOf};
 
 use run_meaning::Reach;
-use value::limits::PLACES_LISTED;
+use value::limits::{MOST_DIMS, MOST_PLACES, PLACES_LISTED};
 
 // How many border rows a band has before and behind it.
 #[derive(Clone, Copy)]
@@ -33,8 +32,8 @@ fn widened(border: Border, word: u32) -> Border
 }
 
 // The border rows of so many places of a list.
-fn listed_border(places: &[u32], count: usize) -> Border
-    requires { (length places.now ≡ place_words) × (count ≤ most_places) }
+fn listed_border(places: &[[u32; MOST_DIMS]; MOST_PLACES], count: usize) -> Border
+    requires { count ≤ most_places }
     ensures { ListedBorder places.now count result }
 {
     let mut r = Border {
@@ -43,7 +42,7 @@ fn listed_border(places: &[u32], count: usize) -> Border
     };
     let mut k = 0;
     while k < count {
-        r = widened(r, places[3 * k]);
+        r = widened(r, places[k][0]);
         k += 1;
     }
     r
@@ -54,10 +53,10 @@ pub fn border_rows(reach: Reach) -> Border
     ensures { BordersOf reach result }
 {
     if PLACES_LISTED < reach.count {
-        let bounds = reach.bounds;
+        let bound = reach.bounds.dims[0];
         return Border {
-            before: bounds.back0,
-            behind: bounds.ahead0,
+            before: bound.back,
+            behind: bound.ahead,
         };
     }
     let places = reach.places;

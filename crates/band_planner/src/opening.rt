@@ -2,10 +2,12 @@
 ghost use Rattle.std.specs.Prelude.{◌≡◌, ◌≤◌, length};
 ghost use Rattle.value.specs.Limits.{most_dims};
 ghost use Rattle.grammar.specs.Checking.{rooms_fit};
+ghost use Rattle.run_indices.specs.Promises.Surveying.{far_of};
 ghost use Rattle.band_planner.specs.Promises.Opening.{RightSizes, OpensRows};
 
 use crate::borders::border_rows;
 use program::Rule;
+use program::reply::{Reason, Refusal};
 use read_source::load;
 use run_admission::cells;
 use run_indices::surveying::survey;
@@ -59,6 +61,19 @@ fn not_opened(number: u32, place: u32) -> RowsOpened
     }
 }
 
+// The refusal of the first index that is too far; number 0: none is.
+fn far_refusal(far: Option<u32>) -> Refusal
+    ensures { result ≡ far_of far }
+{
+    match far {
+        Some(place) => Refusal::new(Reason::LargeIndex, place),
+        None => Refusal {
+            number: 0,
+            place: 0,
+        },
+    }
+}
+
 // Reads a source for a call on rows of a grid of given sizes. The list of the predefined names is not looked at.
 pub fn open_rows(source: &[u8], words: &mut [u32], names: &mut [u32], sizes: &[u32]) -> RowsOpened
     ensures { OpensRows (rooms_fit (length words.old) (length names.old)) source.now words.old names.old sizes.now result words.new names.new }
@@ -72,14 +87,14 @@ pub fn open_rows(source: &[u8], words: &mut [u32], names: &mut [u32], sizes: &[u
         return not_opened(20, 0);
     }
     let indices = survey(words, rule, sizes);
-    let reach = indices.reach;
-    let border = border_rows(reach);
+    let far = far_refusal(indices.far);
+    let border = border_rows(indices.reach);
     RowsOpened {
         number: 0,
         place: 0,
         rule: rule,
-        far: indices.number,
-        at: indices.place,
+        far: far.number,
+        at: far.place,
         rows: sizes[0],
         before: border.before,
         behind: border.behind,

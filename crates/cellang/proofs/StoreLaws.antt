@@ -20,7 +20,9 @@ use Rattle.grammar.specs.Checking.{SourceRead, turned_away, source_read, rooms_f
 use Rattle.grammar.specs.Promises.Flat.{lent_fit, names_after}
 use Rattle.move_meaning.specs.Profile.{missed, one_move}
 use Rattle.move_profile.specs.declared.Profile.{Profile}
-use Rattle.move_profile.specs.Promises.Flags.{CheckOneMove}
+use Rattle.std.specs.Prelude.{Result}
+use Rattle.move_profile.specs.declared.Missed.{Missed}
+use Rattle.move_profile.specs.Promises.Flags.{answer_told, CheckOneMove}
 use Rattle.run_meaning.specs.Report.{Manner}
 use Rattle.run_calls.specs.Services.{run_source, room_after, marks_after, counts_after}
 use Rattle.run_calls.specs.Calls.{flat_names, SourceLent, source_lent, names_left, memory, Lent, lent, asked, run_left}
@@ -224,14 +226,14 @@ no_row_profile list source ws names rows n =
       stores = c.stores;
     }
 
-pub row_profile : (list source ws ws' flat : List ℕ) (names : ℕ) (answer : Profile) (rows : List Name) (count : ℕ) → not (row_fits list names) ≡ false → count ≡ stored_of (length source) (length ws)
-    → CheckOneMove (lent_fit list (length ws) (length zeros)) source ws zeros answer ws' flat → rows ≡ rows_of flat
+pub row_profile : (list source ws ws' flat : List ℕ) (names : ℕ) (answer : Profile) (rows : List Name) (count : ℕ) {r : Result (Unit {0}) Missed} → missed answer.rule answer.number answer.place ≡ answer_told r → not (row_fits list names) ≡ false → count ≡ stored_of (length source) (length ws)
+    → CheckOneMove (lent_fit list (length ws) (length zeros)) source ws zeros r ws' flat → rows ≡ rows_of flat
     → ProfilesOver (lent_rows_fit list (length ws) names) source ws names (record { profile = answer; rows = rows; count = count }) ws'
-row_profile list source ws ws' flat names answer rows count n m h r =
+row_profile list source ws ws' flat names answer rows count told n m h r =
     let said = check (lent_fit list (length ws) (length zeros)) source in
     let c = row_check list source ws ws' flat names (record { number = said.number; place = said.place }) rows count n m (record { reply = refl; words = h.words; names = h.names }) r in
     record {
-      answer = h.answer ∙ ap (λ (t : Bool). one_move t source) (fits_flat list ws names (row_there list names n));
+      answer = told ∙ h.answer ∙ ap (λ (t : Bool). one_move t source) (fits_flat list ws names (row_there list names n));
       words = c.words;
       few = c.few;
       stores = c.stores;

@@ -16,9 +16,11 @@ use Rattle.grammar.specs.Checking.{check}
 use Rattle.grammar.specs.Promises.Flat.{lent_fit, names_after}
 use Rattle.list_meaning.specs.Writing.{Wrote}
 use Rattle.read_source.specs.Promises.Promises.{Checks}
-use Rattle.move_meaning.specs.Profile.{one_move}
+use Rattle.std.specs.Prelude.{Result}
+use Rattle.move_meaning.specs.Profile.{missed, one_move}
 use Rattle.move_profile.specs.declared.Profile.{Profile}
-use Rattle.move_profile.specs.Promises.Flags.{CheckOneMove}
+use Rattle.move_profile.specs.declared.Missed.{Missed}
+use Rattle.move_profile.specs.Promises.Flags.{answer_told, CheckOneMove}
 use Rattle.run_meaning.specs.Report as report
 use Rattle.run_meaning.specs.Report.{Manner, full}
 use Rattle.run_calls.specs.Calls.{flat_names, SourceLent, source_lent, SourceLeft, source_left, Memory, memory, Lent, lent, fits, asked, read_lent, run_report, run_left}
@@ -48,8 +50,9 @@ use Rattle.band_call.specs.Promises.Calling.{BandLeaves}
 use Rattle.band_run.specs.BandedRun.{banded_lent}
 use Rattle.band_run.specs.Promises.Running.{BandedLeaves}
 use Rattle.api_entries.specs.Over.{over}
-use Rattle.api_comparison.specs.declared.Comparison.{Comparison}
-use Rattle.api_comparison.specs.Promises.Public.{Compares}
+use Rattle.api_comparison.specs.Differences.{Comparison}
+use Rattle.api_comparison.specs.declared.Incomparable.{Incomparable}
+use Rattle.api_comparison.specs.Promises.Public.{comparison_told, Compares}
 use Rattle.cellang.specs.Promises.Told.{Tells, TellsSource, TellsRoom, reply_entries, profile_entries, written_entries, border_entries, planned_entries, report_entries, TellsRun, TellsBanded, comparison_entries, TellsComparison, row_entries}
 
 -- ---- calls that read a source
@@ -76,11 +79,11 @@ tells_check {source} list {reply = reply} {number} {place} h p e =
 
 -- ---- the profile of sources that move a pixel once
 
-pub tells_profile : {source : List ℕ} (list : List ℕ) {ws ns reply : List ℕ} {p : Profile} {ws' ns' reply' : List ℕ} → CheckOneMove (lent_fit list (length ws) (length ns)) source ws ns p ws' ns'
-    → reply' ≡ over (p.rule ∷ p.number ∷ p.place ∷ []) reply
+pub tells_profile : {source : List ℕ} (list : List ℕ) {ws ns reply : List ℕ} {r : Result (Unit {0}) Missed} {ws' ns' reply' : List ℕ} → CheckOneMove (lent_fit list (length ws) (length ns)) source ws ns r ws' ns'
+    → {p : Profile} → missed p.rule p.number p.place ≡ answer_told r → reply' ≡ over (p.rule ∷ p.number ∷ p.place ∷ []) reply
     → TellsSource (source_left flat_names (source_lent source list ws ns) one_move) profile_entries reply p.rule ws' ns' reply'
 unfolding lent_fit names_after
-tells_profile list h e = tells_source profile_entries (λ i. record { answer = h.answer i; words = h.words i; names = h.names i }) e
+tells_profile list h told e = tells_source profile_entries (λ i. record { answer = (told ∙ h.answer) i; words = h.words i; names = h.names i }) e
 
 -- ---- a run
 
@@ -203,8 +206,8 @@ tells_banded {source} {list} {sizes} {values} {plan} {m} {m'} {start} {steps} {c
 
 -- ---- a comparison
 
-pub tells_comparison : {left right : List ℤ} {k : ℕ} {room : List ℤ} {reply : List ℕ} {said : Comparison} {room' : List ℤ} {reply' : List ℕ} → Compares left right k room said room' → reply' ≡ over (comparison_entries said) reply
-    → TellsComparison left right k room reply said.number room' reply'
+pub tells_comparison : {left right : List ℤ} {k : ℕ} {room : List ℤ} {reply : List ℕ} {said : Result ℕ Incomparable} {room' : List ℤ} {reply' : List ℕ} → Compares left right k room said room' → reply' ≡ over (comparison_entries (comparison_told said)) reply
+    → TellsComparison left right k room reply (comparison_told said).number room' reply'
 tells_comparison {reply = reply} h e =
     record {
       tells = record { number = ap (λ (c : Comparison). c.number) h.answer; told = e ∙ ap (λ (c : Comparison). over (comparison_entries c) reply) h.answer };

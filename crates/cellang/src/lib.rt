@@ -10,7 +10,7 @@ mod rows;
 mod running;
 mod writing;
 
-pub use api_comparison::{Comparison, compare};
+pub use api_comparison::{Incomparable, compare};
 pub use api_records::Name;
 pub use api_records::lookup::{count, find_by_place, find_field, kind_of, record};
 pub use checking::check;

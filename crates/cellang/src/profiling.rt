@@ -38,7 +38,7 @@ fn profiled(source: &[u8], list: &[u8], words: &mut [u32], names: usize) -> Prof
         };
     }
     let count = stored(source.len(), words.len());
-    let answer = move_profile::check_one_move(source, list, words, &mut flat);
+    let answer = Profile::from(move_profile::check_one_move(source, list, words, &mut flat));
     let rows = rows_of(&flat);
     ProfileAnswer {
         profile: answer,

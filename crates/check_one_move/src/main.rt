@@ -2,6 +2,7 @@
 
 // Writes in one line whether the source on standard input is in the profile of rules that move a pixel once: `in the profile`, or the first rule that it
 // misses, for example `misses rule 1: refused 8 at 26`.
+use move_profile::{Missed, check_one_move};
 use tool_text::read_full;
 use value::limits::{NAME_WORDS, TABLE_WORDS};
 
@@ -14,23 +15,26 @@ fn tell_refused(rt: &HostRuntime, number: u32, place: u32) {
 }
 
 // Writes the answer.
-fn tell(rt: &HostRuntime, rule: u32, number: u32, place: u32) {
-    if rule == 0 {
-        let _ = rt.write_all(b"in the profile\n");
-        return;
+fn tell(rt: &HostRuntime, answer: Result<(), Missed>) {
+    match answer {
+        Ok(()) => {
+            let _ = rt.write_all(b"in the profile\n");
+        }
+        Err(Missed::Refused(refusal)) => {
+            let _ = rt.write_all(b"misses rule 1: ");
+            tell_refused(rt, refusal.number, refusal.place);
+        }
+        Err(Missed::NoFlag) => {
+            let _ = rt.write_all(
+                b"misses rule 2: no field moved of range 0..1 that is not const\n",
+            );
+        }
+        Err(Missed::OtherStatements) => {
+            let _ = rt.write_all(
+                b"misses rule 3: not one statement, if cell.moved = 0 then .. cell.moved := 1 end\n",
+            );
+        }
     }
-    if rule == 2 {
-        let _ = rt.write_all(b"misses rule 2: no field moved of range 0..1 that is not const\n");
-        return;
-    }
-    if rule == 3 {
-        let _ = rt.write_all(
-            b"misses rule 3: not one statement, if cell.moved = 0 then .. cell.moved := 1 end\n",
-        );
-        return;
-    }
-    let _ = rt.write_all(b"misses rule 1: ");
-    tell_refused(rt, number, place);
 }
 
 // One byte more is read than a source may have, so that a source that is too long is seen to be.
@@ -40,6 +44,6 @@ fn main(rt: HostRuntime) {
     let mut words = [0u32; TABLE_WORDS];
     let mut names = [0u32; NAME_WORDS];
     let list = spelling::BUILT_IN;
-    let answer = move_profile::check_one_move(&source[..n], &list, &mut words, &mut names);
-    tell(&rt, answer.rule, answer.number, answer.place);
+    let answer = check_one_move(&source[..n], &list, &mut words, &mut names);
+    tell(&rt, answer);
 }

@@ -3,14 +3,14 @@ use mathlib.Core.Path.{◌≡◌, refl, sym, ap, ap₂, ◌∙◌, subst}
 use mathlib.Core.Bool.{Bool, true, false, not, ◌||◌}
 use mathlib.Core.List.{List, [], ◌∷◌}
 use mathlib.Core.Option.{Option, some, none}
-use Prim.Native.Nat.{ℕ, zero, suc, ◌+◌, ◌-◌, ◌*◌, ◌≤◌, ◌<◌}
+use Prim.Native.Nat.{ℕ, suc, ◌+◌, ◌-◌, ◌*◌, ◌≤◌, ◌<◌}
 use native.Mathlib.Omega.{arith}
 use native.Mathlib.Numerals.{add-one}
 use lib.ListN.{length, take, drop, get_or, drop_of_length-le, length-drop}
 use lib.Seq.{drop-cons, drop-drop}
 use lib.IntN.{ℤ}
-use lib.Dec.{eqb, leb, ltb}
-use borrow.Author.Tests.{ne_eqb, lt-ltb, le-ltb, le-leb, lt-leb}
+use lib.Dec.{eqb, ltb}
+use borrow.Author.Tests.{eq-eqb, ne_eqb, lt-ltb, le-ltb, not-true, not-false}
 use Rattle.std.specs.Prelude.{if◌then◌else◌}
 use Rattle.program.specs.Syntax.{Range}
 use Rattle.automaton.specs.Shape as shape
@@ -18,48 +18,55 @@ use Rattle.automaton.specs.Shape.{product}
 use Rattle.list_meaning.specs.Text.{Piece, literal, sign, with_piece, pieces}
 use Rattle.list_meaning.specs.Lines.{Said, bad, time, cell, Indexed, indices, values, assigned, cell_with, cell_of_index, said_by, said_in, said}
 use Rattle.list_meaning.specs.Text as text
-use Rattle.list_meaning.specs.ListChecking.{Limits, inside, all_fit, cell_line_number, rises, time_number, line_number, time_behind, Verdict, verdict, check_lines, check_list}
+use Rattle.list_meaning.specs.ListChecking.{Limits, inside, all_fit, cell_line_number, rises, time_number, line_number, time_behind, verdict, check_lines, check_list}
 use Rattle.list_meaning.specs.Promises.Walking.{to_end, Placed, wrong, placed, place_from, placed_by, all_keep, values_number}
 use Rattle.list_meaning.proofs.Walking.{said_cut, said_last, place_is, place_none, values_last}
+use Rattle.std.proofs.Common.{Bor, Option as Optional, Some, None, Result, Ok, Err, is_some as has_some, is_ok, ok_or, IsErrAnd, lit<}
+use Rattle.std.proofs.lemmas.Result.{err_from_is_err_and}
+use Rattle.value.proofs.Theorems.Laws.{never}
+use Rattle.program.specs.declared.reply.Reason.TheVariants as reason
+use Rattle.program.specs.Reason.{reason_number}
+use Rattle.program.specs.declared.reply.Reason.{Reason}
+use Rattle.program.specs.declared.reply.Reason.TheVariants.{UnreadLine, OutsideGrid, TimeNotRising, TimeBeforeStart, TimePastEnd}
 use Rattle.list_reader.specs.declared.Lexed.{Lexed}
-use Rattle.list_reader.specs.declared.Lexed.TheVariants.{Literal, Sign, End, Unreadable}
-use Rattle.list_reader.specs.Promises.Promises.{LineEnds, line_tokens, Lexes}
+use Rattle.list_reader.specs.declared.Lexed.TheVariants.{Literal, Sign, End}
+use Rattle.list_reader.specs.Promises.Promises.{LineEnds, Lexes, NoSign, ReadsSign}
 use Rattle.list_reader.specs.declared.points.Point.{Point}
-use Rattle.list_reader.specs.declared.points.Point.TheVariants as point
-use Rattle.list_reader.specs.Promises.Points.{point_in, point_with, point_of, PointOnward, ReadsPoint}
-use Rattle.list_reader.specs.Promises.Values.{line_values, NumbersValues}
-use Rattle.list_reader.specs.declared.checking.LineRead.{LineRead}
-use Rattle.list_reader.specs.declared.checking.LineRead.TheVariants.{Right, Refused}
-use Rattle.list_reader.specs.declared.checking.Verdict as declared
-use Rattle.list_reader.specs.Promises.Checks.{limits, time_before, NumbersTime, cell_said, NumbersCell, Judged, JudgesTime, JudgesLine, answer, ChecksLines}
+use Rattle.list_reader.specs.Promises.Points.{point_in, point_with, point_of, ReadsPoint}
+use Rattle.list_reader.specs.declared.values.Values.{Values}
+use Rattle.list_reader.specs.Promises.Values.{line_values, told, count_number, values_told, ReadsValues}
+use Rattle.list_reader.specs.Promises.Checks.{limits, time_before, ChecksTime, cell_said, ChecksCell, Judged, JudgesTime, JudgesLine, ChecksLines}
 
-positive : (n : ℕ) → (n ≡ 0 → ⊥) → 0 < n
-positive zero d = absurd (d refl)
-positive (suc n) d = omega arith
+-- ---- the exit of `.ok_or(e)?`: there was no value, and the reason is e
+pub exits : {A B : Type 0} {o : Optional A} {r : Result A Reason} {q : Result B Reason} {e f : Reason} → IsErrAnd q (λ g. g ≡ f) → r ≡ Err f → r ≡ ok_or o e → (o ≡ None) × (q ≡ Err e)
+exits {B = B} {o = o} {q = q} {e = e} {f = f} h x y =
+    let p = err_from_is_err_and q h in
+    let n = by o (sym x ∙ y) in
+    (n.0, p.1 ∙ ap Err (p.2 ∙ n.1))
+  where
+    by : {A : Type 0} (o : Optional A) → Err f ≡ ok_or o e → (o ≡ None) × (f ≡ e)
+    by None z = (refl, cc)
+    by (Some a) z = never (ap is_ok z)
 
 -- ---- a time
 
-rises_by : (least t : ℕ) → rises (time_before least) t ≡ leb least t
-rises_by zero t = sym (le-leb 0 t (omega arith))
-rises_by (suc b) t = refl
-
-module _ (first last least t : ℕ) where
-  pub time_falls : t < least → NumbersTime first last least t 54
+module _ (first last : ℕ) (before : Optional ℕ) (t : ℕ) {r : Bool} (s : r ≡ rises (time_before before) t) where
+  pub time_falls : not r ≡ true → ChecksTime first last before t (Err TimeNotRising)
   unfolding time_number
-  time_falls l = record { is = λ q e f. rw (rises_by least t, lt-leb least t l) }
+  time_falls l = record { is = λ q e f. rw (sym s ∙ not-true r l) }
 
-  module _ (l : least ≤ t) where
-    pub time_early : t < first → NumbersTime first last least t 55
+  module _ (l : not r ≡ false) where
+    pub time_early : t < first → ChecksTime first last before t (Err TimeBeforeStart)
     unfolding time_number
-    time_early m = record { is = λ q e f. rw (rises_by least t, le-leb least t l, e, lt-ltb t first m) }
+    time_early m = record { is = λ q e f. rw (sym s ∙ not-false r l, e, lt-ltb t first m) }
 
-    pub time_late : first ≤ t → last < t → NumbersTime first last least t 56
+    pub time_late : first ≤ t → last < t → ChecksTime first last before t (Err TimePastEnd)
     unfolding time_number
-    time_late m n = record { is = λ q e f. rw (rises_by least t, le-leb least t l, e, le-ltb t first m, f, lt-ltb last t n) }
+    time_late m n = record { is = λ q e f. rw (sym s ∙ not-false r l, e, le-ltb t first m, f, lt-ltb last t n) }
 
-    pub time_right : first ≤ t → t ≤ last → NumbersTime first last least t 0
+    pub time_right : first ≤ t → t ≤ last → ChecksTime first last before t (Ok tt)
     unfolding time_number
-    time_right m n = record { is = λ q e f. rw (rises_by least t, le-leb least t l, e, le-ltb t first m, f, le-ltb last t n) }
+    time_right m n = record { is = λ q e f. rw (sym s ∙ not-false r l, e, le-ltb t first m, f, le-ltb last t n) }
 
 pub ruleset TimeNumbers = (time_falls, time_early, time_late, time_right)
 
@@ -116,8 +123,22 @@ module _ (q : Limits) (fl : ℕ) (flag_is : q.flag ≡ some fl) (t : ℕ) where
 
 -- ---- behind the index
 
-not_fifty : (fs : List Range) (fl : ℕ) (vs : List (Option ℤ)) → eqb (values_number fs fl 0 false true true (some vs)) 50 ≡ false
-not_fifty fs fl vs = by (ltb (length fs) (length vs)) (all_fit fs vs) (all_keep fl 0 vs)
+count_fifty : (n c : ℕ) (fit kept : Bool) → eqb (count_number n c fit kept) 50 ≡ false
+count_fifty n c fit kept = by (ltb n c) fit kept
+  where
+    by : (a b d : Bool) → eqb (if a then 52 else if not b then 53 else if not d then 58 else 0) 50 ≡ false
+    by true b d = refl
+    by false true true = refl
+    by false true false = refl
+    by false false d = refl
+
+-- one number for what the values are, and what the index is
+abbrev joined_number : Bool → ℕ → Optional Values → ℕ
+joined_number outside n None = 50
+joined_number outside n (Some v) = if outside then 51 else count_number n v.count v.fit v.kept
+
+values_fifty : (fs : List Range) (fl : ℕ) (vs : List (Option ℤ)) → eqb (values_number fs fl 0 false true true (some vs)) 50 ≡ false
+values_fifty fs fl vs = by (ltb (length fs) (length vs)) (all_fit fs vs) (all_keep fl 0 vs)
   where
     by : (a b c : Bool) → eqb (if a then 52 else if not b then 53 else if not c then 58 else 0) 50 ≡ false
     by true b c = refl
@@ -125,83 +146,70 @@ not_fifty fs fl vs = by (ltb (length fs) (length vs)) (all_fit fs vs) (all_keep 
     by false true false = refl
     by false false c = refl
 
--- one number for what the values are, and what the index is
-abbrev joined_number : Bool → ℕ → ℕ
-joined_number outside n = if eqb n 50 then 50 else if outside then 51 else n
+by_values : (fs : List Range) (n fl : ℕ) (outside : Bool) (o : Option (List (Option ℤ))) (r : Optional Values) → values_told n r ≡ values_number fs fl 0 false true true o
+    → valued_number fs fl outside o ≡ joined_number outside n r
+by_values fs n fl outside none None e = refl
+by_values fs n fl outside none (Some v) e = never (sym (count_fifty n v.count v.fit v.kept) ∙ eq-eqb (count_number n v.count v.fit v.kept) 50 e)
+by_values fs n fl outside (some vs) None e = never (sym (values_fifty fs fl vs) ∙ eq-eqb (values_number fs fl 0 false true true (some vs)) 50 (sym e))
+by_values fs n fl outside (some vs) (Some v) e = ap (λ (m : ℕ). if outside then 51 else m) (sym e)
 
-by_values : (fs : List Range) (fl : ℕ) (outside : Bool) (o : Option (List (Option ℤ))) → valued_number fs fl outside o ≡ joined_number outside (values_number fs fl 0 false true true o)
-by_values fs fl outside none = refl
-by_values fs fl outside (some vs) = rw (not_fifty fs fl vs)
-
-assigned_equal : (fs : List Range) (fl : ℕ) (outside : Bool) (c : ℕ) (o : Option (List Piece)) → place_number fs fl (point_with outside c (with_piece (sign 61) o)) ≡ joined_number outside (values_number fs fl 0 false true true (line_values o))
+assigned_equal : (fs : List Range) (n fl : ℕ) (outside : Bool) (c : ℕ) (o : Option (List Piece)) (r : Optional Values) → values_told n r ≡ values_number fs fl 0 false true true (line_values o)
+    → place_number fs fl (point_with outside c (with_piece (sign 61) o)) ≡ joined_number outside n r
 unfolding assigned
-assigned_equal fs fl outside c none = refl
-assigned_equal fs fl outside c (some ps) = by_values fs fl outside (values ps)
+assigned_equal fs n fl outside c none r e = by_values fs n fl outside none r e
+assigned_equal fs n fl outside c (some ps) r e = by_values fs n fl outside (values ps) r e
 
 assigned_other : (fs : List Range) (fl : ℕ) (outside : Bool) (c b : ℕ) (o : Option (List Piece)) → (b ≡ 61 → ⊥) → place_number fs fl (point_with outside c (with_piece (sign b) o)) ≡ 50
 unfolding assigned
 assigned_other fs fl outside c b none d = refl
 assigned_other fs fl outside c b (some ps) d = rw (ne_eqb b 61 d)
 
-assigned_literal : (fs : List Range) (fl : ℕ) (outside : Bool) (c n : ℕ) (o : Option (List Piece)) → place_number fs fl (point_with outside c (with_piece (literal n) o)) ≡ 50
+assigned_none : (fs : List Range) (fl : ℕ) (outside : Bool) (c : ℕ) (o : Option (List Piece)) → NoSign o → place_number fs fl (point_with outside c o) ≡ 50
 unfolding assigned
-assigned_literal fs fl outside c n none = refl
-assigned_literal fs fl outside c n (some ps) = refl
+assigned_none fs fl outside c none h = refl
+assigned_none fs fl outside c (some []) h = refl
+assigned_none fs fl outside c (some (literal n ∷ ps)) h = refl
+assigned_none fs fl outside c (some (sign b ∷ ps)) h = absurd h
 
-assigned_none : (fs : List Range) (fl : ℕ) (outside : Bool) (c : ℕ) → place_number fs fl (placed outside c []) ≡ 50
-unfolding assigned
-assigned_none fs fl outside c = refl
+module _ (sizes : List ℕ) (fs : List Range) (fl : ℕ) (line : List ℕ) where
+  numbered : {x : Optional Point} → ReadsPoint sizes line x → {r : Result (Unit {0}) Reason} → told r ≡ place_number fs fl (point_of x) → ChecksCell sizes fs fl line r
+  numbered w h = record { is = λ q t a b d. h ∙ ap (place_number fs fl) (sym w.is) ∙ by_walk q fl d t sizes fs a b (pieces 0 line) }
 
-module _ (sizes : List ℕ) (fs : List Range) (fl : ℕ) (line : List ℕ) (at : ℕ) {x : Point} (w : ReadsPoint sizes line at x) where
-  numbered : {y : Point} {r : ℕ} → x ≡ y → r ≡ place_number fs fl (point_of line y) → NumbersCell sizes fs fl line at r
-  numbered e h = record { is = λ q t a b d. h ∙ ap (place_number fs fl) (sym (w.is ∙ ap (point_of line) e)) ∙ by_walk q fl d t sizes fs a b (pieces 0 (drop at line)) }
+  pub cell_wrong : ReadsPoint sizes line None → ChecksCell sizes fs fl line (Err UnreadLine)
+  cell_wrong w = numbered w refl
 
-  pub cell_wrong : x ≡ point.Wrong → NumbersCell sizes fs fl line at 50
-  cell_wrong e = numbered e refl
+  module _ {x : Point} (w : ReadsPoint sizes line (Some x)) where
+    pub cell_unassigned : ReadsSign x.rest.now None → ChecksCell sizes fs fl line (Err UnreadLine)
+    cell_unassigned v = numbered w (sym (assigned_none fs fl x.outside x.cell (pieces 0 x.rest.now) v.is))
 
-  module _ {outside : Bool} {c next : ℕ} (e : x ≡ point.At outside c next) where
-    module _ {y : Lexed} (v : Lexes line next y) where
-      token : {z : Lexed} {r : ℕ} → y ≡ z → r ≡ place_number fs fl (point_with outside c (line_tokens line z)) → NumbersCell sizes fs fl line at r
-      token f h = numbered e (h ∙ ap (λ (o : Option (List Piece)). place_number fs fl (point_with outside c o)) (sym (v.is ∙ ap (line_tokens line) f)))
+    module _ {b : ℕ} {past : Bor (List ℕ)} (v : ReadsSign x.rest.now (Some (b, past))) where
+      pub cell_other : (b ≡ 61 → ⊥) → ChecksCell sizes fs fl line (Err UnreadLine)
+      cell_other d = numbered w (sym (ap (λ (o : Option (List Piece)). place_number fs fl (point_with x.outside x.cell o)) v.is ∙ assigned_other fs fl x.outside x.cell b (pieces 0 past.now) d))
 
-      pub cell_literal : {n past : ℕ} → y ≡ Literal n past → NumbersCell sizes fs fl line at 50
-      cell_literal {n} {past} f = token f (sym (assigned_literal fs fl outside c n (pieces 0 (drop past line))))
+      module _ (d : b ≡ 61) {n : ℕ} where
+        by_number : {y : Optional Values} → ReadsValues fs n fl past.now y → {r : Result (Unit {0}) Reason} → told r ≡ joined_number x.outside n y → ChecksCell sizes fs fl line r
+        by_number {y} k h =
+            numbered w
+            (h ∙ sym (ap (λ (o : Option (List Piece)). place_number fs fl (point_with x.outside x.cell o)) v.is
+            ∙ ap (λ (i : ℕ). place_number fs fl (point_with x.outside x.cell (with_piece (sign i) (pieces 0 past.now)))) d
+            ∙ assigned_equal fs n fl x.outside x.cell (pieces 0 past.now) y k.is))
 
-      pub cell_end : y ≡ End → NumbersCell sizes fs fl line at 50
-      cell_end f = token f (sym (assigned_none fs fl outside c))
+        pub cell_bad : ReadsValues fs n fl past.now None → ChecksCell sizes fs fl line (Err UnreadLine)
+        cell_bad k = by_number k refl
 
-      pub cell_unreadable : y ≡ Unreadable → NumbersCell sizes fs fl line at 50
-      cell_unreadable f = token f refl
+        module _ {y : Values} (k : ReadsValues fs n fl past.now (Some y)) where
+          pub cell_outward : x.outside ≡ true → ChecksCell sizes fs fl line (Err OutsideGrid)
+          cell_outward h = by_number k (rw h)
 
-      module _ {b past : ℕ} (f : y ≡ Sign b past) where
-        pub cell_other : (b ≡ 61 → ⊥) → NumbersCell sizes fs fl line at 50
-        cell_other d = token f (sym (assigned_other fs fl outside c b (pieces 0 (drop past line)) d))
+          pub cell_inward : x.outside ≡ false → {r : Result (Unit {0}) Reason} → told r ≡ count_number n y.count y.fit y.kept → ChecksCell sizes fs fl line r
+          cell_inward h e = by_number k (e ∙ rw h)
 
-        module _ (d : b ≡ 61) {m : ℕ} (n : NumbersValues fs fl line past m) where
-          by_number : {r : ℕ} → r ≡ joined_number outside m → NumbersCell sizes fs fl line at r
-          by_number h =
-              token f
-              (h ∙ ap (joined_number outside) n.is ∙ sym (assigned_equal fs fl outside c (pieces 0 (drop past line)))
-              ∙ ap (λ (k : ℕ). place_number fs fl (point_with outside c (with_piece (sign k) (pieces 0 (drop past line))))) (sym d))
-
-          pub cell_bad : m ≡ 50 → NumbersCell sizes fs fl line at 50
-          cell_bad g = by_number (rw g)
-
-          pub cell_outward : (m ≡ 50 → ⊥) → outside ≡ true → NumbersCell sizes fs fl line at 51
-          cell_outward g h = by_number (rw (ne_eqb m 50 g, h))
-
-          pub cell_inward : (m ≡ 50 → ⊥) → outside ≡ false → NumbersCell sizes fs fl line at m
-          cell_inward g h = by_number (rw (ne_eqb m 50 g, h))
-
-pub ruleset CellNumbers = (cell_wrong, cell_literal, cell_end, cell_unreadable, cell_other, cell_bad, cell_outward, cell_inward)
-
-pub place_past : (sizes line : List ℕ) (at : ℕ) {x : Point} {outside : Bool} {c next : ℕ} → ReadsPoint sizes line at x → x ≡ point.At outside c next → next ≤ length line
-place_past sizes line at {x} {outside} {c} {next} w e = let o : PointOnward line at (point.At outside c next) = subst (PointOnward line at) e w.onward in o.1
+pub ruleset CellNumbers = (cell_wrong, cell_unassigned, cell_other, cell_bad, cell_outward, cell_inward)
 
 -- ---- a line
 
-judged_bad : (q : Limits) (least : ℕ) {s : Said} → s ≡ bad → Judged q least s (Refused 50)
-judged_bad q least e = (ap (line_number q (time_before least)) e, omega arith)
+judged_bad : (q : Limits) (before : Optional ℕ) {s : Said} → s ≡ bad → Judged q before s (Err UnreadLine)
+judged_bad q before e = ap (line_number q (time_before before)) e
 
 two_bad : (t : ℕ) (p : Piece) (o : Option (List Piece)) → said_in (with_piece (literal t) (with_piece p o)) ≡ bad
 unfolding said_by
@@ -212,36 +220,32 @@ alone_time : (t : ℕ) → said_by (literal t ∷ []) ≡ time t
 unfolding said_by
 alone_time t = refl
 
-module _ (first last least t : ℕ) (line : List ℕ) (at : ℕ) {x : Lexed} (w : Lexes line at x) where
-  behind_time : {y : Lexed} → x ≡ y → said_in (with_piece (literal t) (pieces 0 (drop at line))) ≡ said_in (with_piece (literal t) (line_tokens line y))
-  behind_time e = ap (λ (o : Option (List Piece)). said_in (with_piece (literal t) o)) (w.is ∙ ap (line_tokens line) e)
+module _ (first last : ℕ) (before : Optional ℕ) (t : ℕ) (line : List ℕ) where
+  pub time_unread : Lexes line None → JudgesTime first last before t line (Err UnreadLine)
+  time_unread w = record { is = λ q a b. judged_bad q before (ap (λ (o : Option (List Piece)). said_in (with_piece (literal t) o)) w.is) }
 
-  pub time_literal : {n next : ℕ} → x ≡ Literal n next → JudgesTime first last least t line at (Refused 50)
-  time_literal {n} {next} e = record { is = λ q a b. judged_bad q least (behind_time e ∙ two_bad t (literal n) (pieces 0 (drop next line))) }
+  followed : (x : Lexed) → Lexes line (Some x) → (x ≡ End → ⊥) → JudgesTime first last before t line (Err UnreadLine)
+  followed (Literal n rest) w d =
+      record { is = λ q a b. judged_bad q before (ap (λ (o : Option (List Piece)). said_in (with_piece (literal t) o)) w.is ∙ two_bad t (literal n) (pieces 0 rest.now)) }
+  followed (Sign k rest) w d =
+      record { is = λ q a b. judged_bad q before (ap (λ (o : Option (List Piece)). said_in (with_piece (literal t) o)) w.is ∙ two_bad t (sign k) (pieces 0 rest.now)) }
+  followed End w d = absurd (d refl)
 
-  pub time_sign : {b next : ℕ} → x ≡ Sign b next → JudgesTime first last least t line at (Refused 50)
-  time_sign {b} {next} e = record { is = λ q _ _. judged_bad q least (behind_time e ∙ two_bad t (sign b) (pieces 0 (drop next line))) }
+  pub time_followed : {x : Lexed} → Lexes line (Some x) → (x ≡ End → ⊥) → JudgesTime first last before t line (Err UnreadLine)
+  time_followed {x} = followed x
 
-  pub time_unreadable : x ≡ Unreadable → JudgesTime first last least t line at (Refused 50)
-  time_unreadable e = record { is = λ q a b. judged_bad q least (behind_time e) }
+  module _ {x : Lexed} (w : Lexes line (Some x)) (e : x ≡ End) where
+    says_time : said_in (with_piece (literal t) (pieces 0 line)) ≡ time t
+    says_time = let v : Lexes line (Some End) = subst (λ (y : Lexed). Lexes line (Some y)) e w in ap (λ (o : Option (List Piece)). said_in (with_piece (literal t) o)) v.is ∙ alone_time t
 
-  module _ (e : x ≡ End) {n : ℕ} (k : NumbersTime first last least t n) where
-    says_time : said_in (with_piece (literal t) (pieces 0 (drop at line))) ≡ time t
-    says_time = behind_time e ∙ alone_time t
+    pub time_taken : {u : Unit {0}} → ChecksTime first last before t (Ok u) → JudgesTime first last before t line (Ok (Some t))
+    time_taken k =
+        record { is = λ q a b. (ap (line_number q (time_before before)) says_time ∙ sym (k.is q a b), ap (time_behind (time_before before)) says_time) }
 
-    pub time_taken : n ≡ 0 → JudgesTime first last least t line at (Right (t + 1))
-    time_taken z =
-        record {
-          is = λ q a b. (
-            ap (line_number q (time_before least)) says_time ∙ sym (k.is q a b) ∙ z,
-            ap (time_behind (time_before least)) says_time ∙ ap time_before (sym (add-one t)),
-          );
-        }
+    pub time_refused : {f : Reason} → ChecksTime first last before t (Err f) → JudgesTime first last before t line (Err f)
+    time_refused k = record { is = λ q a b. ap (line_number q (time_before before)) says_time ∙ sym (k.is q a b) }
 
-    pub time_refused : (n ≡ 0 → ⊥) → JudgesTime first last least t line at (Refused n)
-    time_refused z = record { is = λ q a b. (ap (line_number q (time_before least)) says_time ∙ sym (k.is q a b), positive n z) }
-
-pub ruleset TimeWays = (time_literal, time_sign, time_unreadable, time_taken, time_refused)
+pub ruleset TimeWays = (time_unread, time_followed, time_taken, time_refused)
 
 sign_bad : (b : ℕ) (o : Option (List Piece)) → (b ≡ 91 → ⊥) → said_in (with_piece (sign b) o) ≡ bad
 unfolding said_by
@@ -285,57 +289,54 @@ time_stays before bad h = refl
 time_stays before (time t) h = absurd h
 time_stays before (cell is vs) h = refl
 
-module _ (sizes : List ℕ) (fs : List Range) (fl first last least : ℕ) (line : List ℕ) {x : Lexed} (w : Lexes line 0 x) where
-  first_says : {y : Lexed} → x ≡ y → said_in (pieces 0 line) ≡ said_in (line_tokens line y)
-  first_says e = ap said_in (w.is ∙ ap (line_tokens line) e)
+module _ (sizes : List ℕ) (fs : List Range) (fl first last : ℕ) (before : Optional ℕ) (line : List ℕ) where
+  pub line_unread : Lexes line None → JudgesLine (limits sizes fs fl first last) before line (Err UnreadLine)
+  line_unread w = record { is = judged_bad (limits sizes fs fl first last) before (ap said_in w.is) }
 
-  pub line_blank : x ≡ End → JudgesLine (limits sizes fs fl first last) least line (Refused 50)
-  line_blank e = record { is = judged_bad (limits sizes fs fl first last) least (first_says e ∙ blank_bad) }
+  module _ {x : Lexed} (w : Lexes line (Some x)) where
+    it : {y : Lexed} → x ≡ y → Lexes line (Some y)
+    it e = subst (λ (z : Lexed). Lexes line (Some z)) e w
 
-  pub line_unreadable : x ≡ Unreadable → JudgesLine (limits sizes fs fl first last) least line (Refused 50)
-  line_unreadable e = record { is = judged_bad (limits sizes fs fl first last) least (first_says e) }
+    pub line_blank : x ≡ End → JudgesLine (limits sizes fs fl first last) before line (Err UnreadLine)
+    line_blank e = record { is = judged_bad (limits sizes fs fl first last) before (ap said_in (it e).is ∙ blank_bad) }
 
-  pub line_time : {t next : ℕ} {r : LineRead} → x ≡ Literal t next → JudgesTime first last least t line next r → JudgesLine (limits sizes fs fl first last) least line r
-  line_time {t} {next} {r} e h = record { is = subst (λ (s : Said). Judged (limits sizes fs fl first last) least s r) (sym (first_says e)) (h.is (limits sizes fs fl first last) refl refl) }
+    pub line_time : {t : ℕ} {rest : Bor (List ℕ)} {r : Result (Optional ℕ) Reason} → x ≡ Literal t rest → JudgesTime first last before t rest.now r → JudgesLine (limits sizes fs fl first last) before line r
+    line_time {t} {rest} {r} e h =
+        record { is = subst (λ (s : Said). Judged (limits sizes fs fl first last) before s r) (sym (ap said_in (it e).is)) (h.is (limits sizes fs fl first last) refl refl) }
 
-  module _ {b next : ℕ} (e : x ≡ Sign b next) where
-    pub line_sign : (b ≡ 91 → ⊥) → JudgesLine (limits sizes fs fl first last) least line (Refused 50)
-    line_sign d = record { is = judged_bad (limits sizes fs fl first last) least (first_says e ∙ sign_bad b (pieces 0 (drop next line)) d) }
+    module _ {b : ℕ} {rest : Bor (List ℕ)} (e : x ≡ Sign b rest) where
+      pub line_sign : (b ≡ 91 → ⊥) → JudgesLine (limits sizes fs fl first last) before line (Err UnreadLine)
+      line_sign d = record { is = judged_bad (limits sizes fs fl first last) before (ap said_in (it e).is ∙ sign_bad b (pieces 0 rest.now) d) }
 
-    module _ (d : b ≡ 91) where
-      says_cell : said_in (pieces 0 line) ≡ cell_said (pieces 0 (drop next line))
-      says_cell = first_says e ∙ ap (λ (k : ℕ). said_in (with_piece (sign k) (pieces 0 (drop next line)))) d ∙ bracket_cell (pieces 0 (drop next line))
+      module _ (d : b ≡ 91) where
+        says_cell : said_in (pieces 0 line) ≡ cell_said (pieces 0 rest.now)
+        says_cell = ap said_in (it e).is ∙ ap (λ (k : ℕ). said_in (with_piece (sign k) (pieces 0 rest.now))) d ∙ bracket_cell (pieces 0 rest.now)
 
-      pub line_early : least < 1 → JudgesLine (limits sizes fs fl first last) least line (Refused 50)
-      line_early l =
-          let z : least ≡ 0 = omega arith in
-          record {
-            is = (
-              ap₂ (λ (m : ℕ) (s : Said). line_number (limits sizes fs fl first last) (time_before m) s) z says_cell
-                  ∙ before_any (limits sizes fs fl first last) (cell_said (pieces 0 (drop next line))) (cell_timeless (pieces 0 (drop next line))),
-              omega arith,
-            );
-          }
-
-      module _ (l : 1 ≤ least) {n : ℕ} (k : NumbersCell sizes fs fl line next n) where
-        numbers : line_number (limits sizes fs fl first last) (time_before least) (said_in (pieces 0 line)) ≡ n
-        numbers = by least l
+        pub line_early : {t : Bool} → t ≡ has_some before → t ≡ false → JudgesLine (limits sizes fs fl first last) before line (Err UnreadLine)
+        line_early {t} f l = record { is = by before (sym f ∙ l) }
           where
-            by : (m : ℕ) → 1 ≤ m → line_number (limits sizes fs fl first last) (time_before m) (said_in (pieces 0 line)) ≡ n
-            by zero h = absurd (omega arith)
-            by (suc t) h = ap (line_number (limits sizes fs fl first last) (some t)) says_cell ∙ sym (k.is (limits sizes fs fl first last) t refl refl refl)
+            by : (o : Optional ℕ) → has_some o ≡ false → Judged (limits sizes fs fl first last) o (said_in (pieces 0 line)) (Err UnreadLine)
+            by None g = ap (line_number (limits sizes fs fl first last) none) says_cell ∙ before_any (limits sizes fs fl first last) (cell_said (pieces 0 rest.now)) (cell_timeless (pieces 0 rest.now))
+            by (Some u) g = never (sym g)
 
-        pub line_right : n ≡ 0 → JudgesLine (limits sizes fs fl first last) least line (Right least)
-        line_right z =
-            record {
-              is =
-                  (numbers ∙ z, ap (time_behind (time_before least)) says_cell ∙ time_stays (time_before least) (cell_said (pieces 0 (drop next line))) (cell_timeless (pieces 0 (drop next line))));
-            }
+        module _ {t : Bool} (f : t ≡ has_some before) (l : t ≡ true) where
+          numbers : {r : Result (Unit {0}) Reason} → ChecksCell sizes fs fl rest.now r → line_number (limits sizes fs fl first last) (time_before before) (said_in (pieces 0 line)) ≡ told r
+          numbers {r} k = by before (sym f ∙ l)
+            where
+              by : (o : Optional ℕ) → has_some o ≡ true → line_number (limits sizes fs fl first last) (time_before o) (said_in (pieces 0 line)) ≡ told r
+              by None g = never g
+              by (Some u) g = ap (line_number (limits sizes fs fl first last) (some u)) says_cell ∙ sym (k.is (limits sizes fs fl first last) u refl refl refl)
 
-        pub line_refused : (n ≡ 0 → ⊥) → JudgesLine (limits sizes fs fl first last) least line (Refused n)
-        line_refused z = record { is = (numbers, positive n z) }
+          pub line_right : {u : Unit {0}} → ChecksCell sizes fs fl rest.now (Ok u) → JudgesLine (limits sizes fs fl first last) before line (Ok before)
+          line_right k =
+              record {
+                is = (numbers k, ap (time_behind (time_before before)) says_cell ∙ time_stays (time_before before) (cell_said (pieces 0 rest.now)) (cell_timeless (pieces 0 rest.now)));
+              }
 
-pub ruleset LineWays = (line_blank, line_unreadable, line_time, line_sign, line_early, line_right, line_refused)
+          pub line_refused : {g : Reason} → ChecksCell sizes fs fl rest.now (Err g) → JudgesLine (limits sizes fs fl first last) before line (Err g)
+          line_refused k = record { is = numbers k }
+
+pub ruleset LineWays = (line_unread, line_blank, line_time, line_sign, line_early, line_right, line_refused)
 
 -- ---- the first line of a text from a position on
 
@@ -361,12 +362,9 @@ module _ (text : List ℕ) (at : ℕ) (l : at < length text) {end : ℕ} (e : Li
 
 -- ---- a list
 
-abbrev as_verdict : declared.Verdict → Verdict
-as_verdict r = verdict r.number r.line
-
 -- the check goes on at a line from `at` on, with number n
-pub record Checking (q : Limits) (text : List ℕ) (least n at : ℕ) : Type 0 where
-  pub is : check_list q text ≡ check_lines q (time_before least) n (said (drop at text))
+pub record Checking (q : Limits) (text : List ℕ) (before : Optional ℕ) (n at : ℕ) : Type 0 where
+  pub is : check_list q text ≡ check_lines q (time_before before) n (said (drop at text))
   pub within : at ≤ length text
   pub few : n ≤ at + 1
 
@@ -386,38 +384,80 @@ lines_none : (q : Limits) (before : Option ℕ) (n : ℕ) → check_lines q befo
 unfolding check_lines
 lines_none q before n = refl
 
+-- a reason's number is none that says that a line is right
+some_number : (e : Reason) → 0 < reason_number e
+some_number reason.Buffers = lit< tt
+some_number reason.LongSource = lit< tt
+some_number reason.NoToken = lit< tt
+some_number reason.LargeLiteral = lit< tt
+some_number reason.ManyTokens = lit< tt
+some_number reason.OtherForm = lit< tt
+some_number reason.NotAllowed = lit< tt
+some_number reason.UnknownName = lit< tt
+some_number reason.UsedName = lit< tt
+some_number reason.WrongUse = lit< tt
+some_number reason.BareRelation = lit< tt
+some_number reason.DeepNesting = lit< tt
+some_number reason.ManyNames = lit< tt
+some_number reason.Shape = lit< tt
+some_number reason.GridLength = lit< tt
+some_number reason.Times = lit< tt
+some_number reason.LargeIndex = lit< tt
+some_number reason.FieldRange = lit< tt
+some_number reason.OutOfRange = lit< tt
+some_number reason.ZeroDivisor = lit< tt
+some_number reason.ArrayIndex = lit< tt
+some_number reason.AssignedValue = lit< tt
+some_number reason.Dimensions = lit< tt
+some_number reason.EmptyRange = lit< tt
+some_number reason.LongLoop = lit< tt
+some_number reason.ManyFields = lit< tt
+some_number reason.ArraySize = lit< tt
+some_number reason.ArrayValues = lit< tt
+some_number reason.UnreadLine = lit< tt
+some_number reason.OutsideGrid = lit< tt
+some_number reason.ManyValues = lit< tt
+some_number reason.ListedValue = lit< tt
+some_number reason.TimeNotRising = lit< tt
+some_number reason.TimeBeforeStart = lit< tt
+some_number reason.TimePastEnd = lit< tt
+some_number reason.ShortRoom = lit< tt
+some_number reason.UnsetFlag = lit< tt
+some_number reason.NoPlan = lit< tt
+some_number reason.WrongPlan = lit< tt
+some_number reason.RowCounts = lit< tt
+some_number reason.NoZeroRow = lit< tt
+
 module _ (q : Limits) (text : List ℕ) where
-  pub check_start : Checking q text 0 1 0
+  pub check_start : Checking q text None 1 0
   unfolding check_list
   check_start = record { is = refl; within = omega arith; few = omega arith }
 
-  module _ {least n at : ℕ} (w : Checking q text least n at) where
-    pub check_done : {r : declared.Verdict} → length text ≤ at → r ≡ answer 0 0 → ChecksLines q text r
-    check_done l v =
-        record { is = ap as_verdict v ∙ sym (w.is ∙ ap (λ (s : List ℕ). check_lines q (time_before least) n (said s)) (drop_of_length-le text l) ∙ ap (check_lines q (time_before least) n) said_nothing ∙ lines_none q (time_before least) n) }
+  module _ {before : Optional ℕ} {n at : ℕ} (w : Checking q text before n at) where
+    pub check_done : length text ≤ at → ChecksLines q text (Ok tt)
+    check_done l =
+        record { is = sym (w.is ∙ ap (λ (s : List ℕ). check_lines q (time_before before) n (said s)) (drop_of_length-le text l) ∙ ap (check_lines q (time_before before) n) said_nothing ∙ lines_none q (time_before before) n) }
 
     module _ (l : at < length text) {end : ℕ} (e : LineEnds text at end) where
-      pub check_unended : {r : declared.Verdict} → length text ≤ end → r ≡ answer 50 n → ChecksLines q text r
-      check_unended m v =
-          record { is = ap as_verdict v ∙ sym (w.is ∙ ap (check_lines q (time_before least) n) (last_line text at l e m) ∙ lines_refused q (time_before least) n bad [] 50 refl (omega arith)) }
+      pub check_unended : length text ≤ end → ChecksLines q text (Err (record { reason = UnreadLine; line = n }))
+      check_unended m =
+          record { is = sym (w.is ∙ ap (check_lines q (time_before before) n) (last_line text at l e m) ∙ lines_refused q (time_before before) n bad [] 50 refl (omega arith)) }
 
-      module _ (m : end < length text) {x : LineRead} (j : JudgesLine q least (take (end - at) (drop at text)) x) where
-        pub check_refused : {k : ℕ} {r : declared.Verdict} → x ≡ Refused k → r ≡ answer k n → ChecksLines q text r
-        check_refused {k} f v =
-            let h : Judged q least (said_in (pieces 0 (take (end - at) (drop at text)))) (Refused k) = subst (Judged q least (said_in (pieces 0 (take (end - at) (drop at text))))) f j.is in
+      module _ (m : end < length text) where
+        pub check_refused : {f : Reason} → JudgesLine q before (take (end - at) (drop at text)) (Err f) → ChecksLines q text (Err (record { reason = f; line = n }))
+        check_refused {f} j =
             record {
-              is = ap as_verdict v ∙ sym
-                  (w.is ∙ ap (check_lines q (time_before least) n) (first_line text at l e m)
-                  ∙ lines_refused q (time_before least) n (said_in (pieces 0 (take (end - at) (drop at text)))) (said (drop (end + 1) text)) k h.0 h.1);
+              is = sym
+                  (w.is ∙ ap (check_lines q (time_before before) n) (first_line text at l e m)
+                  ∙ lines_refused q (time_before before) n (said_in (pieces 0 (take (end - at) (drop at text)))) (said (drop (end + 1) text)) (reason_number f) j.is (some_number f));
             }
 
-        pub check_again : {k : ℕ} → x ≡ Right k → Checking q text k (n + 1) (end + 1)
-        check_again {k} f =
-            let h : Judged q least (said_in (pieces 0 (take (end - at) (drop at text)))) (Right k) = subst (Judged q least (said_in (pieces 0 (take (end - at) (drop at text))))) f j.is in
+        pub check_again : {after : Optional ℕ} → JudgesLine q before (take (end - at) (drop at text)) (Ok after) → Checking q text after (n + 1) (end + 1)
+        check_again {after} j =
             record {
-              is = w.is ∙ ap (check_lines q (time_before least) n) (first_line text at l e m)
-                  ∙ lines_right q (time_before least) n (said_in (pieces 0 (take (end - at) (drop at text)))) (said (drop (end + 1) text)) h.0
-                  ∙ ap₂ (λ (b : Option ℕ) (i : ℕ). check_lines q b i (said (drop (end + 1) text))) h.1 (sym (add-one n));
+              is = w.is ∙ ap (check_lines q (time_before before) n) (first_line text at l e m)
+                  ∙ lines_right q (time_before before) n (said_in (pieces 0 (take (end - at) (drop at text)))) (said (drop (end + 1) text)) j.is.0
+                  ∙ ap₂ (λ (b : Option ℕ) (i : ℕ). check_lines q b i (said (drop (end + 1) text))) j.is.1 (sym (add-one n));
               within = omega arith;
               few = let a = w.few in let b = e.onward in omega arith;
             }

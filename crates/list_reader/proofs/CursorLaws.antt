@@ -28,10 +28,9 @@ use Rattle.list_meaning.specs.Promises.Passing.{LinePasses}
 use Rattle.list_meaning.proofs.Passing.{passes_first, rises_told, starts_told, not_yet}
 use Rattle.list_reader.specs.Promises.Points.{Dimensions}
 use Rattle.list_reader.specs.Promises.Values.{fields_in}
-use Rattle.list_reader.specs.declared.checking.Verdict as declared
+use Rattle.std.proofs.Common.{Option as Optional, Some, None, Ok}
 use Rattle.list_reader.specs.Promises.Checks.{limits, ChecksLines}
-use Rattle.list_reader.specs.declared.setting.Due.{Due}
-use Rattle.list_reader.specs.declared.setting.Due.TheVariants.{Nothing, At}
+use Rattle.list_reader.specs.declared.setting.Block.{Block}
 use Rattle.list_reader.specs.Promises.Settings.{AtBlock, SetBlock, SetsLines, NextTime}
 use Rattle.list_reader.proofs.SettingLaws.{set_nothing}
 
@@ -64,16 +63,19 @@ dimensions_are p q d e =
     let z = eqb-true (length q.sizes) p.dims y.0 in
     record { few = omega arith; each = y.1 }
 
--- a list with number 0 passes
-pub checked_passes : {q : Limits} {text : List ℕ} {r : declared.Verdict} → ChecksLines q text r → r.number ≡ 0 → LinePasses q none 1 (said text)
+-- a list that is not refused passes
+pub checked_passes : {q : Limits} {text : List ℕ} {u : Unit {0}} → ChecksLines q text (Ok u) → LinePasses q none 1 (said text)
 unfolding check_list
-checked_passes c e = record { is = ap (λ (v : Verdict). v.number) (sym c.is) ∙ e }
+checked_passes c = record { is = ap (λ (v : Verdict). v.number) (sym c.is) }
 
 -- ---- the cursor
 
-abbrev is_at : Due → Bool
-is_at Nothing = false
-is_at (At t behind) = true
+abbrev is_at : Optional Block → Bool
+is_at None = false
+is_at (Some b) = true
+
+abbrev at_time : ℕ → ℕ → Block
+at_time t behind = record { time = t; behind = behind }
 
 -- of a list that passes: what stands before `at` sets nothing from the time `now` on, and a block begins at `at`, or the list ends there
 pub record Reached (q : Limits) (sizes : List ℕ) (fields : ℕ) (text : List ℕ) (now at : ℕ) : Type 0 where
@@ -130,9 +132,9 @@ module _ (q : Limits) (sizes : List ℕ) (fields : ℕ) (text : List ℕ) where
         ahead = λ t ss e. omega (arith, later t ss e);
       }
 
-  module _ {now at : ℕ} (w : Reached q sizes fields text now at) {r : Due} (n : NextTime text at r) where
+  module _ {now at : ℕ} (w : Reached q sizes fields text now at) {r : Optional Block} (n : NextTime text at r) where
     -- no block is due: no time from now on has one
-    pub none_due : r ≡ Nothing → (u : ℕ) → now ≤ u → (g : List ℤ) → set_block sizes fields text u g ≡ g
+    pub none_due : r ≡ None → (u : ℕ) → now ≤ u → (g : List ℤ) → set_block sizes fields text u g ≡ g
     none_due e u l g = w.skips u l g ∙ by (said (drop at text)) refl w.opens
       where
         by : (ss : List Said) → said (drop at text) ≡ ss → AtBlock ss → set_lines sizes fields u false g (said (drop at text)) ≡ g
@@ -141,7 +143,7 @@ module _ (q : Limits) (sizes : List ℕ) (fields : ℕ) (text : List ℕ) where
         by (time t ∷ ss) f o = never (ap is_at (sym e ∙ (n.begins t ss f).is))
         by (cell is vs ∷ ss) f o = absurd o
 
-    module _ {t behind : ℕ} (e : r ≡ At t behind) where
+    module _ {t behind : ℕ} (e : r ≡ Some (record { time = t; behind = behind })) where
       -- the lines from here on
       lines_here : Lines text at t behind
       lines_here = by (said (drop at text)) refl w.opens
@@ -151,9 +153,10 @@ module _ (q : Limits) (sizes : List ℕ) (fields : ℕ) (text : List ℕ) where
           by (bad ∷ ss) f o = absurd o
           by (time u ∷ ss) f o =
               let b = n.begins u ss f in
-              let d : At u b.behind ≡ At t behind = sym b.is ∙ e in
-              let x : u ≡ t = cc in
-              let y : b.behind ≡ behind = cc in
+              let d : Some (at_time u b.behind) ≡ Some (at_time t behind) = sym b.is ∙ e in
+              let f₂ : at_time u b.behind ≡ at_time t behind = cc in
+              let x : u ≡ t = ap (λ (k : Block). k.time) f₂ in
+              let y : b.behind ≡ behind = ap (λ (k : Block). k.behind) f₂ in
               record { is = f ∙ ap₂ (λ (v : ℕ) (z : List Said). time v ∷ z) x (sym b.rest ∙ ap (λ (i : ℕ). said (drop i text)) y) }
           by (cell is vs ∷ ss) f o = absurd o
 

@@ -7,16 +7,15 @@ use Prim.Native.Nat.{ℕ, suc, ◌+◌, ◌-◌, ◌*◌, ◌≤◌, ◌<◌}
 use native.Mathlib.Nat.{zero-mul, zero-add, mul-le-mul_left}
 use native.Mathlib.Omega.{arith}
 use native.Mathlib.Numerals.{add-one}
-use lib.ListN.{length, take, drop, set, drop_of_length-le}
+use lib.ListN.{length, take, drop, drop_of_length-le}
 use lib.Seq.{set_out}
 use lib.IntN.{ℤ}
-use lib.Dec.{eqb}
+use lib.Dec.{eqb, ltb}
 use mir.Syntax.{w64}
 use mir.Val.{Fits}
-use borrow.Author.Tests.{eq-eqb}
+use borrow.Author.Tests.{eq-eqb, ltb-true, ltb-false}
 use Rattle.std.specs.Prelude.{if◌then◌else◌}
 use Rattle.value.proofs.Theorems.Laws.{never}
-use Rattle.value.specs.declared.Value.{Value}
 use Rattle.automaton.specs.Shape as shape
 use Rattle.automaton.specs.Shape.{product}
 use Rattle.list_meaning.specs.Text.{Piece, literal, sign, with_piece, pieces}
@@ -28,19 +27,13 @@ use Rattle.list_meaning.proofs.Walking.{place_is, place_none, one_stored}
 use Rattle.list_meaning.specs.Promises.Passing.{LinePasses}
 use Rattle.list_meaning.proofs.Passing.{passes_first, block_ends}
 use Rattle.list_meaning.proofs.Theorems.Kept.{right_cell}
-use Rattle.list_reader.specs.declared.Lexed.{Lexed}
-use Rattle.list_reader.specs.declared.Lexed.TheVariants.{Literal, Sign, End, Unreadable}
-use Rattle.list_reader.specs.Promises.Promises.{LineEnds, line_tokens, Lexes}
+use Rattle.std.proofs.Common.{Bor, Option as Optional, Some, None, is_some as has_some}
+use Rattle.list_reader.specs.Promises.Promises.{LineEnds, NoLiteral, NoSign, ReadsLiteral, ReadsSign}
 use Rattle.list_reader.specs.declared.points.Point.{Point}
-use Rattle.list_reader.specs.declared.points.Point.TheVariants as point
-use Rattle.list_reader.specs.Promises.Points.{point_in, point_with, point_of, PointOnward, ReadsPoint}
-use Rattle.list_reader.specs.declared.values.Given.{Given}
-use Rattle.list_reader.specs.declared.values.Given.TheVariants as given
+use Rattle.list_reader.specs.Promises.Points.{point_in, point_with, ReadsPoint}
 use Rattle.list_reader.specs.declared.values.Valued.{Valued}
-use Rattle.list_reader.specs.declared.values.Valued.TheVariants as valued
-use Rattle.list_reader.specs.Promises.Values.{line_values, given_of, valued_of, ValuedOnward, ReadsValue}
+use Rattle.list_reader.specs.Promises.Values.{line_values, given_of, further, ReadsValue}
 use Rattle.list_reader.specs.Promises.Checks.{cell_said}
-use Rattle.list_reader.specs.declared.setting.Due.TheVariants.{Nothing, At}
 use Rattle.list_reader.specs.Promises.Settings.{StoresValues, StoresCell, StoresLine, TellsTime, AtBlock, SetBlock, SetsLines, NextTime}
 use Rattle.list_reader.proofs.CheckLaws.{last_line, first_line, said_nothing}
 
@@ -68,11 +61,6 @@ abbrev is_placed : Placed → Bool
 is_placed wrong = false
 is_placed (placed out c ps) = true
 
--- ---- one value
-
-pub store_number : (g : List ℤ) (e : ℕ) {v : Given} {z : Value} {h : List ℤ} → v ≡ given.Number z → h ≡ set g e z.n → h ≡ store_one g e (given_of v)
-store_number g e q s = s ∙ ap (λ (x : Given). store_one g e (given_of x)) (sym q)
-
 -- ---- the values of a line
 
 -- behind the grid nothing is stored
@@ -90,14 +78,13 @@ unfolding store_values
 store_end g e = refl
 
 -- values are left to be stored from entry e on, which then make up a grid
-pub record Left (line : List ℕ) (here e : ℕ) (g whole : List ℤ) : Type 0 where
+pub record Left (here : List ℕ) (e : ℕ) (g whole : List ℤ) : Type 0 where
   pub rest : List (Option ℤ)
-  pub reads : line_values (pieces 0 (drop here line)) ≡ some rest
+  pub reads : line_values (pieces 0 here) ≡ some rest
   pub stores : whole ≡ store_values g e rest
 
-pub record Storing (line : List ℕ) (at entry : ℕ) (g₀ : List ℤ) (here e : ℕ) (g : List ℤ) : Type 0 where
-  pub going : (vs : List (Option ℤ)) → line_values (pieces 0 (drop at line)) ≡ some vs → Left line here e g (store_values g₀ entry vs)
-  pub within : here ≤ length line
+pub record Storing (line : List ℕ) (entry : ℕ) (g₀ : List ℤ) (here : List ℕ) (e : ℕ) (g : List ℤ) : Type 0 where
+  pub going : (vs : List (Option ℤ)) → line_values (pieces 0 line) ≡ some vs → Left here e g (store_values g₀ entry vs)
 
 -- values with one in front
 pub record Fronted (v : Option ℤ) (o : Option (List (Option ℤ))) (vs : List (Option ℤ)) : Type 0 where
@@ -109,46 +96,43 @@ fronted : (v : Option ℤ) (o : Option (List (Option ℤ))) (vs : List (Option �
 fronted v none vs e = never (ap is_some e)
 fronted v (some ws) vs e = record { rest = ws; is = refl; whole = cc }
 
-module _ (line : List ℕ) (at entry : ℕ) (g₀ : List ℤ) where
-  pub store_start : at ≤ length line → Storing line at entry g₀ at entry g₀
-  store_start l = record { going = λ vs e. record { rest = vs; reads = e; stores = refl }; within = l }
+module _ (line : List ℕ) (entry : ℕ) (g₀ : List ℤ) where
+  pub store_start : Storing line entry g₀ line entry g₀
+  store_start = record { going = λ vs e. record { rest = vs; reads = e; stores = refl } }
 
-  module _ {here e : ℕ} {g : List ℤ} (w : Storing line at entry g₀ here e g) where
-    pub store_out : length g ≤ e → StoresValues line at entry g₀ g
+  module _ {here : List ℕ} {e : ℕ} {g : List ℤ} (w : Storing line entry g₀ here e g) where
+    pub store_out : length g ≤ e → StoresValues line entry g₀ g
     store_out l = record { is = λ vs p. let k = w.going vs p in sym (k.stores ∙ store_past k.rest g e l) }
 
-    module _ {x : Valued} (r : ReadsValue line here x) where
-      pub store_bad : x ≡ valued.Bad → StoresValues line at entry g₀ g
-      store_bad f = record { is = λ vs p. let k = w.going vs p in never (ap is_some (sym (r.is ∙ ap (valued_of line) f) ∙ k.reads)) }
+    pub store_bad : ReadsValue here None → StoresValues line entry g₀ g
+    store_bad r = record { is = λ vs p. let k = w.going vs p in never (ap is_some (sym r.is ∙ k.reads)) }
 
-      module _ {v : Given} {h : List ℤ} (s : h ≡ store_one g e (given_of v)) where
-        pub store_last : x ≡ valued.Last v → StoresValues line at entry g₀ h
-        store_last f =
-            record {
-              is = λ vs p.
-                  let k = w.going vs p in
-                  let t = fronted (given_of v) (some []) k.rest (sym (r.is ∙ ap (valued_of line) f) ∙ k.reads) in
-                  let n : t.rest ≡ [] = nothing t.rest t.is in
-                  s ∙ sym (k.stores ∙ ap (store_values g e) (t.whole ∙ ap (λ (ws : List (Option ℤ)). given_of v ∷ ws) n) ∙ store_first g e (given_of v) [] ∙ store_end (store_one g e (given_of v)) (suc e));
-            }
-          where
-            nothing : (ws : List (Option ℤ)) → some [] ≡ some ws → ws ≡ []
-            nothing ws q = cc
+    module _ {v : Valued} (r : ReadsValue here (Some v)) {h : List ℤ} (s : h ≡ store_one g e (given_of v.given)) where
+      pub store_last : v.next ≡ None → StoresValues line entry g₀ h
+      store_last f =
+          record {
+            is = λ vs p.
+                let k = w.going vs p in
+                let t = fronted (given_of v.given) (some []) k.rest (ap (λ (o : Optional (Bor (List ℕ))). before_values (given_of v.given) (further o)) (sym f) ∙ sym r.is ∙ k.reads) in
+                let n : t.rest ≡ [] = nothing t.rest t.is in
+                s ∙ sym (k.stores ∙ ap (store_values g e) (t.whole ∙ ap (λ (ws : List (Option ℤ)). given_of v.given ∷ ws) n) ∙ store_first g e (given_of v.given) [] ∙ store_end (store_one g e (given_of v.given)) (suc e));
+          }
+        where
+          nothing : (ws : List (Option ℤ)) → some [] ≡ some ws → ws ≡ []
+          nothing ws q = cc
 
-        pub store_more : {next : ℕ} → x ≡ valued.More v next → Storing line at entry g₀ next (e + 1) h
-        store_more {next} f =
-            let o : ValuedOnward line here (valued.More v next) = subst (ValuedOnward line here) f r.onward in
-            record {
-              going = λ vs p.
-                  let k = w.going vs p in
-                  let t = fronted (given_of v) (line_values (pieces 0 (drop next line))) k.rest (sym (r.is ∙ ap (valued_of line) f) ∙ k.reads) in
-                  record {
-                    rest = t.rest;
-                    reads = t.is;
-                    stores = k.stores ∙ ap (store_values g e) t.whole ∙ store_first g e (given_of v) t.rest ∙ ap₂ (λ (y : List ℤ) (i : ℕ). store_values y i t.rest) (sym s) (sym (add-one e));
-                  };
-              within = o.1;
-            }
+      pub store_more : {rest : Bor (List ℕ)} → v.next ≡ Some rest → Storing line entry g₀ rest.now (e + 1) h
+      store_more {rest} f =
+          record {
+            going = λ vs p.
+                let k = w.going vs p in
+                let t = fronted (given_of v.given) (line_values (pieces 0 rest.now)) k.rest (ap (λ (o : Optional (Bor (List ℕ))). before_values (given_of v.given) (further o)) (sym f) ∙ sym r.is ∙ k.reads) in
+                record {
+                  rest = t.rest;
+                  reads = t.is;
+                  stores = k.stores ∙ ap (store_values g e) t.whole ∙ store_first g e (given_of v.given) t.rest ∙ ap₂ (λ (y : List ℤ) (i : ℕ). store_values y i t.rest) (sym s) (sym (add-one e));
+                };
+          }
 
 pub ruleset StoreWays = (store_start, store_out, store_bad, store_last, store_more)
 
@@ -195,14 +179,12 @@ placed_told : (out : Bool) (c : ℕ) (o : Option (List Piece)) (outside : Bool) 
 placed_told out c none outside n rest e = never (ap is_placed e)
 placed_told out c (some ps) outside n rest e = (cc, ap some (let h : ps ≡ rest = cc in h))
 
-assigned_literal : (m : ℕ) (o : Option (List Piece)) (rest : List Piece) (vs : List (Option ℤ)) → with_piece (literal m) o ≡ some rest → assigned rest ≡ some vs → ⊥
+assigned_other : (o : Option (List Piece)) → NoSign o → (rest : List Piece) (vs : List (Option ℤ)) → o ≡ some rest → assigned rest ≡ some vs → ⊥
 unfolding assigned
-assigned_literal m none rest vs e f = never (ap is_read e)
-assigned_literal m (some ps) rest vs e f = let h : literal m ∷ ps ≡ rest = cc in never (ap is_some (ap assigned h ∙ f))
-
-assigned_nothing : (rest : List Piece) (vs : List (Option ℤ)) → some [] ≡ some rest → assigned rest ≡ some vs → ⊥
-unfolding assigned
-assigned_nothing rest vs e f = let h : [] ≡ rest = cc in never (ap is_some (ap assigned h ∙ f))
+assigned_other none h rest vs e f = never (ap is_read e)
+assigned_other (some []) h rest vs e f = let g : [] ≡ rest = cc in never (ap is_some (ap assigned g ∙ f))
+assigned_other (some (literal m ∷ ps)) h rest vs e f = let g : literal m ∷ ps ≡ rest = cc in never (ap is_some (ap assigned g ∙ f))
+assigned_other (some (sign b ∷ ps)) h rest vs e f = absurd h
 
 assigned_sign : (b : ℕ) (o : Option (List Piece)) (rest : List Piece) (vs : List (Option ℤ)) → with_piece (sign b) o ≡ some rest → assigned rest ≡ some vs → line_values o ≡ some vs
 unfolding assigned
@@ -213,47 +195,44 @@ assigned_sign b (some ps) rest vs e f = let h : sign b ∷ ps ≡ rest = cc in b
     by true q = q
     by false q = never (ap is_some q)
 
-module _ (sizes : List ℕ) (fields : ℕ) (line : List ℕ) (at : ℕ) (g : List ℤ) {x : Point} (w : ReadsPoint sizes line at x) where
-  walked : {y : Point} → x ≡ y → {is : List ℕ} {vs : List (Option ℤ)} → (k : CellTold sizes (pieces 0 (drop at line)) is vs) → point_of line y ≡ placed k.outside (shape.cell_number sizes is) k.rest
-  walked e k = sym (w.is ∙ ap (point_of line) e) ∙ k.walk
+module _ (sizes : List ℕ) (fields : ℕ) (line : List ℕ) (g : List ℤ) where
+  pub cell_nowhere : ReadsPoint sizes line None → StoresCell sizes fields line g g
+  cell_nowhere w = record { is = λ is vs p l. let k = cell_told sizes (pieces 0 line) is vs p l in never (ap is_placed (sym w.is ∙ k.walk)) }
 
-  pub cell_nowhere : x ≡ point.Wrong → StoresCell sizes fields line at g g
-  cell_nowhere e = record { is = λ is vs p l. never (ap is_placed (walked e (cell_told sizes (pieces 0 (drop at line)) is vs p l))) }
+  module _ {x : Point} (w : ReadsPoint sizes line (Some x)) where
+    found : {is : List ℕ} {vs : List (Option ℤ)} → (k : CellTold sizes (pieces 0 line) is vs) → (x.cell ≡ shape.cell_number sizes is) × (pieces 0 x.rest.now ≡ some k.rest)
+    found {is} k = placed_told x.outside x.cell (pieces 0 x.rest.now) k.outside (shape.cell_number sizes is) k.rest (sym w.is ∙ k.walk)
 
-  module _ {out : Bool} {c next : ℕ} (e : x ≡ point.At out c next) {y : Lexed} (v : Lexes line next y) where
-    found : {z : Lexed} → y ≡ z → {is : List ℕ} {vs : List (Option ℤ)} → (k : CellTold sizes (pieces 0 (drop at line)) is vs) → (c ≡ shape.cell_number sizes is) × (line_tokens line z ≡ some k.rest)
-    found f {is} k =
-        let h = placed_told out c (pieces 0 (drop next line)) k.outside (shape.cell_number sizes is) k.rest (walked e k) in
-        (h.0, sym (v.is ∙ ap (line_tokens line) f) ∙ h.1)
+    pub cell_unassigned : ReadsSign x.rest.now None → StoresCell sizes fields line g g
+    cell_unassigned v =
+        record { is = λ is vs p l. let k = cell_told sizes (pieces 0 line) is vs p l in absurd (assigned_other (pieces 0 x.rest.now) v.is k.rest vs (found k).1 k.told) }
 
-    pub cell_literal : {m past : ℕ} → y ≡ Literal m past → StoresCell sizes fields line at g g
-    cell_literal {m} {past} f =
-        record { is = λ is vs p l. let k = cell_told sizes (pieces 0 (drop at line)) is vs p l in absurd (assigned_literal m (pieces 0 (drop past line)) k.rest vs (found f k).1 k.told) }
-
-    pub cell_end : y ≡ End → StoresCell sizes fields line at g g
-    cell_end f = record { is = λ is vs p l. let k = cell_told sizes (pieces 0 (drop at line)) is vs p l in absurd (assigned_nothing k.rest vs (found f k).1 k.told) }
-
-    pub cell_unreadable : y ≡ Unreadable → StoresCell sizes fields line at g g
-    cell_unreadable f = record { is = λ is vs p l. let k = cell_told sizes (pieces 0 (drop at line)) is vs p l in never (ap is_read (found f k).1) }
-
-    pub cell_stored : {b past : ℕ} {h : List ℤ} → y ≡ Sign b past → StoresValues line past (c * fields) g h → StoresCell sizes fields line at g h
-    cell_stored {b} {past} f s =
+    pub cell_stored : {b : ℕ} {past : Bor (List ℕ)} {h : List ℤ} → ReadsSign x.rest.now (Some (b, past)) → StoresValues past.now (x.cell * fields) g h → StoresCell sizes fields line g h
+    cell_stored {b} {past} v s =
         record {
           is = λ is vs p l.
-              let k = cell_told sizes (pieces 0 (drop at line)) is vs p l in
-              let m = found f k in
-              s.is vs (assigned_sign b (pieces 0 (drop past line)) k.rest vs m.1 k.told) ∙ ap (λ (n : ℕ). store_values g (n * fields) vs) m.0;
+              let k = cell_told sizes (pieces 0 line) is vs p l in
+              let m = found k in
+              s.is vs (assigned_sign b (pieces 0 past.now) k.rest vs (sym v.is ∙ m.1) k.told) ∙ ap (λ (n : ℕ). store_values g (n * fields) vs) m.0;
         }
 
-pub ruleset CellWays = (cell_nowhere, cell_literal, cell_end, cell_unreadable, cell_stored)
-
-pub cell_bound : (sizes line : List ℕ) (at : ℕ) {x : Point} {out : Bool} {c next : ℕ} → ReadsPoint sizes line at x → x ≡ point.At out c next → c ≤ 72057594037927936
-cell_bound sizes line at {x} {out} {c} {next} w e = let o : PointOnward line at (point.At out c next) = subst (PointOnward line at) e w.onward in o.2
+pub cell_bound : (sizes line : List ℕ) {x : Point} → ReadsPoint sizes line (Some x) → x.cell ≤ 72057594037927936
+cell_bound sizes line w = w.onward.1
 
 pub entry_fits : (c f : ℕ) → c ≤ 72057594037927936 → f ≤ 64 → Fits w64 (c * f)
 entry_fits c f a b = omega (arith, mul-le-mul_left c b)
 
+pub ruleset CellWays = (cell_nowhere, cell_unassigned, cell_stored, cell_bound, entry_fits)
+
 -- ---- a line
+
+no_sign_cell : (o : Option (List Piece)) → NoSign o → (is : List ℕ) (vs : List (Option ℤ)) → said_in o ≡ cell is vs → ⊥
+unfolding said_by
+no_sign_cell none h is vs e = never (ap is_cell e)
+no_sign_cell (some []) h is vs e = never (ap is_cell e)
+no_sign_cell (some (literal t ∷ [])) h is vs e = never (ap is_cell e)
+no_sign_cell (some (literal t ∷ p ∷ ps)) h is vs e = never (ap is_cell e)
+no_sign_cell (some (sign b ∷ ps)) h is vs e = absurd h
 
 literal_cell : (t : ℕ) (o : Option (List Piece)) (is : List ℕ) (vs : List (Option ℤ)) → said_in (with_piece (literal t) o) ≡ cell is vs → ⊥
 unfolding said_by
@@ -284,51 +263,34 @@ index_untimed : (o : Option Indexed) → is_time (cell_of_index o) ≡ false
 index_untimed none = refl
 index_untimed (some i) = with_untimed i.index (assigned i.rest)
 
-sign_time : (b : ℕ) (o : Option (List Piece)) (u : ℕ) → said_in (with_piece (sign b) o) ≡ time u → ⊥
+no_literal_time : (o : Option (List Piece)) → NoLiteral o → (u : ℕ) → said_in o ≡ time u → ⊥
 unfolding said_by
-sign_time b none u e = never (ap is_time e)
-sign_time b (some ps) u e = by (eqb b 91) e
+no_literal_time none h u e = never (ap is_time e)
+no_literal_time (some []) h u e = never (ap is_time e)
+no_literal_time (some (literal t ∷ ps)) h u e = absurd h
+no_literal_time (some (sign b ∷ ps)) h u e = by (eqb b 91) e
   where
     by : (t : Bool) → (if t then cell_of_index (indices ps) else bad) ≡ time u → ⊥
     by true q = never (sym (index_untimed (indices ps)) ∙ ap is_time q)
     by false q = never (ap is_time q)
 
-blank_says : said_by [] ≡ bad
-unfolding said_by
-blank_says = refl
+module _ (sizes : List ℕ) (fields : ℕ) (line : List ℕ) (g : List ℤ) where
+  pub line_other : ReadsSign line None → StoresLine sizes fields line g g
+  line_other w = record { is = λ is vs p l. absurd (no_sign_cell (pieces 0 line) w.is is vs p) }
 
-module _ (line : List ℕ) {x : Lexed} (w : Lexes line 0 x) where
-  says : {y : Lexed} → x ≡ y → said_in (pieces 0 line) ≡ said_in (line_tokens line y)
-  says e = ap said_in (w.is ∙ ap (line_tokens line) e)
+  pub line_stored : {b : ℕ} {rest : Bor (List ℕ)} {h : List ℤ} → ReadsSign line (Some (b, rest)) → StoresCell sizes fields rest.now g h → StoresLine sizes fields line g h
+  line_stored {b} {rest} w s = record { is = λ is vs p l. s.is is vs (sign_cell b (pieces 0 rest.now) is vs (ap said_in (sym w.is) ∙ p)) l }
 
-  module _ (sizes : List ℕ) (fields : ℕ) (g : List ℤ) where
-    pub line_literal : {t next : ℕ} → x ≡ Literal t next → StoresLine sizes fields line g g
-    line_literal {t} {next} e = record { is = λ is vs p l. absurd (literal_cell t (pieces 0 (drop next line)) is vs (sym (says e) ∙ p)) }
+pub ruleset LineStores = (line_other, line_stored)
 
-    pub line_end : x ≡ End → StoresLine sizes fields line g g
-    line_end e = record { is = λ is vs p l. never (ap is_cell (sym (says e ∙ blank_says) ∙ p)) }
+tells : (line : List ℕ) (r : Optional (ℕ × Bor (List ℕ))) → ReadsLiteral line r → TellsTime line (has_some r)
+tells line None w = record { time_line = λ u p. absurd (no_literal_time (pieces 0 line) w.is u p); cell_line = λ is vs p. refl }
+tells line (Some r) w = record { time_line = λ u p. refl; cell_line = λ is vs p. absurd (literal_cell r.0 (pieces 0 r.1.now) is vs (ap said_in (sym w.is.0) ∙ p)) }
 
-    pub line_unreadable : x ≡ Unreadable → StoresLine sizes fields line g g
-    line_unreadable e = record { is = λ is vs p l. never (ap is_cell (sym (says e) ∙ p)) }
+pub tells_time : (line : List ℕ) {r : Optional (ℕ × Bor (List ℕ))} {t : Bool} → ReadsLiteral line r → t ≡ has_some r → TellsTime line t
+tells_time line {r} w e = subst (TellsTime line) (sym e) (tells line r w)
 
-    pub line_stored : {b at : ℕ} {h : List ℤ} → x ≡ Sign b at → StoresCell sizes fields line at g h → StoresLine sizes fields line g h
-    line_stored {b} {at} e s = record { is = λ is vs p l. s.is is vs (sign_cell b (pieces 0 (drop at line)) is vs (sym (says e) ∙ p)) l }
-
-  pub tells_literal : {t next : ℕ} → x ≡ Literal t next → TellsTime line true
-  tells_literal {t} {next} e = record { time_line = λ u p. refl; cell_line = λ is vs p. absurd (literal_cell t (pieces 0 (drop next line)) is vs (sym (says e) ∙ p)) }
-
-  pub tells_sign : {b next : ℕ} → x ≡ Sign b next → TellsTime line false
-  tells_sign {b} {next} e = record { time_line = λ u p. absurd (sign_time b (pieces 0 (drop next line)) u (sym (says e) ∙ p)); cell_line = λ is vs p. refl }
-
-  pub tells_end : x ≡ End → TellsTime line false
-  tells_end e = record { time_line = λ u p. never (ap is_time (sym (says e ∙ blank_says) ∙ p)); cell_line = λ is vs p. refl }
-
-  pub tells_unreadable : x ≡ Unreadable → TellsTime line false
-  tells_unreadable e = record { time_line = λ u p. never (ap is_time (sym (says e) ∙ p)); cell_line = λ is vs p. refl }
-
-pub ruleset LineStores = (line_literal, line_end, line_unreadable, line_stored)
-
-pub ruleset TimeTells = (tells_literal, tells_sign, tells_end, tells_unreadable)
+pub ruleset TimeTells = (tells_time)
 
 -- ---- the lines of a block
 
@@ -452,36 +414,35 @@ has_line [] = false
 has_line (s ∷ ss) = true
 
 module _ (text : List ℕ) (at : ℕ) where
-  pub due_end : length text ≤ at → NextTime text at Nothing
+  due_end : length text ≤ at → NextTime text at None
   due_end l =
       let e : said (drop at text) ≡ [] = ap said (drop_of_length-le text l) ∙ said_nothing in
       record { ends = λ p. refl; begins = λ t ss p. never (ap has_line (sym e ∙ p)) }
 
-  module _ (l : at < length text) {end : ℕ} (e : LineEnds text at end) where
-    pub due_unended : length text ≤ end → NextTime text at Nothing
-    due_unended m = record { ends = λ p. refl; begins = λ t ss p. never (ap (λ (x : List Said). is_time (first_said x)) (sym (last_line text at l e m) ∙ p)) }
+  module _ {end : ℕ} (e : LineEnds text at end) where
+    pub due_unended : length text ≤ end → NextTime text at None
+    due_unended m = by (ltb at (length text)) refl
+      where
+        by : (t : Bool) → ltb at (length text) ≡ t → NextTime text at None
+        by true q = record { ends = λ p. refl; begins = λ t ss p. never (ap (λ (x : List Said). is_time (first_said x)) (sym (last_line text at (ltb-true at (length text) q) e m) ∙ p)) }
+        by false q = due_end (ltb-false at (length text) q)
 
-    module _ (m : end < length text) {x : Lexed} (w : Lexes (take (end - at) (drop at text)) 0 x) where
-      no_block : ((u : ℕ) → said_in (pieces 0 (take (end - at) (drop at text))) ≡ time u → ⊥) → NextTime text at Nothing
-      no_block h = record { ends = λ p. refl; begins = λ t ss p. absurd (h t (ap first_said (sym (first_line text at l e m) ∙ p))) }
+    module _ (m : end < length text) where
+      first : said (drop at text) ≡ said_in (pieces 0 (take (end - at) (drop at text))) ∷ said (drop (end + 1) text)
+      first = first_line text at (let a = e.onward in omega arith) e m
 
-      pub due_sign : {b next : ℕ} → x ≡ Sign b next → NextTime text at Nothing
-      due_sign {b} {next} f = no_block (λ u p. sign_time b (pieces 0 (drop next (take (end - at) (drop at text)))) u (sym (says (take (end - at) (drop at text)) w f) ∙ p))
+      pub due_other : ReadsLiteral (take (end - at) (drop at text)) None → NextTime text at None
+      due_other w =
+          record { ends = λ p. refl; begins = λ t ss p. absurd (no_literal_time (pieces 0 (take (end - at) (drop at text))) w.is t (ap first_said (sym first ∙ p))) }
 
-      pub due_blank : x ≡ End → NextTime text at Nothing
-      due_blank f = no_block (λ u p. never (ap is_time (sym (says (take (end - at) (drop at text)) w f ∙ blank_says) ∙ p)))
-
-      pub due_unreadable : x ≡ Unreadable → NextTime text at Nothing
-      due_unreadable f = no_block (λ u p. never (ap is_time (sym (says (take (end - at) (drop at text)) w f) ∙ p)))
-
-      pub due_time : {t next : ℕ} → x ≡ Literal t next → NextTime text at (At t (end + 1))
-      due_time {t} {next} f =
+      pub due_time : {t : ℕ} {rest : Bor (List ℕ)} → ReadsLiteral (take (end - at) (drop at text)) (Some (t, rest)) → NextTime text at (Some (record { time = t; behind = end + 1 }))
+      due_time {t} {rest} w =
           record {
-            ends = λ p. never (sym (ap has_line (sym (first_line text at l e m) ∙ p)));
+            ends = λ p. never (sym (ap has_line (sym first ∙ p)));
             begins = λ u ss p.
-                let q = sym (first_line text at l e m) ∙ p in
-                let s = literal_time t (pieces 0 (drop next (take (end - at) (drop at text)))) u (sym (says (take (end - at) (drop at text)) w f) ∙ ap first_said q) in
-                record { behind = end + 1; is = ap (λ (y : ℕ). At y (end + 1)) s; rest = ap rest_said q; within = omega arith };
+                let q = sym first ∙ p in
+                let s = literal_time t (pieces 0 rest.now) u (ap said_in (sym w.is.0) ∙ ap first_said q) in
+                record { behind = end + 1; is = ap (λ (y : ℕ). Some (record { time = y; behind = end + 1 })) s; rest = ap rest_said q; within = omega arith };
           }
 
-pub ruleset DueWays = (due_end, due_unended, due_sign, due_blank, due_unreadable, due_time)
+pub ruleset DueWays = (due_unended, due_other, due_time)

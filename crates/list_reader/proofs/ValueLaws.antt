@@ -3,17 +3,16 @@ use mathlib.Core.Path.{◌≡◌, refl, sym, ap, ap₂, ◌∙◌, subst}
 use mathlib.Core.Bool.{Bool, true, false, not, ◌&&◌, ◌||◌}
 use mathlib.Core.List.{List, [], ◌∷◌}
 use mathlib.Core.Option.{Option, some, none}
-use Prim.Native.Nat.{ℕ, zero, suc, ◌+◌, ◌-◌, ◌≤◌, ◌<◌}
+use Prim.Native.Nat.{ℕ, suc, ◌+◌, ◌≤◌, ◌<◌}
 use native.Mathlib.Omega.{arith}
 use native.Mathlib.Numerals.{add-one}
 use lib.ListN.{length, drop, get_or, drop_of_length-le}
 use lib.Seq.{drop-cons}
-use lib.IntN.{ℤ, pos, negsuc}
-use lib.Dec.{eqb, ltb}
-use borrow.Author.Tests.{eq-eqb, ne_eqb, lt-ltb, le-ltb, ltb-true, ltb-false}
+use lib.IntN.{ℤ, pos}
+use lib.Dec.{ltb}
+use borrow.Author.Tests.{ne_eqb, lt-ltb, le-ltb, ltb-true, ltb-false}
 use Rattle.std.specs.Prelude.{if◌then◌else◌}
-use Rattle.value.specs.Number.{within, eq_z}
-use Rattle.value.proofs.Theorems.Laws.{never}
+use Rattle.value.specs.Number.{within}
 use Rattle.value.specs.Worked.{value, decode_of}
 use Rattle.value.specs.declared.Value.{Value}
 use Rattle.automaton.specs.Promises.ListedLaws.{length_list_of, get_or_list_of}
@@ -23,45 +22,16 @@ use Rattle.cell_meaning.specs.Evaluation.{in_field}
 use Rattle.cell_meaning.specs.Promises.Stands.{rule_table, range_in}
 use Rattle.token.specs.Promises.Promises.{too_large}
 use Rattle.list_meaning.specs.Text.{Piece, literal, sign, with_piece, pieces}
-use Rattle.list_meaning.specs.Lines.{before_values, plus_or_minus, signed, values, under_sign, behind}
+use Rattle.list_meaning.specs.Lines.{before_values, plus_or_minus, signed, values, behind}
 use Rattle.list_meaning.specs.ListChecking.{value_fits, all_fit}
 use Rattle.list_meaning.specs.Promises.Walking.{head_fits, none_left, rest_of, keeps_flag, values_number}
 use Rattle.list_meaning.proofs.Walking.{one_value}
+use Rattle.std.proofs.Common.{Bor, Option as Optional, Some, None}
 use Rattle.list_reader.specs.declared.Lexed.{Lexed}
-use Rattle.list_reader.specs.declared.Lexed.TheVariants.{Literal, Sign, End, Unreadable}
-use Rattle.list_reader.specs.Promises.Promises.{line_tokens, LineOnward, Lexes}
-use Rattle.list_reader.specs.declared.values.Given.{Given}
-use Rattle.list_reader.specs.declared.values.Given.TheVariants as given
-use Rattle.list_reader.specs.declared.values.Signed.{Signed}
-use Rattle.list_reader.specs.declared.values.Signed.TheVariants as signed
+use Rattle.list_reader.specs.declared.Lexed.TheVariants.{Literal, Sign, End}
+use Rattle.list_reader.specs.Promises.Promises.{NoLiteral, Lexes, ReadsLiteral}
 use Rattle.list_reader.specs.declared.values.Valued.{Valued}
-use Rattle.list_reader.specs.declared.values.Valued.TheVariants as valued
-use Rattle.list_reader.specs.Promises.Values.{line_values, under_in, behind_in, given_of, signed_of, valued_of, SignedOnward, ValuedOnward, ReadsSigned, ReadsBehind, ReadsValue, fields_in, count_number, StillFits, StillKept, NumbersValues}
-
--- ---- a sign and a literal under it
-
-pub sign_plus : {b : ℕ} → b ≡ 43 → true ≡ plus_or_minus b
-sign_plus e = rw e
-
-pub sign_minus : {b : ℕ} → (b ≡ 43 → ⊥) → eqb b 45 ≡ plus_or_minus b
-sign_minus {b} d = rw (ne_eqb b 43 d)
-
-pub literal_plain : {b n : ℕ} {v : Value} → n < too_large → (b ≡ 45 → ⊥) → v ≡ value (decode_of n) → v ≡ value (signed b n)
-literal_plain {b} {n} l d e = e ∙ rw (lt-ltb n 2147483648 l, ne_eqb b 45 d)
-
-pub literal_zero : (n : ℕ) {b : ℕ} {v : Value} → b ≡ 45 → n < 1 → v ≡ value (decode_of n) → v ≡ value (signed b n)
-literal_zero zero d l e = e ∙ rw d
-literal_zero (suc n) d l e = absurd (omega arith)
-
-pub literal_negative : (n : ℕ) {b : ℕ} {v : Value} → n < too_large → b ≡ 45 → 1 ≤ n → v ≡ value (decode_of (4294967295 - (n - 1))) → v ≡ value (signed b n)
-literal_negative zero l d p e = absurd (omega arith)
-literal_negative (suc n) l d p e =
-    let m = 4294967295 - (suc n - 1) in
-    let f : decode_of m ≡ negsuc n =
-    (let x : decode_of m ≡ negsuc (4294967296 - suc m) = simp (le-ltb m 2147483648 (omega arith), lt-ltb m 4294967296 (omega arith)) in x ∙ ap negsuc (omega arith)) in
-    e ∙ ap value f ∙ rw d
-
-pub ruleset Signs = (sign_plus, sign_minus, literal_plain, literal_zero, literal_negative)
+use Rattle.list_reader.specs.Promises.Values.{line_values, under_in, behind_in, given_of, further, valued_of, RestOnward, ValuedOnward, ReadsSigned, ReadsBehind, ReadsValue, fields_in, count_number, StillFits, StillKept, ReadsValues}
 
 -- ---- the grammar, by the first token
 
@@ -75,14 +45,12 @@ unfolding values
 under_some k none e n = refl
 under_some k (some ps) e n = rw e
 
-under_two : (k c : ℕ) (o : Option (List Piece)) → under_in k (with_piece (sign c) o) ≡ none
+under_other : (k : ℕ) (o : Option (List Piece)) → NoLiteral o → under_in k o ≡ none
 unfolding values
-under_two k c none = refl
-under_two k c (some ps) = refl
-
-under_end : (k : ℕ) → under_sign k [] ≡ none
-unfolding values
-under_end k = refl
+under_other k none h = refl
+under_other k (some []) h = refl
+under_other k (some (literal n ∷ ps)) h = absurd h
+under_other k (some (sign b ∷ ps)) h = refl
 
 behind_two : (v : Option ℤ) (n : ℕ) (o : Option (List Piece)) → behind_in v (with_piece (literal n) o) ≡ none
 unfolding values
@@ -124,123 +92,105 @@ values_end = refl
 
 -- ---- a literal under a sign
 
-module _ (line : List ℕ) (at : ℕ) where
-  module _ {x : Lexed} (w : Lexes line at x) where
-    tokens_are : {y : Lexed} → x ≡ y → pieces 0 (drop at line) ≡ line_tokens line y
-    tokens_are e = w.is ∙ ap (line_tokens line) e
+module _ (line : List ℕ) (k : ℕ) where
+  pub signed_none : ReadsLiteral line None → ReadsSigned line k None
+  signed_none w = record { is = under_other k (pieces 0 line) w.is; onward = tt }
 
-    pub literal_past : {n next : ℕ} → x ≡ Literal n next → next ≤ length line
-    literal_past {n} {next} e = let o : LineOnward line at (Literal n next) = subst (LineOnward line at) e w.onward in o.1
+  module _ {n : ℕ} {rest : Bor (List ℕ)} (w : ReadsLiteral line (Some (n, rest))) {t : Bool} (s : t ≡ plus_or_minus k) where
+    pub signed_bad : t ≡ false → ReadsSigned line k None
+    signed_bad f = record { is = ap (under_in k) w.is.0 ∙ under_none k (pieces 0 rest.now) (sym s ∙ f) n; onward = tt }
 
-    pub literal_small : {n next : ℕ} → x ≡ Literal n next → n < too_large
-    literal_small {n} {next} e = let o : LineOnward line at (Literal n next) = subst (LineOnward line at) e w.onward in o.2
-
-    pub sign_past : {b next : ℕ} → x ≡ Sign b next → next ≤ length line
-    sign_past {b} {next} e = let o : LineOnward line at (Sign b next) = subst (LineOnward line at) e w.onward in o.1
-
-    module _ (k : ℕ) where
-      pub signed_sign : {b next : ℕ} → x ≡ Sign b next → ReadsSigned line k at signed.Bad
-      signed_sign {b} {next} e = record { is = ap (under_in k) (tokens_are e) ∙ under_two k b (pieces 0 (drop next line)); onward = tt }
-
-      pub signed_end : x ≡ End → ReadsSigned line k at signed.Bad
-      signed_end e = record { is = ap (under_in k) (tokens_are e) ∙ under_end k; onward = tt }
-
-      pub signed_unreadable : x ≡ Unreadable → ReadsSigned line k at signed.Bad
-      signed_unreadable e = record { is = ap (under_in k) (tokens_are e); onward = tt }
-
-      module _ {n next : ℕ} (e : x ≡ Literal n next) {t : Bool} (s : t ≡ plus_or_minus k) where
-        pub signed_bad : t ≡ false → ReadsSigned line k at signed.Bad
-        signed_bad f = record { is = ap (under_in k) (tokens_are e) ∙ under_none k (pieces 0 (drop next line)) (sym s ∙ f) n; onward = tt }
-
-        pub signed_number : {v : Value} → t ≡ true → v ≡ value (signed k n) → ReadsSigned line k at (signed.Number v next)
-        signed_number {v} f g =
-            let o : LineOnward line at (Literal n next) = subst (LineOnward line at) e w.onward in
-            record {
-              is = ap (under_in k) (tokens_are e) ∙ under_some k (pieces 0 (drop next line)) (sym s ∙ f) n
-                  ∙ ap (λ (y : Value). behind_in (some y.n) (pieces 0 (drop next line))) (sym g);
-              onward = (o.0, o.1);
-            }
-
-    -- ---- behind a value
-
-    module _ (v : Given) where
-      pub behind_literal : {n next : ℕ} → x ≡ Literal n next → ReadsBehind line v at valued.Bad
-      behind_literal {n} {next} e = record { is = ap (behind_in (given_of v)) (tokens_are e) ∙ behind_two (given_of v) n (pieces 0 (drop next line)); onward = tt }
-
-      pub behind_unreadable : x ≡ Unreadable → ReadsBehind line v at valued.Bad
-      behind_unreadable e = record { is = ap (behind_in (given_of v)) (tokens_are e); onward = tt }
-
-      pub behind_end : x ≡ End → ReadsBehind line v at (valued.Last v)
-      behind_end e = record { is = ap (behind_in (given_of v)) (tokens_are e) ∙ behind_last (given_of v); onward = tt }
-
-      module _ {b next : ℕ} (e : x ≡ Sign b next) where
-        pub behind_wrong : (b ≡ 44 → ⊥) → ReadsBehind line v at valued.Bad
-        behind_wrong d = record { is = ap (behind_in (given_of v)) (tokens_are e) ∙ behind_other (given_of v) b (pieces 0 (drop next line)) d; onward = tt }
-
-        pub behind_more : b ≡ 44 → ReadsBehind line v at (valued.More v next)
-        behind_more d =
-            record {
-              is = ap (behind_in (given_of v)) (tokens_are e) ∙ ap (λ (y : ℕ). behind_in (given_of v) (with_piece (sign y) (pieces 0 (drop next line)))) d ∙ behind_comma (given_of v) (pieces 0 (drop next line));
-              onward = subst (LineOnward line at) e w.onward;
-            }
-
-    -- ---- a value
-
-    onward_from : (past : ℕ) → at < past → (y : Valued) → ValuedOnward line past y → ValuedOnward line at y
-    onward_from past l valued.Bad h = tt
-    onward_from past l (valued.Last v) h = tt
-    onward_from past l (valued.More v next) h = (let a = h.0 in omega arith, h.1)
-
-    pub value_unreadable : x ≡ Unreadable → ReadsValue line at valued.Bad
-    value_unreadable e = record { is = ap line_values (tokens_are e); onward = tt }
-
-    pub value_end : x ≡ End → ReadsValue line at (valued.Last given.Missing)
-    value_end e = record { is = ap line_values (tokens_are e) ∙ values_end; onward = tt }
-
-    pub value_literal : {n next : ℕ} {v : Value} {y : Valued} → x ≡ Literal n next → v ≡ value (decode_of n) → ReadsBehind line (given.Number v) next y → ReadsValue line at y
-    value_literal {n} {next} {v} {y} e f h =
-        let o : LineOnward line at (Literal n next) = subst (LineOnward line at) e w.onward in
-        let p : value (decode_of n) ≡ value (pos n) = rw (lt-ltb n 2147483648 o.2) in
+    pub signed_number : {v : Value} → t ≡ true → v ≡ value (signed k n) → ReadsSigned line k (Some (v, rest))
+    signed_number {v} f g =
         record {
-          is = ap line_values (tokens_are e) ∙ values_literal n (pieces 0 (drop next line))
-              ∙ ap (λ (z : Value). behind_in (some z.n) (pieces 0 (drop next line))) (sym (f ∙ p)) ∙ h.is;
-          onward = onward_from next o.0 y h.onward;
+          is = ap (under_in k) w.is.0 ∙ under_some k (pieces 0 rest.now) (sym s ∙ f) n ∙ ap (λ (y : Value). behind_in (some y.n) (pieces 0 rest.now)) (sym g);
+          onward = w.onward;
         }
 
-    module _ {b next : ℕ} (e : x ≡ Sign b next) where
-      sign_onward : (at < next) × (next ≤ length line)
-      sign_onward = subst (LineOnward line at) e w.onward
+pub literal_small : (line : List ℕ) {n : ℕ} {rest : Bor (List ℕ)} → ReadsLiteral line (Some (n, rest)) → n < too_large
+literal_small line w = w.is.1
 
-      pub value_missing : b ≡ 44 → ReadsValue line at (valued.More given.Missing next)
-      value_missing d =
+pub ruleset SignedWays = (literal_small, signed_none, signed_bad, signed_number)
+
+-- ---- behind a value
+
+module _ (line : List ℕ) (v : Optional Value) where
+  pub behind_unread : Lexes line None → ReadsBehind line v None
+  behind_unread w = record { is = ap (behind_in (given_of v)) w.is; onward = tt }
+
+  module _ {x : Lexed} (w : Lexes line (Some x)) where
+    here : {y : Lexed} → x ≡ y → Lexes line (Some y)
+    here e = subst (λ (z : Lexed). Lexes line (Some z)) e w
+
+    pub behind_literal : {n : ℕ} {rest : Bor (List ℕ)} → x ≡ Literal n rest → ReadsBehind line v None
+    behind_literal {n} {rest} e = record { is = ap (behind_in (given_of v)) (here e).is ∙ behind_two (given_of v) n (pieces 0 rest.now); onward = tt }
+
+    pub behind_end : x ≡ End → ReadsBehind line v (Some (record { given = v; next = None }))
+    behind_end e = record { is = ap (behind_in (given_of v)) (here e).is ∙ behind_last (given_of v); onward = tt }
+
+    module _ {b : ℕ} {rest : Bor (List ℕ)} (e : x ≡ Sign b rest) where
+      pub behind_wrong : (b ≡ 44 → ⊥) → ReadsBehind line v None
+      behind_wrong d = record { is = ap (behind_in (given_of v)) (here e).is ∙ behind_other (given_of v) b (pieces 0 rest.now) d; onward = tt }
+
+      pub behind_more : b ≡ 44 → ReadsBehind line v (Some (record { given = v; next = Some rest }))
+      behind_more d =
           record {
-            is = ap line_values (tokens_are e) ∙ ap (λ (y : ℕ). line_values (with_piece (sign y) (pieces 0 (drop next line)))) d ∙ values_comma (pieces 0 (drop next line));
-            onward = sign_onward;
+            is = ap (behind_in (given_of v)) (here e).is ∙ ap (λ (y : ℕ). behind_in (given_of v) (with_piece (sign y) (pieces 0 rest.now))) d ∙ behind_comma (given_of v) (pieces 0 rest.now);
+            onward = (here e).onward;
           }
 
-      module _ (d : b ≡ 44 → ⊥) {s : Signed} (r : ReadsSigned line b next s) where
-        pub value_bad : s ≡ signed.Bad → ReadsValue line at valued.Bad
-        value_bad f =
-            record { is = ap line_values (tokens_are e) ∙ values_sign b (pieces 0 (drop next line)) d ∙ r.is ∙ ap (signed_of line) f; onward = tt }
+pub ruleset BehindWays = (behind_unread, behind_literal, behind_end, behind_wrong, behind_more)
 
-        pub value_signed : {v : Value} {past : ℕ} {y : Valued} → s ≡ signed.Number v past → ReadsBehind line (given.Number v) past y → ReadsValue line at y
-        value_signed {v} {past} {y} f h =
-            let o : SignedOnward line next (signed.Number v past) = subst (SignedOnward line next) f r.onward in
-            record {
-              is = ap line_values (tokens_are e) ∙ values_sign b (pieces 0 (drop next line)) d ∙ r.is ∙ ap (signed_of line) f ∙ h.is;
-              onward = onward_from past (let a = sign_onward.0 in let c = o.0 in omega arith) y h.onward;
-            }
+-- ---- a value
 
-pub signed_past : (line : List ℕ) (k at : ℕ) {s : Signed} {v : Value} {past : ℕ} → ReadsSigned line k at s → s ≡ signed.Number v past → past ≤ length line
-signed_past line k at {s} {v} {past} r f = let o : SignedOnward line at (signed.Number v past) = subst (SignedOnward line at) f r.onward in o.1
+rest_from : (line rest : List ℕ) → length rest < length line → (y : Optional (Bor (List ℕ))) → RestOnward rest y → RestOnward line y
+rest_from line rest l None h = tt
+rest_from line rest l (Some next) h = omega arith
 
-pub ruleset SignedWays = (signed_sign, signed_end, signed_unreadable, signed_bad, signed_number)
+onward_from : (line rest : List ℕ) → length rest < length line → (y : Optional Valued) → ValuedOnward rest y → ValuedOnward line y
+onward_from line rest l None h = tt
+onward_from line rest l (Some v) h = rest_from line rest l v.next h
 
-pub ruleset BehindWays = (behind_literal, behind_unreadable, behind_end, behind_wrong, behind_more)
+module _ (line : List ℕ) where
+  pub value_unread : Lexes line None → ReadsValue line None
+  value_unread w = record { is = ap line_values w.is; onward = tt }
 
-pub ruleset ValueWays = (value_unreadable, value_end, value_literal, value_missing, value_bad, value_signed)
+  module _ {x : Lexed} (w : Lexes line (Some x)) where
+    it : {y : Lexed} → x ≡ y → Lexes line (Some y)
+    it e = subst (λ (z : Lexed). Lexes line (Some z)) e w
 
-pub ruleset ValuePasts = (literal_past, literal_small, sign_past, signed_past)
+    pub value_end : x ≡ End → ReadsValue line (Some (record { given = None; next = None }))
+    value_end e = record { is = ap line_values (it e).is ∙ values_end; onward = tt }
+
+    pub value_literal : {n : ℕ} {rest : Bor (List ℕ)} {v : Value} {y : Optional Valued} → x ≡ Literal n rest → v ≡ value (decode_of n) → ReadsBehind rest.now (Some v) y → ReadsValue line y
+    value_literal {n} {rest} {v} {y} e f h =
+        let o = (it e).onward in
+        let p : value (decode_of n) ≡ value (pos n) = rw (lt-ltb n 2147483648 o.1) in
+        record {
+          is = ap line_values (it e).is ∙ values_literal n (pieces 0 rest.now) ∙ ap (λ (z : Value). behind_in (some z.n) (pieces 0 rest.now)) (sym (f ∙ p)) ∙ h.is;
+          onward = onward_from line rest.now o.0 y h.onward;
+        }
+
+    module _ {b : ℕ} {rest : Bor (List ℕ)} (e : x ≡ Sign b rest) where
+      pub value_missing : b ≡ 44 → ReadsValue line (Some (record { given = None; next = Some rest }))
+      value_missing d =
+          record {
+            is = ap line_values (it e).is ∙ ap (λ (y : ℕ). line_values (with_piece (sign y) (pieces 0 rest.now))) d ∙ values_comma (pieces 0 rest.now);
+            onward = (it e).onward;
+          }
+
+      module _ (d : b ≡ 44 → ⊥) where
+        signs : line_values (pieces 0 line) ≡ under_in b (pieces 0 rest.now)
+        signs = ap line_values (it e).is ∙ values_sign b (pieces 0 rest.now) d
+
+        pub value_bad : ReadsSigned rest.now b None → ReadsValue line None
+        value_bad h = record { is = signs ∙ h.is; onward = tt }
+
+        pub value_signed : {v : Value} {past : Bor (List ℕ)} {y : Optional Valued} → ReadsSigned rest.now b (Some (v, past)) → ReadsBehind past.now (Some v) y → ReadsValue line y
+        value_signed {y = y} h g =
+            record { is = signs ∙ h.is ∙ g.is; onward = onward_from line _ (let a = (it e).onward in let c = h.onward in omega arith) y g.onward }
+
+pub ruleset ValueWays = (value_unread, value_end, value_literal, value_missing, value_bad, value_signed)
 
 -- ---- a value against its field
 
@@ -259,66 +209,19 @@ fields_length words rule = length_list_of (λ k. range_in (rule_table words rule
 field_at : (fs : List Range) (k : ℕ) → k < length fs → drop k fs ≡ get_or fs k no_range ∷ drop (k + 1) fs
 field_at fs k l = rw (add-one, drop-cons fs k no_range)
 
-module _ (words : List ℕ) (rule : Rule) (k : ℕ) (v : Given) where
-  pub still_not : (fit : Bool) → not fit ≡ true → StillFits (fields_in words rule) k v fit false
-  still_not true e = never e
-  still_not false e = record { is = refl }
+module _ (words : List ℕ) (rule : Rule) (k : ℕ) (fit : Bool) where
+  pub still_past : {v : Optional Value} → fit ≡ true → rule.fields ≤ k → StillFits (fields_in words rule) k v fit true
+  still_past {v} e l =
+      record { is = sym (ap₂ (λ (b : Bool) (rs : List Range). b && head_fits rs (given_of v)) e (drop_of_length-le (fields_in words rule) (let n = fields_length words rule in let h : length (fields_in words rule) ≤ k = omega arith in h))) }
 
-  from : (fit : Bool) (r : Bool) → not fit ≡ false → r ≡ head_fits (drop k (fields_in words rule)) (given_of v) → StillFits (fields_in words rule) k v fit r
-  from true r e h = record { is = h }
-  from false r e h = never (sym e)
+  pub still_number : {v : Optional Value} {z : Value} {r : Bool} → fit ≡ true → v ≡ Some z → k < rule.fields → r ≡ in_field (get_or (fields_in words rule) k no_range) z.n → StillFits (fields_in words rule) k v fit r
+  still_number {v} {z} {r} e q l h =
+      record {
+        is = h ∙ sym (ap₂ (λ (b : Bool) (rs : List Range). b && head_fits rs (given_of v)) e (field_at (fields_in words rule) k (let n = fields_length words rule in omega arith))
+            ∙ ap (λ (y : Optional Value). value_fits (get_or (fields_in words rule) k no_range) (given_of y)) q);
+      }
 
-  pub still_past : {fit : Bool} → not fit ≡ false → rule.fields ≤ k → StillFits (fields_in words rule) k v fit true
-  still_past {fit} e l =
-      from fit true e (sym (ap (λ (rs : List Range). head_fits rs (given_of v)) (drop_of_length-le (fields_in words rule) (let n = fields_length words rule in let h : length (fields_in words rule) ≤ k = omega arith in h))))
-
-  head_is : k < rule.fields → head_fits (drop k (fields_in words rule)) (given_of v) ≡ value_fits (get_or (fields_in words rule) k no_range) (given_of v)
-  head_is l = ap (λ (rs : List Range). head_fits rs (given_of v)) (field_at (fields_in words rule) k (let n = fields_length words rule in omega arith))
-
-  pub still_missing : {fit : Bool} → not fit ≡ false → k < rule.fields → v ≡ given.Missing → StillFits (fields_in words rule) k v fit true
-  still_missing {fit} e l m = from fit true e (sym (head_is l ∙ ap (λ (x : Given). value_fits (get_or (fields_in words rule) k no_range) (given_of x)) m))
-
-  pub still_number : {fit : Bool} {z : Value} {r : Bool} → not fit ≡ false → k < rule.fields → v ≡ given.Number z
-      → r ≡ in_field (get_or (fields_in words rule) k no_range) z.n → StillFits (fields_in words rule) k v fit r
-  still_number {fit} {z} {r} e l m h = from fit r e (h ∙ sym (head_is l ∙ ap (λ (x : Given). value_fits (get_or (fields_in words rule) k no_range) (given_of x)) m))
-
-pub ruleset Stills = (still_not, still_past, still_missing, still_number)
-
--- ---- a value against the flag
-
-module _ (flag k : ℕ) (v : Given) where
-  pub kept_not : (kept : Bool) → not kept ≡ true → StillKept flag k v kept false
-  kept_not true e = never e
-  kept_not false e = record { is = refl }
-
-  kept_from : (kept : Bool) (r : Bool) → not kept ≡ false → r ≡ keeps_flag flag k (given_of v) → StillKept flag k v kept r
-  kept_from true r e h = record { is = h }
-  kept_from false r e h = never (sym e)
-
-  pub kept_other : {kept : Bool} → not kept ≡ false → (k ≡ flag → ⊥) → StillKept flag k v kept true
-  kept_other {kept} e d = kept_from kept true e (rw (ne_eqb k flag d))
-
-  pub kept_missing : {kept : Bool} → not kept ≡ false → k ≡ flag → v ≡ given.Missing → StillKept flag k v kept true
-  kept_missing {kept} e d m = kept_from kept true e (rw (eq-eqb k flag d, m))
-
-  pub kept_number : {kept : Bool} {z : Value} {r : Bool} → not kept ≡ false → k ≡ flag → v ≡ given.Number z → r ≡ not (eq_z z.n (pos 0)) → StillKept flag k v kept r
-  kept_number {kept} {z} {r} e d m h = kept_from kept r e (h ∙ rw (eq-eqb k flag d, m))
-
-pub ruleset Kepts = (kept_not, kept_other, kept_missing, kept_number)
-
-pub count_over : (n c : ℕ) (fit kept : Bool) → n < c → 52 ≡ count_number n c fit kept
-count_over n c fit kept l = rw (lt-ltb n c l)
-
-pub count_unfit : (n c : ℕ) (fit kept : Bool) → c ≤ n → not fit ≡ true → 53 ≡ count_number n c fit kept
-count_unfit n c fit kept l e = rw (le-ltb n c l, e)
-
-pub count_cleared : (n c : ℕ) (fit kept : Bool) → c ≤ n → not fit ≡ false → kept ≡ false → 58 ≡ count_number n c fit kept
-count_cleared n c fit kept l e h = rw (le-ltb n c l, e, h)
-
-pub count_right : (n c : ℕ) (fit kept : Bool) → c ≤ n → not fit ≡ false → kept ≡ true → 0 ≡ count_number n c fit kept
-count_right n c fit kept l e h = rw (le-ltb n c l, e, h)
-
-pub ruleset Countings = (count_over, count_unfit, count_cleared, count_right)
+pub ruleset Stills = (still_past, still_number)
 
 -- ---- the values of a line
 
@@ -346,11 +249,10 @@ rest_next fs k = by (ltb k (length fs)) refl
         let l = ltb-false k (length fs) e in
         ap rest_of (drop_of_length-le fs l) ∙ sym (drop_of_length-le fs (let m : length fs ≤ k + 1 = omega arith in m))
 
--- the values go on at `here` with the fields from k on
-pub record Valuing (fs : List Range) (fl : ℕ) (line : List ℕ) (at : ℕ) (fit kept : Bool) (k here : ℕ) : Type 0 where
-  pub is : values_number fs fl 0 false true true (line_values (pieces 0 (drop at line))) ≡ values_number (drop k fs) fl k (ltb (length fs) k) fit kept (line_values (pieces 0 (drop here line)))
-  pub within : here ≤ length line
-  pub few : k ≤ here
+-- the values go on at the line `here` with the fields from k on
+pub record Valuing (fs : List Range) (fl : ℕ) (line : List ℕ) (fit kept : Bool) (k : ℕ) (here : List ℕ) : Type 0 where
+  pub is : values_number fs fl 0 false true true (line_values (pieces 0 line)) ≡ values_number (drop k fs) fl k (ltb (length fs) k) fit kept (line_values (pieces 0 here))
+  pub few : k + length here ≤ length line
 
 last_number : (rs : List Range) (fl k : ℕ) (over fit kept : Bool) → values_number rs fl k over fit kept (some []) ≡ (if over then 52 else if not fit then 53 else if not kept then 58 else 0)
 unfolding all_fit
@@ -363,38 +265,42 @@ last_number rs fl k over fit kept = by over fit kept (le-ltb (length rs) 0 (omeg
     by false true false e = rw e
     by false false c e = rw e
 
-module _ (fs : List Range) (fl : ℕ) (line : List ℕ) (at : ℕ) where
-  pub values_start : at ≤ length line → Valuing fs fl line at true true 0 at
-  values_start l = record { is = ap (λ (o : Bool). values_number fs fl 0 o true true (line_values (pieces 0 (drop at line)))) (sym (le-ltb (length fs) 0 (omega arith))); within = l; few = omega arith }
+module _ (fs : List Range) (fl : ℕ) (line : List ℕ) where
+  pub values_start : Valuing fs fl line true true 0 line
+  values_start = record { is = ap (λ (o : Bool). values_number fs fl 0 o true true (line_values (pieces 0 line))) (sym (le-ltb (length fs) 0 (omega arith))); few = omega arith }
 
-  module _ {fit kept : Bool} {k here : ℕ} (w : Valuing fs fl line at fit kept k here) {x : Valued} (r : ReadsValue line here x) where
-    left : {y : Valued} → x ≡ y → values_number fs fl 0 false true true (line_values (pieces 0 (drop at line))) ≡ values_number (drop k fs) fl k (ltb (length fs) k) fit kept (valued_of line y)
-    left {y} e = w.is ∙ ap (values_number (drop k fs) fl k (ltb (length fs) k) fit kept) (r.is ∙ ap (valued_of line) e)
+  module _ {fit kept : Bool} {k : ℕ} {here : List ℕ} (w : Valuing fs fl line fit kept k here) where
+    left : {y : Optional Valued} → ReadsValue here y → values_number fs fl 0 false true true (line_values (pieces 0 line)) ≡ values_number (drop k fs) fl k (ltb (length fs) k) fit kept (valued_of y)
+    left r = w.is ∙ ap (values_number (drop k fs) fl k (ltb (length fs) k) fit kept) r.is
 
-    pub values_bad : x ≡ valued.Bad → NumbersValues fs fl line at 50
-    values_bad e = record { is = sym (left e) }
+    pub values_bad : {n : ℕ} → ReadsValue here None → ReadsValues fs n fl line None
+    values_bad r = record { is = sym (left r) }
 
-    module _ {v : Given} {fit' kept' : Bool} (s : StillFits fs k v fit fit') (u : StillKept fl k v kept kept') where
+    module _ {v : Valued} (r : ReadsValue here (Some v)) {fit' kept' : Bool} (s : StillFits fs k v.given fit fit') (u : StillKept fl k v.given kept kept') where
       stepped : (o : Option (List (Option ℤ)))
-          → values_number (drop k fs) fl k (ltb (length fs) k) fit kept (before_values (given_of v) o) ≡ values_number (drop (k + 1) fs) fl (k + 1) (ltb (length fs) (k + 1)) fit' kept' o
+          → values_number (drop k fs) fl k (ltb (length fs) k) fit kept (before_values (given_of v.given) o) ≡ values_number (drop (k + 1) fs) fl (k + 1) (ltb (length fs) (k + 1)) fit' kept' o
       stepped o =
-          one_value (drop k fs) fl k (ltb (length fs) k) fit kept (given_of v) o
-          ∙ ap₂ (λ (rs : List Range) (a : Bool). values_number rs fl (suc k) a (fit && head_fits (drop k fs) (given_of v)) (kept && keeps_flag fl k (given_of v)) o) (rest_next fs k) (over_next fs k)
+          one_value (drop k fs) fl k (ltb (length fs) k) fit kept (given_of v.given) o
+          ∙ ap₂ (λ (rs : List Range) (a : Bool). values_number rs fl (suc k) a (fit && head_fits (drop k fs) (given_of v.given)) (kept && keeps_flag fl k (given_of v.given)) o) (rest_next fs k) (over_next fs k)
           ∙ ap₂ (λ (b c : Bool). values_number (drop (k + 1) fs) fl (suc k) (ltb (length fs) (k + 1)) b c o) (sym s.is) (sym u.is)
           ∙ ap (λ (i : ℕ). values_number (drop (k + 1) fs) fl i (ltb (length fs) (k + 1)) fit' kept' o) (sym (add-one k))
 
-      pub values_more : {next : ℕ} → x ≡ valued.More v next → Valuing fs fl line at fit' kept' (k + 1) next
-      values_more {next} e =
-          let o : ValuedOnward line here (valued.More v next) = subst (ValuedOnward line here) e r.onward in
-          record { is = left e ∙ stepped (line_values (pieces 0 (drop next line))); within = o.1; few = let a = o.0 in let b = w.few in omega arith }
+      pub values_more : {rest : Bor (List ℕ)} → v.next ≡ Some rest → Valuing fs fl line fit' kept' (k + 1) rest.now
+      values_more {rest} e =
+          record {
+            is = left r ∙ stepped (further v.next) ∙ ap (λ (o : Optional (Bor (List ℕ))). values_number (drop (k + 1) fs) fl (k + 1) (ltb (length fs) (k + 1)) fit' kept' (further o)) e;
+            few = let a : length rest.now < length here = subst (RestOnward here) e r.onward in let b = w.few in omega arith;
+          }
 
-      pub values_done : {n number : ℕ} → x ≡ valued.Last v → length fs ≡ n → number ≡ count_number n (k + 1) fit' kept' → NumbersValues fs fl line at number
-      values_done {n} {number} e f g =
-          record { is = g ∙ ap (λ (m : ℕ). count_number m (k + 1) fit' kept') (sym f) ∙ sym (left e ∙ stepped (some []) ∙ last_number (drop (k + 1) fs) fl (k + 1) (ltb (length fs) (k + 1)) fit' kept') }
+      pub values_done : {n : ℕ} → v.next ≡ None → length fs ≡ n → ReadsValues fs n fl line (Some (record { count = k + 1; fit = fit'; kept = kept' }))
+      values_done {n} e f =
+          record {
+            is = ap (λ (m : ℕ). count_number m (k + 1) fit' kept') (sym f)
+                ∙ sym (left r ∙ stepped (further v.next) ∙ ap (λ (o : Optional (Bor (List ℕ))). values_number (drop (k + 1) fs) fl (k + 1) (ltb (length fs) (k + 1)) fit' kept' (further o)) e
+                ∙ last_number (drop (k + 1) fs) fl (k + 1) (ltb (length fs) (k + 1)) fit' kept');
+          }
 
-    pub values_less : {v : Given} {next : ℕ} → x ≡ valued.More v next → length line - next < length line - here
-    values_less {v} {next} e =
-        let o : ValuedOnward line here (valued.More v next) = subst (ValuedOnward line here) e r.onward in
-        let a = o.0 in let b = o.1 in omega arith
+pub values_less : (here : List ℕ) {v : Valued} {rest : Bor (List ℕ)} → ReadsValue here (Some v) → v.next ≡ Some rest → length rest.now < length here
+values_less here {v} {rest} r e = subst (RestOnward here) e r.onward
 
 pub ruleset ValuesWays = (values_start, values_less, values_bad, values_more, values_done, fields_length)

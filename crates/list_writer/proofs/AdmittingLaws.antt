@@ -15,13 +15,13 @@ use Rattle.value.proofs.Theorems.Laws.{and_both}
 use Rattle.automaton.specs.Shape.{product}
 use Rattle.program.specs.Syntax.{Program}
 use Rattle.cell_meaning.specs.Promises.Stands.{Holds}
-use Rattle.program.specs.Refusal.{Refusal, refusal}
+use Rattle.std.specs.Prelude.{Result, Ok, Err}
+use Rattle.program.specs.Refusal.{Refusal, refusal, no_refusal}
 use Rattle.program.specs.declared.Rule.{Rule}
 use Rattle.run_meaning.specs.Admission.{all_between, good_sizes, admission}
 use Rattle.program.specs.Promises.Fitting.{Sized}
-use Rattle.run_admission.specs.declared.admitting.Admitted.{Admitted}
-use Rattle.run_admission.specs.declared.Refusal as declared
-use Rattle.run_admission.specs.Promises.Admitting.{cells_of, request_of, Admits}
+use Rattle.run_meaning.specs.declared.Reach.{Reach}
+use Rattle.run_admission.specs.Promises.Admitting.{refusal_told, cells_of, request_of, Admits}
 use Rattle.run_admission.proofs.RequestLaws.{cells_in}
 use Rattle.list_meaning.specs.Writing.{lower, writing_admission}
 use Rattle.list_meaning.proofs.Theorems.RoundTrip.{lower_told}
@@ -52,16 +52,29 @@ module _ (m i n j : ℕ) where
 
 -- ---- one grid
 
-pub admits_grid : {words : List ℕ} {rule : Rule} {sizes : List ℕ} {grid : List ℤ} {count : ℕ} {time : ℤ} {a : Admitted} → SFits w64 time
-    → Admits words rule sizes grid (length grid) count (to_z w64 (of_z w64 time)) (pos 0) a → AdmitsGrid words rule sizes grid count time (record { number = a.number; place = a.place })
-admits_grid {words} {rule} {sizes} {grid} {count} {time} {a} f x =
-    let y = subst (λ (z : ℤ). Admits words rule sizes grid (length grid) count z (pos 0) a) (to_z-of_z f) x in
-    record {
-      says = y.says;
-      shaped = y.shaped;
-      counted = y.marks_fit;
-      timely = λ z. record { is = y.start_is z; small = omega (arith, y.times z) };
-    }
+module _ {words : List ℕ} {rule : Rule} {sizes : List ℕ} {grid : List ℤ} {count : ℕ} {time : ℤ} {a : Result Reach Refusal} (f : SFits w64 time)
+    (x : Admits words rule sizes grid (length grid) count (to_z w64 (of_z w64 time)) (pos 0) a) where
+  read : Admits words rule sizes grid (length grid) count time (pos 0) a
+  read = subst (λ (z : ℤ). Admits words rule sizes grid (length grid) count z (pos 0) a) (to_z-of_z f) x
+
+  pub grid_admitted : {reach : Reach} → a ≡ Ok reach → AdmitsGrid words rule sizes grid count time no_refusal
+  grid_admitted {reach} e =
+      let y = read.admitted reach e in
+      record {
+        says = λ p h l. sym (ap refusal_told e) ∙ read.says p h l;
+        shaped = λ _. y.shaped;
+        counted = λ _. y.marks_fit;
+        timely = λ _. record { is = y.start_is; small = omega (arith, y.times) };
+      }
+
+  pub grid_refused : {r : Refusal} → a ≡ Err r → AdmitsGrid words rule sizes grid count time r
+  grid_refused {r} e =
+      record {
+        says = λ p h l. sym (ap refusal_told e) ∙ read.says p h l;
+        shaped = λ z. absurd (read.refused r e z);
+        counted = λ z. absurd (read.refused r e z);
+        timely = λ z. absurd (read.refused r e z);
+      }
 
 -- ---- both grids
 
@@ -85,7 +98,7 @@ module _ {sizes : List ℕ} {count : ℕ} (counts : CountsCells sizes count) {wo
       by true e = ap (λ (m : ℕ). admission p (request_of sizes g (length g) m time (pos 0))) (count_true e)
       by false e = wrong_sizes count e ∙ sym (wrong_sizes (product sizes) e)
 
-both_admitted : {words : List ℕ} {rule : Rule} {n : ℕ} {sizes : List ℕ} {earlier later : List ℤ} {count : ℕ} {time : ℤ} {a b r : declared.Refusal} → Sized n rule → CountsCells sizes count
+both_admitted : {words : List ℕ} {rule : Rule} {n : ℕ} {sizes : List ℕ} {earlier later : List ℤ} {count : ℕ} {time : ℤ} {a b r : Refusal} → Sized n rule → CountsCells sizes count
     → AdmitsGrid words rule sizes earlier count time a → AdmitsGrid words rule sizes later count time b
     → refusal r.number r.place ≡ lower (refusal a.number a.place) (refusal b.number b.place) → AdmitsBoth words rule (wanted sizes earlier later time) count r
 unfolding writing_admission
@@ -103,7 +116,7 @@ both_admitted {sizes = sizes} {earlier = earlier} {later = later} {time = time} 
     }
 
 -- the time as the machine reads it
-pub admits_both : {words : List ℕ} {rule : Rule} {n : ℕ} {sizes : List ℕ} {earlier later : List ℤ} {count : ℕ} {time : ℤ} {a b r : declared.Refusal} → SFits w64 time → Sized n rule → CountsCells sizes count
+pub admits_both : {words : List ℕ} {rule : Rule} {n : ℕ} {sizes : List ℕ} {earlier later : List ℤ} {count : ℕ} {time : ℤ} {a b r : Refusal} → SFits w64 time → Sized n rule → CountsCells sizes count
     → AdmitsGrid words rule sizes earlier count (to_z w64 (of_z w64 time)) a → AdmitsGrid words rule sizes later count (to_z w64 (of_z w64 time)) b
     → refusal r.number r.place ≡ lower (refusal a.number a.place) (refusal b.number b.place) → AdmitsBoth words rule (wanted sizes earlier later time) count r
 admits_both {words} {rule} {sizes = sizes} {earlier = earlier} {later = later} {count = count} {r = r} f sized counts x y e =

@@ -26,7 +26,6 @@ use Rattle.grammar.specs.Promises.Flat.{names_after}
 use Rattle.run_meaning.specs.Promises.Fitting.{held_fields}
 use Rattle.run_calls.specs.Calls.{NameForm, flat_names, SourceLent, source_fits, names_left}
 use Rattle.read_source.specs.Promises.Promises.{Loads, Checks, is_accepted}
-use Rattle.run_admission.specs.declared.Refusal as declared
 use Rattle.move_meaning.specs.Profile.{profile_flag}
 use Rattle.move_profile.specs.Promises.Flags.{FlagOf}
 use Rattle.list_meaning.proofs.Theorems.Told.{told_text}
@@ -74,7 +73,7 @@ module _ (p : Program) (flag : Option ℕ) (q : Wanted) (room : List ℕ) where
   unfolding write_by
   admitted_is n i z = rw (eq-eqb n 0 z, write_by)
 
-module _ {words : List ℕ} {rule : Rule} {q : Wanted} {count : ℕ} {a : declared.Refusal} (x : AdmitsBoth words rule q count a) (told : ℕ) (room : List ℕ) where
+module _ {words : List ℕ} {rule : Rule} {q : Wanted} {count : ℕ} {a : Refusal} (x : AdmitsBoth words rule q count a) (told : ℕ) (room : List ℕ) where
   pub loaded_refused : (a.number ≡ 0 → ⊥) → WritesLoaded words rule told q room (record { number = a.number; place = a.place; length = 0 }) room
   loaded_refused z =
       record { is = λ p flag h l e. refused_is p flag q room a.number a.place z ∙ ap (write_by p flag q room) (x.says p h l) ∙ sym (write_is p flag q room) }

@@ -7,7 +7,8 @@ ghost use Rattle.list_writer.specs.WriterCalls.{wanted};
 ghost use Rattle.list_writer.specs.Promises.Admitting.{CountsCells, AdmitsGrid, AdmitsBoth};
 
 use program::Rule;
-use run_admission::{Refusal, admit, cells};
+use program::reply::Refusal;
+use run_admission::{admit, cells};
 use value::limits::MOST_DIMS;
 
 // The number of cells of a grid with these sizes, where a run could have them.
@@ -21,6 +22,7 @@ pub fn cell_count(sizes: &[u32]) -> usize
 }
 
 // A grid is checked. `count` is the number of cells.
+#[tactic(auto, using(crate::proofs::AdmittingLaws::grid_admitted, crate::proofs::AdmittingLaws::grid_refused))]
 fn admit_grid(
     words: &[u32],
     rule: Rule,
@@ -32,10 +34,12 @@ fn admit_grid(
     requires { (Sized (length words.now) rule) × (0 < rule.fields) }
     ensures { AdmitsGrid words.now rule sizes.now grid.now count time result }
 {
-    let admitted = admit(words, rule, sizes, grid, grid.len(), count, time, 0);
-    Refusal {
-        number: admitted.number,
-        place: admitted.place,
+    match admit(words, rule, sizes, grid, grid.len(), count, time, 0) {
+        Ok(_) => Refusal {
+            number: 0,
+            place: 0,
+        },
+        Err(refusal) => refusal,
     }
 }
 

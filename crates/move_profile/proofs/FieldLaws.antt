@@ -2,34 +2,33 @@
 use Prim.Native.Nat.{ℕ, zero, suc, ◌+◌, ◌-◌, ◌≤◌, ◌<◌}
 use native.Mathlib.Omega.{arith}
 use mathlib.Core.Path.{◌≡◌, refl, sym, ap, ◌∙◌, subst}
+use mathlib.Core.Logic.{◌⊎◌, inl, inr}
 use mathlib.Core.Bool.{Bool, true, false, ◌&&◌}
 use mathlib.Core.List.{List, [], ◌∷◌}
 use mathlib.Core.Option.{Option, none, some}
 use lib.ListN.{length, get_or, get_or-eq_default}
 use lib.Dec.{eqb}
 use mir.Syntax.{w32}
-use mir.Val.{SFits, of_z}
-use borrow.Author.Tests.{eq-eqb, ne_eqb, eqb-true, eqb-false}
+use mir.Val.{SFits}
+use borrow.Author.Tests.{eq-eqb, ne_eqb}
 use lib.IntN.{pos}
 use Rattle.value.specs.Limits.{most_names}
+use Rattle.value.specs.Number.{eq_z}
 use Rattle.value.specs.declared.Value.{Value}
-use Rattle.std.specs.Prelude.{if◌then◌else◌}
+use Rattle.std.specs.Prelude as rust
+use Rattle.std.specs.Prelude.{Some, None, if◌then◌else◌}
 use Rattle.value.specs.Worked.{value, decode_of}
-use Rattle.value.proofs.Tests.{eq_bits, zero_yes, zero_no}
-use Rattle.automaton.specs.Promises.ListedLaws.{length_list_of, get_or_list_of}
+use Rattle.automaton.specs.Promises.ListedLaws.{length_list_of, get_or_list_of, last_or_below}
 use Rattle.token.specs.Bytes.{as_bytes, fold, same}
 use Rattle.names.specs.declared.Entry.{Entry}
-use Rattle.names.specs.declared.Found.{Found}
-use Rattle.names.specs.declared.Found.TheVariants.{At, Missing}
 use Rattle.names.specs.Names.{is_field, entry_at, entries_from, letters, find}
-use Rattle.names.specs.Promises.Finding.{found_of, Below}
 use Rattle.program.specs.Syntax.{Range, no_range}
 use Rattle.program.specs.declared.Rule.{Rule}
 use Rattle.cell_meaning.specs.Promises.Stands.{range_in, rule_table, ranges_in}
 use Rattle.cell_meaning.specs.Links.{word_in}
 use Rattle.move_meaning.specs.Profile.{moved_slot, is_flag, flag_of, flag_in}
 use Rattle.move_meaning.specs.Promises.Flags.{flag_told}
-use Rattle.move_profile.specs.Promises.Fields.{NamesMoved, MovedSlot, IsFlag, FlagField}
+use Rattle.move_profile.specs.Promises.Fields.{option_of, NamesMoved, MovedSlot, IsFlag, FlagField}
 
 -- ---- the spelling
 
@@ -63,48 +62,33 @@ all_letters (x ∷ w) source start h =
     let rest = all_letters w source (start + 1) (λ k l. ap (λ (i : ℕ). fold (get_or source i 0)) (omega arith) ∙ h (suc k) (omega arith)) in
     rest ∙ ap (λ (t : Bool). t && same w (letters source (start + 1) (length w))) (sym first)
 
+module _ (source : List ℕ) (start : ℕ) where
+  -- the first k letters are there
+  pub record Spells (k : ℕ) : Type 0 where
+    pub each : (j : ℕ) → j < k → fold (get_or source (start + j) 0) ≡ get_or (as_bytes "moved") j 0
+
+  pub spells_start : Spells 0
+  spells_start = record { each = λ j l. absurd (omega arith) }
+
+  pub spells_more : {k : ℕ} {a : ℕ} → a ≡ fold (get_or source (start + k) 0) → Spells k → a ≡ get_or (as_bytes "moved") k 0 → Spells (k + 1)
+  spells_more {k} p s e = record { each = λ j h. at j (last_or_below (let w : j < suc k = omega arith in w)) }
+    where
+      at : (j : ℕ) → (j ≡ k) ⊎ (j < k) → fold (get_or source (start + j) 0) ≡ get_or (as_bytes "moved") j 0
+      at j (inl q) = rw q (sym p ∙ e)
+      at j (inr q) = s.each j q
+
 module _ (source : List ℕ) (start : ℕ) {len : ℕ} where
   pub moved_length : (len ≡ 5 → ⊥) → false ≡ same (as_bytes "moved") (letters source start len)
   moved_length h = other_length (as_bytes "moved") source start len h
 
-  module _ (five : len ≡ 5) {a : ℕ} (p : a ≡ fold (get_or source start 0)) where
-    no_letter : (k : ℕ) → k < 5 → (fold (get_or source (start + k) 0) ≡ get_or (as_bytes "moved") k 0 → ⊥) → false ≡ same (as_bytes "moved") (letters source start len)
-    no_letter k l h = other_letter (as_bytes "moved") source start k l h ∙ ap (λ (n : ℕ). same (as_bytes "moved") (letters source start n)) (sym five)
+  module _ {k : ℕ} (l : k < 5) {a : ℕ} (p : a ≡ fold (get_or source (start + k) 0)) where
+    pub moved_other : len ≡ 5 → (a ≡ get_or (as_bytes "moved") k 0 → ⊥) → false ≡ same (as_bytes "moved") (letters source start len)
+    moved_other five h = other_letter (as_bytes "moved") source start k l (λ e. h (p ∙ e)) ∙ ap (λ (n : ℕ). same (as_bytes "moved") (letters source start n)) (sym five)
 
-    first : fold (get_or source (start + 0) 0) ≡ a
-    first = ap (λ (i : ℕ). fold (get_or source i 0)) (omega arith) ∙ sym p
+  pub moved_all : len ≡ 5 → {k : ℕ} → Spells source start k → 5 ≤ k → true ≡ same (as_bytes "moved") (letters source start len)
+  moved_all five s l = all_letters (as_bytes "moved") source start (λ j h. s.each j (omega arith)) ∙ ap (λ (n : ℕ). same (as_bytes "moved") (letters source start n)) (sym five)
 
-    pub moved_m : (a ≡ 109 → ⊥) → false ≡ same (as_bytes "moved") (letters source start len)
-    moved_m h = no_letter 0 (omega arith) (λ e. h (sym first ∙ e))
-
-    module _ {b : ℕ} (q : b ≡ fold (get_or source (start + 1) 0)) where
-      pub moved_o : (b ≡ 111 → ⊥) → false ≡ same (as_bytes "moved") (letters source start len)
-      moved_o h = no_letter 1 (omega arith) (λ e. h (q ∙ e))
-
-      module _ {c : ℕ} (r : c ≡ fold (get_or source (start + 2) 0)) where
-        pub moved_v : (c ≡ 118 → ⊥) → false ≡ same (as_bytes "moved") (letters source start len)
-        moved_v h = no_letter 2 (omega arith) (λ e. h (r ∙ e))
-
-        module _ {d : ℕ} (s : d ≡ fold (get_or source (start + 3) 0)) where
-          pub moved_e : (d ≡ 101 → ⊥) → false ≡ same (as_bytes "moved") (letters source start len)
-          moved_e h = no_letter 3 (omega arith) (λ e. h (s ∙ e))
-
-          pub moved_d : a ≡ 109 → b ≡ 111 → c ≡ 118 → d ≡ 101 → {e : ℕ} → e ≡ fold (get_or source (start + 4) 0) → eqb e 100 ≡ same (as_bytes "moved") (letters source start len)
-          moved_d h i j k {e} t = by (eqb e 100) refl
-            where
-              letter : e ≡ 100 → (n : ℕ) → n < 5 → fold (get_or source (start + n) 0) ≡ get_or (as_bytes "moved") n 0
-              letter l zero m = first ∙ h
-              letter l (suc zero) m = sym q ∙ i
-              letter l (suc (suc zero)) m = sym r ∙ j
-              letter l (suc (suc (suc zero))) m = sym s ∙ k
-              letter l (suc (suc (suc (suc zero)))) m = sym t ∙ l
-              letter l (suc (suc (suc (suc (suc n))))) m = absurd (omega arith)
-
-              by : (x : Bool) → eqb e 100 ≡ x → x ≡ same (as_bytes "moved") (letters source start len)
-              by true z = all_letters (as_bytes "moved") source start (letter (eqb-true e 100 z)) ∙ ap (λ (n : ℕ). same (as_bytes "moved") (letters source start n)) (sym five)
-              by false z = no_letter 4 (omega arith) (λ l. eqb-false e 100 z (t ∙ l))
-
-pub ruleset Spellings = (moved_length, moved_m, moved_o, moved_v, moved_e, moved_d)
+pub ruleset Spellings = (spells_start, moved_length, moved_other, spells_more, moved_all)
 
 -- ---- the slot
 
@@ -127,11 +111,11 @@ module _ (source names : List ℕ) where
   seek_start = record { within = omega arith; left = refl }
 
   module _ {i : ℕ} (h : Seeks source names i) where
-    pub seek_none : most_names ≤ i → MovedSlot source names Missing
+    pub seek_none : most_names ≤ i → MovedSlot source names None
     unfolding find entries_from
     seek_none l =
         let z : most_names - i ≡ 0 = omega arith in
-        record { is = sym (ap found_of (h.left ∙ ap (λ (n : ℕ). find source is_field (as_bytes "moved") i (entries_from names i n)) z)); below = tt }
+        record { is = sym (ap option_of (h.left ∙ ap (λ (n : ℕ). find source is_field (as_bytes "moved") i (entries_from names i n)) z)); below = λ slot q. cc }
 
     module _ (l : i < most_names) {b : Bool} (m : NamesMoved source names i b) where
       turn : moved_slot source names ≡ (if b then some i else find source is_field (as_bytes "moved") (i + 1) (entries_from names (i + 1) (most_names - (i + 1))))
@@ -145,8 +129,8 @@ module _ (source names : List ℕ) where
           ≡ (if x then some i else find source is_field (as_bytes "moved") (i + 1) (entries_from names (i + 1) (most_names - (i + 1))))
       chosen y = ap (λ (t : Bool). if t then some i else find source is_field (as_bytes "moved") (i + 1) (entries_from names (i + 1) (most_names - (i + 1)))) y
 
-      pub seek_found : b ≡ true → MovedSlot source names (At i)
-      seek_found y = record { is = sym (ap found_of (turn ∙ chosen y)); below = l }
+      pub seek_found : b ≡ true → MovedSlot source names (Some i)
+      seek_found y = record { is = sym (ap option_of (turn ∙ chosen y)); below = λ slot q. let same : i ≡ slot = cc in subst (λ (n : ℕ). n < most_names) same l }
 
       pub seek_more : b ≡ false → Seeks source names (i + 1)
       seek_more y = record { within = omega arith; left = turn ∙ chosen y }
@@ -159,41 +143,31 @@ module _ (words : List ℕ) (n at : ℕ) {w : ℕ} (p : w ≡ word_in words n 2 
   low_is : decode_of (word_in words n 2 at) ≡ low.n
   low_is = ap decode_of (sym p) ∙ ap (λ (v : Value). v.n) (sym s)
 
-  pub range_low : (of_z w32 low.n ≡ 0 → ⊥) → IsFlag words n at false
-  range_low d = record { is = λ dims. rw (low_is, zero_no w32 low.n fits d) refl }
+  module _ {v : ℕ} (y : v ≡ word_in words n 3 at) {high : Value} (t : high ≡ value (decode_of v)) (small : SFits w32 high.n) where
+    pub range_is : {r : Bool} → r ≡ (eq_z low.n (pos 0) && eq_z high.n (pos 1)) → IsFlag words n at r
+    range_is e = record { is = λ dims. e ∙ rw (low_is, ap decode_of (sym y) ∙ ap (λ (v : Value). v.n) (sym t)) refl }
 
-  module _ (z : of_z w32 low.n ≡ 0) {v : ℕ} (y : v ≡ word_in words n 3 at) {high : Value} (t : high ≡ value (decode_of v)) (small : SFits w32 high.n) where
-    pub range_high : IsFlag words n at (eqb (of_z w32 high.n) 1)
-    range_high =
-        record {
-          is = λ dims.
-              eq_bits w32 high.n (pos 1) small (record { sfits = omega arith })
-              ∙ rw (low_is, zero_yes w32 low.n fits z, ap decode_of (sym y) ∙ ap (λ (v : Value). v.n) (sym t)) refl;
-        }
-
-pub ruleset Ranges = (range_low, range_high)
-
-found_slot : (o : Option ℕ) (slot : ℕ) → At slot ≡ found_of o → o ≡ some slot
+found_slot : (o : Option ℕ) (slot : ℕ) → Some slot ≡ option_of o → o ≡ some slot
 found_slot none slot e = absurd (let z : ◌≡◌ {A = ℕ} 0 1 = cc in omega arith)
 found_slot (some s) slot e = let z : slot ≡ s = cc in ap (λ (x : ℕ). some x) (sym z)
 
-found_none : (o : Option ℕ) → Missing ≡ found_of o → o ≡ none
+found_none : (o : Option ℕ) → None ≡ option_of o → o ≡ none
 found_none none e = refl
 found_none (some s) e = absurd (let z : ◌≡◌ {A = ℕ} 0 1 = cc in omega arith)
 
-module _ (source words names : List ℕ) (rule : Rule) {found : Found} (m : MovedSlot source names found) where
+module _ (source words names : List ℕ) (rule : Rule) {found : rust.Option ℕ} (m : MovedSlot source names found) where
   -- the field, by the name in a slot
   of_entry : Entry → Option ℕ
   of_entry e = flag_of e (ranges_in (rule_table words rule) rule.base rule.fields)
 
-  pub field_missing : found ≡ Missing → FlagField source words names rule rule.fields
+  pub field_missing : found ≡ None → FlagField source words names rule rule.fields
   field_missing q =
       record { is = ap (λ (o : Option ℕ). flag_told rule.fields (flag_in o names (ranges_in (rule_table words rule) rule.base rule.fields))) (sym (found_none (moved_slot source names) (sym q ∙ m.is))) }
 
-  pub slot_below : {slot : ℕ} → found ≡ At slot → slot < most_names
-  slot_below q = subst (Below most_names) q m.below
+  pub slot_below : {slot : ℕ} → found ≡ Some slot → slot < most_names
+  slot_below {slot} q = m.below slot q
 
-  module _ {slot : ℕ} (q : found ≡ At slot) {e : Entry} (is : e ≡ entry_at names slot) where
+  module _ {slot : ℕ} (q : found ≡ Some slot) {e : Entry} (is : e ≡ entry_at names slot) where
     by_entry : (r : ℕ) → r ≡ flag_told rule.fields (of_entry e) → FlagField source words names rule r
     unfolding of_entry
     by_entry r h =

@@ -8,7 +8,7 @@ use mathlib.Core.Option.{Option, none, some}
 use lib.ListN.{length}
 use borrow.Author.Tests.{not-true, not-false}
 use Rattle.value.specs.Limits.{name_words}
-use Rattle.std.specs.Prelude.{if◌then◌else◌}
+use Rattle.std.specs.Prelude.{Result, Ok, Err, if◌then◌else◌}
 use Rattle.value.proofs.Theorems.Laws.{never}
 use Rattle.token.specs.Lexeme.{is_built_in}
 use Rattle.program.specs.Syntax.{Range}
@@ -25,7 +25,8 @@ use Rattle.read_source.proofs.Checks.{unlisted, list_right}
 use Rattle.move_meaning.specs.Profile.{moved_slot, flag_in, flag_field, tokens_in, tokens_of, statements_at, moves_once, if_moves, profile_flag, rule_missed, missed, answer_of, one_move}
 use Rattle.move_meaning.specs.Promises.Flags.{flag_told}
 use Rattle.move_meaning.proofs.Theorems.InProfile.{flag_found}
-use Rattle.move_profile.specs.declared.Profile.{Profile}
+use Rattle.move_profile.specs.declared.Missed.{Missed}
+use Rattle.move_profile.specs.declared.Missed.TheVariants.{Refused, NoFlag, OtherStatements}
 use Rattle.move_profile.specs.Promises.Standing.{Stood}
 use Rattle.move_profile.specs.Promises.Fields.{field_in, FlagField}
 use Rattle.move_profile.specs.Promises.Moves.{DecidesMove}
@@ -97,8 +98,8 @@ pub ruleset Flags = (flag_none, flag_some, flag_still)
 -- ---- the rule that is missed
 
 module _ {source words names : List ℕ} {rule : Rule} {f : ℕ} (h : FlagField source words names rule f) where
-  pub missed_two : f ≡ rule.fields → RuleMissed source words names rule 2
-  missed_two q = record { is = λ a s. sym (ap (λ (o : Option ℕ). rule_missed o (profile_flag source a)) (no_field s h q)) }
+  pub missed_two : f ≡ rule.fields → RuleMissed source words names rule (Err NoFlag)
+  missed_two q = record { is = λ a s. sym (ap (λ (o : Option ℕ). missed (rule_missed o (profile_flag source a)) 0 0) (no_field s h q)) }
 
   module _ (q : f ≡ rule.fields → ⊥) {g : ℕ} (k : FlagOf source words names rule g) where
     by_flag : (a : Accepted) → Stood source words names rule a → (o : Option ℕ) → profile_flag source a ≡ o
@@ -114,30 +115,27 @@ module _ {source words names : List ℕ} {rule : Rule} {f : ℕ} (h : FlagField 
         go true m z = let same : f ≡ x = cc in subst (λ (n : ℕ). n < rule.fields) same (below s (a_field s h q))
         go false m z = absurd (let y : ◌≡◌ {A = ℕ} 0 1 = cc in omega arith)
 
-    pub missed_three : g ≡ rule.fields → RuleMissed source words names rule 3
+    pub missed_three : g ≡ rule.fields → RuleMissed source words names rule (Err OtherStatements)
     missed_three z = record { is = λ a s. go a s (profile_flag source a) refl }
       where
-        go : (a : Accepted) (s : Stood source words names rule a) (o : Option ℕ) → profile_flag source a ≡ o → 3 ≡ rule_missed (flag_field source a) (profile_flag source a)
-        go a s none e = sym (by_flag a s none e).0
+        go : (a : Accepted) (s : Stood source words names rule a) (o : Option ℕ) → profile_flag source a ≡ o → missed 3 0 0 ≡ missed (rule_missed (flag_field source a) (profile_flag source a)) 0 0
+        go a s none e = ap (λ (r : ℕ). missed r 0 0) (sym (by_flag a s none e).0)
         go a s (some x) e = absurd (let l = flag_below a s e in let y = (by_flag a s (some x) e).1 in omega arith)
 
-    pub missed_none : (g ≡ rule.fields → ⊥) → RuleMissed source words names rule 0
+    pub missed_none : (g ≡ rule.fields → ⊥) → RuleMissed source words names rule (Ok tt)
     missed_none z = record { is = λ a s. go a s (profile_flag source a) refl }
       where
-        go : (a : Accepted) (s : Stood source words names rule a) (o : Option ℕ) → profile_flag source a ≡ o → 0 ≡ rule_missed (flag_field source a) (profile_flag source a)
+        go : (a : Accepted) (s : Stood source words names rule a) (o : Option ℕ) → profile_flag source a ≡ o → missed 0 0 0 ≡ missed (rule_missed (flag_field source a) (profile_flag source a)) 0 0
         go a s none e = absurd (z (by_flag a s none e).1)
-        go a s (some x) e = sym (by_flag a s (some x) e).0
+        go a s (some x) e = ap (λ (r : ℕ). missed r 0 0) (sym (by_flag a s (some x) e).0)
 
 pub ruleset Misses = (missed_two, missed_three, missed_none)
 
 -- ---- the answer
 
-abbrev profile : ℕ → ℕ → ℕ → Profile
-profile rule number place = record { rule = rule; number = number; place = place }
-
 module _ {fit : Bool} {source ws ns : List ℕ} {number place : ℕ} {ws' ns' : List ℕ} (checked : Checks fit source ws ns number place ws' ns') where
   -- a source that is refused
-  refused_answer : is_accepted (read_source fit source) ≡ false → CheckOneMove fit source ws ns (profile 1 number place) ws' ns'
+  refused_answer : is_accepted (read_source fit source) ≡ false → CheckOneMove fit source ws ns (Err (Refused (refusal number place))) ws' ns'
   unfolding one_move check
   refused_answer e = record { answer = go (read_source fit source) e checked.reply; words = checked.words; names = checked.names }
     where
@@ -158,14 +156,14 @@ module _ {fit : Bool} {source ws ns : List ℕ} {number place : ℕ} {ws' ns' : 
 
 module _ {source ws ns : List ℕ} {known : Bool} {rule : Rule} {n place : ℕ} {ws' ns' : List ℕ}
     (checked : Checks (rooms_fit (length ws) (length ns)) source ws ns n place ws' ns') (loaded : Loads source ws ns known rule) where
-  pub not_loaded : not known ≡ true → CheckOneMove (rooms_fit (length ws) (length ns)) source ws ns (profile 1 n place) ws' ns'
+  pub not_loaded : not known ≡ true → CheckOneMove (rooms_fit (length ws) (length ns)) source ws ns (Err (Refused (refusal n place))) ws' ns'
   not_loaded u = refused_answer checked (sym loaded.is ∙ not-true known u)
 
   module _ (sure : not known ≡ false) where
     pub can_miss : length ns ≡ length ns' → (Sized (length ws') rule) × (length ns' ≡ name_words)
     can_miss k = (sized checked loaded (not-false known sure), sym k ∙ loaded.list (not-false known sure))
 
-    pub told_missed : {r : ℕ} → RuleMissed source ws' ns' rule r → CheckOneMove (rooms_fit (length ws) (length ns)) source ws ns (profile r 0 0) ws' ns'
+    pub told_missed : {r : Result (Unit {0}) Missed} → RuleMissed source ws' ns' rule r → CheckOneMove (rooms_fit (length ws) (length ns)) source ws ns r ws' ns'
     unfolding one_move
     told_missed {r} m =
         let known_so = not-false known sure in
@@ -173,16 +171,18 @@ module _ {source ws ns : List ℕ} {known : Bool} {rule : Rule} {n place : ℕ} 
         let e = loaded.reads known_so t in
         record {
           answer =
-              ap (λ (x : ℕ). missed x 0 0) (m.is (accepted_by t) (stood checked loaded known_so (accepted_by t) e))
+              m.is (accepted_by t) (stood checked loaded known_so (accepted_by t) e)
               ∙ ap (answer_of source) (sym e);
           words = checked.words;
           names = checked.names;
         }
 
 module _ (list : List ℕ) {source ws ns : List ℕ} {t : Bool} (is : t ≡ is_built_in list) where
-  pub other_list : not t ≡ true → CheckOneMove (lent_fit list (length ws) (length ns)) source ws ns (profile 1 1 0) ws ns
-  other_list e = let c : Checks (lent_fit list (length ws) (length ns)) source ws ns 1 0 ws ns = unlisted list is e in refused_answer c (not_zero c (λ z. omega arith))
+  pub other_list : not t ≡ true → {f : Refusal} → f ≡ refusal 1 0 → CheckOneMove (lent_fit list (length ws) (length ns)) source ws ns (Err (Refused f)) ws ns
+  other_list e {f} q =
+      let c : Checks (lent_fit list (length ws) (length ns)) source ws ns 1 0 ws ns = unlisted list is e in
+      subst (λ (x : Refusal). CheckOneMove (lent_fit list (length ws) (length ns)) source ws ns (Err (Refused x)) ws ns) (sym q) (refused_answer c (not_zero c (λ z. omega arith)))
 
-  pub built_in_list : not t ≡ false → {p : Profile} {ws' ns' : List ℕ} → CheckOneMove (rooms_fit (length ws) (length ns)) source ws ns p ws' ns'
+  pub built_in_list : not t ≡ false → {p : Result (Unit {0}) Missed} {ws' ns' : List ℕ} → CheckOneMove (rooms_fit (length ws) (length ns)) source ws ns p ws' ns'
       → CheckOneMove (lent_fit list (length ws) (length ns)) source ws ns p ws' ns'
   built_in_list e {p} {ws'} {ns'} = subst (λ (fit : Bool). CheckOneMove fit source ws ns p ws' ns') (sym (list_right list (length ws) (length ns) (sym is ∙ not-false t e)))

@@ -49,17 +49,6 @@ module _ (words : List ℕ) (n at : ℕ) (kinds : List ℕ) where
 
 pub ruleset Rows = (row_start, row_all, row_other, row_more)
 
--- ---- a digit
-
-module _ (words : List ℕ) (n at d : ℕ) {w : ℕ} (e : w ≡ word_in words n 1 at) where
-  pub digit_long : (w / 65536 ≡ 1 → ⊥) → false ≡ (eqb (word_in words n 1 at / 65536) 1 && eqb (word_in words n 2 at) d)
-  digit_long h = rw (← e, ne_eqb (w / 65536) 1 h) refl
-
-  pub digit_one : w / 65536 ≡ 1 → {v : ℕ} → v ≡ word_in words n 2 at → eqb v d ≡ (eqb (word_in words n 1 at / 65536) 1 && eqb (word_in words n 2 at) d)
-  digit_one h {v} q = rw (← e, eq-eqb (w / 65536) 1 h, ← q) refl
-
-pub ruleset Digits = (digit_long, digit_one)
-
 -- ---- the tokens before and behind
 
 abbrev opening : List ℕ

@@ -10,16 +10,15 @@ use cell_statements::begins;
 use token::kind;
 
 // Whether the tokens from a position on are of these kinds.
+#[tactic(auto, using(crate::proofs::MoveLaws::Rows))]
 fn kinds_at(words: &[u32], n: usize, at: usize, kinds: &[u32]) -> bool
     requires { (4 * n ≤ length words.now) × (n ≤ most_tokens) × (at ≤ most_tokens) × (length kinds.now ≤ 8) }
     ensures { KindsAt words.now n at kinds.now result }
 {
-    let mut i: usize = 0;
-    while i < kinds.len() {
+    for i in 0..kinds.len() {
         if word_at(words, n, 0, at + i) != kinds[i] {
             return false;
         }
-        i += 1;
     }
     true
 }
@@ -29,13 +28,11 @@ fn digit_at(words: &[u32], n: usize, at: usize, d: u32) -> bool
     requires { (4 * n ≤ length words.now) × (n ≤ most_tokens) }
     ensures { result ≡ (eqb (word_in words.now n 1 at / 65536) 1 && eqb (word_in words.now n 2 at) d) }
 {
-    if word_at(words, n, 1, at) / 65536 != 1 {
-        return false;
-    }
-    word_at(words, n, 2, at) == d
+    word_at(words, n, 1, at) / 65536 == 1 && word_at(words, n, 2, at) == d
 }
 
 // Whether `if cell.moved = 0 then` is at a position, where the field is `moved`.
+#[tactic(auto, using(crate::proofs::MoveLaws::Openings))]
 fn opens_at(words: &[u32], n: usize, field: u32, at: usize) -> bool
     requires { (4 * n ≤ length words.now) × (n ≤ most_tokens) × (at ≤ n) }
     ensures { OpensAt words.now n field at result }
@@ -62,6 +59,7 @@ fn opens_at(words: &[u32], n: usize, field: u32, at: usize) -> bool
 }
 
 // Whether the assignment `cell.moved := 1` is at a position, without a condition, and the `end` or a constant after it.
+#[tactic(auto, using(crate::proofs::MoveLaws::Closings))]
 fn closes_at(words: &[u32], n: usize, field: u32, at: usize) -> bool
     requires { (4 * n ≤ length words.now) × (n ≤ most_tokens) × (at ≤ n) }
     ensures { ClosesAt words.now n field at result }
@@ -86,10 +84,7 @@ fn closes_at(words: &[u32], n: usize, field: u32, at: usize) -> bool
         return false;
     }
     let behind = word_at(words, n, 0, at + 5);
-    if behind == kind::END_WORD {
-        return true;
-    }
-    behind == kind::CONST_WORD
+    behind == kind::END_WORD || behind == kind::CONST_WORD
 }
 
 // The position after the constants that are declared from a position on.

@@ -4,22 +4,21 @@ use native.Mathlib.Omega.{arith}
 use native.Mathlib.Nat.{sub-zero}
 use mathlib.Core.Path.{◌≡◌, refl, sym, ap, ◌∙◌}
 use mathlib.Core.List.{List}
-use mathlib.Core.Bool.{Bool, true, false, not, ◌&&◌}
+use mathlib.Core.Bool.{Bool, true, false, not, ◌&&◌, beq}
 use mathlib.Core.Option.{none, some}
 use lib.Dec.{eqb}
 use borrow.Author.Tests.{ne_eqb}
-use Rattle.std.specs.Prelude.{if◌then◌else◌}
+use Rattle.std.specs.Prelude.{Some, None, if◌then◌else◌}
 use Rattle.token.specs.Bytes.{same}
 use Rattle.names.specs.Names.{entry_at, entries_from, is_field, in_space, letters, find, find_name}
 use Rattle.names.specs.Promises.Finding.{match_of, Matches, found_of, Finds}
 use Rattle.names.specs.declared.Entry.{Entry}
-use Rattle.names.specs.declared.Found.TheVariants.{At, Missing}
 use Rattle.names.proofs.Spelling.{unlike}
 
 -- ---- which names are seen
 
 module _ (e : Entry) where
-  pub field_plain : e.kind ≡ 3 → true ≡ is_field e
+  pub field_plain : e.kind ≡ 3 → eqb e.kind 3 ≡ is_field e
   unfolding is_field
   field_plain k = simp k
 
@@ -27,14 +26,15 @@ module _ (e : Entry) where
   unfolding is_field
   field_const d = simp (ne_eqb _ _ d)
 
-  module _ {fields r : Bool} where
-    pub space_fields : fields ≡ true → r ≡ is_field e → r ≡ in_space fields e
-    unfolding in_space
-    space_fields h q = rw h q
-
-    pub space_other : fields ≡ false → {f : Bool} → f ≡ is_field e → r ≡ not f → r ≡ in_space fields e
-    unfolding in_space
-    space_other h p q = q ∙ rw (h, p)
+  pub space_is : (fields : Bool) {r : Bool} → r ≡ is_field e → beq fields r ≡ in_space fields e
+  unfolding in_space
+  space_is fields q = rw q (by fields (is_field e))
+    where
+      by : (t r : Bool) → beq t r ≡ (if t then r else not r)
+      by true true = refl
+      by true false = refl
+      by false true = refl
+      by false false = refl
 
 -- ---- one name
 
@@ -75,7 +75,7 @@ module _ (source names : List ℕ) (count : ℕ) (fields : Bool) (start n : ℕ)
   seek_start = record { within = omega arith; left = rw (sub-zero count) }
 
   module _ (i : ℕ) (h : Seeks source names count fields start n i) where
-    pub seek_none : count ≤ i → Finds source names count fields start n Missing
+    pub seek_none : count ≤ i → Finds source names count fields start n None
     unfolding find entries_from
     seek_none l =
         let z : count - i ≡ 0 = omega arith in
@@ -92,8 +92,8 @@ module _ (source names : List ℕ) (count : ℕ) (fields : Bool) (start n : ℕ)
       pub seek_differs : b ≡ false → Seeks source names count fields start n (i + 1)
       seek_differs u = record { within = omega arith; left = h.left ∙ step ∙ rw u }
 
-      pub seek_found : b ≡ true → Finds source names count fields start n (At i)
+      pub seek_found : b ≡ true → Finds source names count fields start n (Some i)
       seek_found u = let q : find_name source names count fields start n ≡ some i = h.left ∙ step ∙ rw u in record { is = sym (ap found_of q); below = l }
 
 pub ruleset Searches =
-    (field_plain, field_const, space_fields, space_other, match_length, match_space, match_letters, seek_start, seek_none, seek_differs, seek_found)
+    (field_plain, field_const, space_is, match_length, match_space, match_letters, seek_start, seek_none, seek_differs, seek_found)

@@ -6,25 +6,29 @@ use mathlib.Core.Path.{◌≡◌, refl, sym, ap, ◌∙◌}
 use mathlib.Core.List.{List, ◌∷◌}
 use mathlib.Core.Bool.{Bool, true, false, ◌&&◌}
 use lib.ListN.{length, get_or, get_or-eq_default}
-use lib.Dec.{eqb}
+use lib.Dec.{eqb, leb}
+use Rattle.std.specs.Prelude.{if◌then◌else◌}
 use borrow.Author.Tests.{eq-eqb, ne_eqb, le-leb, lt-leb}
+use Rattle.std.specs.Char.{LowercasesTo}
+use mathlib.Core.Logic.{inl, inr}
 use Rattle.token.specs.Bytes.{fold, same}
 use Rattle.names.specs.Names.{letters}
 
 -- ---- a letter
 
-module _ (b : ℕ) where
-  pub fold_upper : 65 ≤ b → b ≤ 90 → b + 32 ≡ fold b
-  unfolding fold
-  fold_upper h l = simp (le-leb 65 b h, le-leb b 90 l)
+-- the library's lower case is the definition's
+lower_is : {b r : ℕ} → LowercasesTo b r → r ≡ fold b
+unfolding fold
+lower_is {b} (inl (h, e)) = e ∙ simp (le-leb 65 b h.0, le-leb b 90 h.1)
+lower_is {b} (inr (inl h, e)) = e ∙ simp (lt-leb 65 b h)
+lower_is {b} (inr (inr h, e)) = e ∙ by (leb 65 b) (lt-leb b 90 h)
+  where
+    by : {u : Bool} (t : Bool) → u ≡ false → b ≡ (if t && u then b + 32 else b)
+    by true q = simp q
+    by false q = refl
 
-  pub fold_above : 65 ≤ b → 90 < b → b ≡ fold b
-  unfolding fold
-  fold_above h l = simp (le-leb 65 b h, lt-leb b 90 l)
-
-  pub fold_below : b < 65 → b ≡ fold b
-  unfolding fold
-  fold_below h = simp (lt-leb 65 b h)
+pub lower_fold : {a b r : ℕ} → LowercasesTo b r → b ≡ a → r ≡ fold a
+lower_fold h e = lower_is h ∙ ap fold e
 
 pub fold_end : (source : List ℕ) (i : ℕ) → length source ≤ i → 0 ≡ fold (get_or source i 0)
 unfolding fold
@@ -85,4 +89,4 @@ pub alike_all : (source : List ℕ) (a b n k : ℕ) → Alike source a b n k →
 unfolding letters same
 alike_all source a b n k h l = let z : n - k ≡ 0 = omega arith in sym (h.left ∙ rw z)
 
-pub ruleset Spellings = (fold_upper, fold_above, fold_below, fold_end, alike_start, alike_more, alike_end, alike_all)
+pub ruleset Spellings = (fold_end, alike_start, alike_more, alike_end, alike_all)

@@ -1,4 +1,5 @@
 // The kinds of names.
+// Kept: a name's kind is a word of the list that the caller lends (docs/LAYOUT.md), and `entry_in` promises that word, whatever it is, so an enum cannot hold it.
 
 pub const CONSTANT: u32 = 1;
 

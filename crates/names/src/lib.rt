@@ -1,6 +1,7 @@
 #![tactic(auto)]
 
 // The name list on flat words: four words a name, in order of declaration.
+// Kept: rows of words by arithmetic, since C lends the list as words (docs/LAYOUT.md).
 ghost use Rattle.std.specs.Prelude.{◌≡◌, ◌<◌, ◌≤◌, length, get_or};
 ghost use Rattle.value.specs.Limits.{most_names, name_words};
 ghost use Rattle.token.specs.Bytes.{fold, same};
@@ -9,22 +10,16 @@ ghost use Rattle.names.specs.Promises.Finding.{Matches, Finds};
 
 pub mod kind;
 
+use value::limits::NAME_WORDS;
 use value::tables::put_four;
 
 // A name: the place of its first byte, its length, its kind, and its value as a word.
-#[derive(Clone, Copy)]
+#[derive(Clone, Copy, Debug, PartialEq, Eq, Hash)]
 pub struct Entry {
     pub start: u32,
     pub len: u32,
     pub kind: u32,
     pub word: u32,
-}
-
-// The slot of a name, or that there is none.
-#[derive(Clone, Copy)]
-pub enum Found {
-    At(usize),
-    Missing,
 }
 
 // ---- slots
@@ -64,16 +59,8 @@ pub fn remove_entry(names: &mut [u32], slot: usize)
     ensures { names.new ≡ without_entry names.old slot }
 {
     let from = 4 * slot;
-    let many = 1020 - from;
-    let mut k: usize = 0;
-    while k < many {
-        names[from + k] = names[from + k + 4];
-        k += 1;
-    }
-    names[1020] = 0;
-    names[1021] = 0;
-    names[1022] = 0;
-    names[1023] = 0;
+    names.copy_within(from + 4.., from);
+    names[NAME_WORDS - 4..].fill(0);
 }
 
 // How many of the first n names are variables.
@@ -83,12 +70,10 @@ pub fn count_variables(names: &[u32], n: usize) -> u32
     ensures { result ≡ variables_in names.now n }
 {
     let mut k: u32 = 0;
-    let mut i: usize = 0;
-    while i < n {
+    for i in 0..n {
         if names[4 * i + 2] == kind::VARIABLE {
             k += 1;
         }
-        i += 1;
     }
     k
 }
@@ -99,55 +84,39 @@ pub fn count_variables(names: &[u32], n: usize) -> u32
 pub fn is_field(e: Entry) -> bool
     ensures { result ≡ is_field e }
 {
-    if e.kind == kind::FIELD {
-        return true;
-    }
-    e.kind == kind::CONST_FIELD
+    e.kind == kind::FIELD || e.kind == kind::CONST_FIELD
 }
 
 // Whether a name is of a name space: that of fields, or that of all other names.
 fn in_space(fields: bool, e: Entry) -> bool
     ensures { result ≡ in_space fields e }
 {
-    if fields {
-        return is_field(e);
-    }
-    !is_field(e)
+    fields == is_field(e)
 }
 
 // ---- spelling
 
 // A byte of the source without letter case; 0 after the source's end.
+#[tactic(auto, using(crate::proofs::Spelling::lower_fold, crate::proofs::Spelling::fold_end))]
 pub fn folded(source: &[u8], i: usize) -> u32
     ensures { result ≡ fold (get_or source.now i 0) }
 {
-    if i < source.len() {
-        let b = source[i] as u32;
-        if 65 <= b {
-            if b <= 90 {
-                return b + 32;
-            }
-        }
-        return b;
+    match source.get(i) {
+        Some(b) => b.to_ascii_lowercase() as u32,
+        None => 0,
     }
-    0
 }
 
 // Whether the n bytes from a on and the n bytes from b on spell the same.
 fn same_spelling(source: &[u8], a: u32, b: u32, n: u32) -> bool
     ensures { result ≡ same (letters source.now a n) (letters source.now b n) }
 {
-    let x = a as usize;
-    let y = b as usize;
-    let size = n as usize;
-    let mut k: usize = 0;
-    while k < size {
-        let p = folded(source, x + k);
-        let q = folded(source, y + k);
+    for k in 0..n as usize {
+        let p = folded(source, a as usize + k);
+        let q = folded(source, b as usize + k);
         if p != q {
             return false;
         }
-        k += 1;
     }
     true
 }
@@ -175,16 +144,14 @@ pub fn find_name(
     fields: bool,
     start: u32,
     len: u32,
-) -> Found
+) -> Option<usize>
     requires { (count ≤ most_names) × (length names.now ≡ name_words) }
     ensures { Finds source.now names.now count fields start len result }
 {
-    let mut i: usize = 0;
-    while i < count {
+    for i in 0..count {
         if matches(source, names, i, fields, start, len) {
-            return Found::At(i);
+            return Some(i);
         }
-        i += 1;
     }
-    Found::Missing
+    None
 }

@@ -7,12 +7,14 @@ ghost use Rattle.token.specs.Scanning.{kind_in};
 ghost use Rattle.program.specs.Table.{word_at, with_word};
 ghost use Rattle.program.specs.Promises.Standing.{Stands};
 
+pub mod reply;
+
 use token::{Scan, Token, kind};
 use value::limits::MOST_TOKENS;
 
 // An accepted source, as it stands in the word table: the number of its tokens, the position of the token that has the first field's range,
 // that of its first statement, the numbers of dimensions, of fields and of slots that its variables need, and whether `time` occurs in it.
-#[derive(Clone, Copy)]
+#[derive(Clone, Copy, Debug, PartialEq, Eq, Hash)]
 pub struct Rule {
     pub tokens: usize,
     pub base: usize,

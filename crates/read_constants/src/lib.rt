@@ -4,14 +4,14 @@
 ghost use Rattle.std.specs.Prelude.{◌≡◌, ◌<◌, ◌≤◌, length};
 ghost use Rattle.value.specs.Limits.{most_names};
 ghost use Rattle.grammar.specs.Constants.{read_constant, read_signed, range_rule, read_range, read_values, read_size, array_head, array_constant, simple_constant, constant_value, read_declaration, read_constants};
-ghost use Rattle.read_state.specs.Promises.Reading.{anything, InValue, bounds, Ready, Reads, Stays};
+ghost use Rattle.read_state.specs.Promises.Reading.{anything, InValue, bounds, Ready, Reads, Stays, rule_number};
 ghost use Rattle.value.specs.Worked.{decode_of};
 
-use names::{Found, entry_in, find_name};
+use names::{entry_in, find_name};
+use program::reply::Reason;
 use program::{put_word, token_at};
 use read_state::{
-    Read, Reading, carrying_value, declare, expect, fresh, is_name, moved, noting, opening, refuse,
-    use_name,
+    Read, Reading, declare, expect, fresh, is_name, noting, opening, refuse, use_name,
 };
 use token::{Scan, kind};
 use value::limits::MOST_ELEMENTS;
@@ -32,21 +32,18 @@ pub fn read_constant(
 {
     let t = token_at(words, scan, s.at);
     if t.kind == kind::LITERAL {
-        return Read::Next(carrying_value(moved(s), t.value, 0));
+        return Ok(s.moved().with_value(t.value, 0));
     }
-    if is_name(t) {
-        let f = find_name(source, names, s.count, false, t.start, t.len);
-        let Found::At(slot) = f else {
-            return refuse(words, scan, s, s.at, 8);
-        };
+    if !is_name(t) {
+        return refuse(words, scan, s, s.at, Reason::NotAllowed);
+    }
+    if let Some(slot) = find_name(source, names, s.count, false, t.start, t.len) {
         let e = entry_in(names, slot);
         if e.kind == names::kind::CONSTANT {
-            let a = use_name(words, s, e);
-            return Read::Next(carrying_value(a, e.word, 0));
+            return Ok(use_name(words, s, e).with_value(e.word, 0));
         }
-        return refuse(words, scan, s, s.at, 8);
     }
-    refuse(words, scan, s, s.at, 7)
+    refuse(words, scan, s, s.at, Reason::UnknownName)
 }
 
 // A constant with at most one sign.
@@ -56,31 +53,27 @@ pub fn read_signed(source: &[u8], names: &[u32], words: &mut [u32], scan: Scan, 
 {
     let t = token_at(words, scan, s.at);
     if t.kind == kind::MINUS {
-        let r = read_constant(source, names, words, scan, moved(s));
-        let Read::Next(a) = r else {
-            return r;
-        };
-        return Read::Next(carrying_value(a, opposite(a.value), 0));
+        let a = read_constant(source, names, words, scan, s.moved())?;
+        return Ok(a.with_value(opposite(a.value), 0));
     }
     if t.kind == kind::PLUS {
-        return read_constant(source, names, words, scan, moved(s));
+        return read_constant(source, names, words, scan, s.moved());
     }
     read_constant(source, names, words, scan, s)
 }
 
-// The rule that a range of at most so many values breaks, by the words of its bounds; 0: none.
-fn range_rule(low: u32, high: u32, most: u64) -> u32
-    ensures { result ≡ range_rule most (decode_of low) (decode_of high) }
+// The rule that a range of at most so many values breaks, by the words of its bounds.
+fn range_rule(low: u32, high: u32, most: u64) -> Option<Reason>
+    ensures { rule_number result ≡ range_rule most (decode_of low) (decode_of high) }
 {
-    let v = Value::decode(low);
-    let span = v.span(Value::decode(high));
+    let span = Value::decode(low).span(Value::decode(high));
     if span == 0 {
-        return 41;
+        return Some(Reason::EmptyRange);
     }
-    if span <= most {
-        return 0;
+    if most < span {
+        return Some(Reason::LongLoop);
     }
-    42
+    None
 }
 
 // low..high, of at most so many values.
@@ -95,23 +88,13 @@ pub fn read_range(
     requires { Ready scan (length names.now) (length words.old) s }
     ensures { Reads bounds (read_range most) source.now scan s.count s names.now words.old result names.now words.new }
 {
-    let r = read_signed(source, names, words, scan, s);
-    let Read::Next(low) = r else {
-        return r;
-    };
-    let q = expect(words, scan, low, kind::DOTS, 7);
-    let Read::Next(a) = q else {
-        return q;
-    };
-    let p = read_signed(source, names, words, scan, a);
-    let Read::Next(high) = p else {
-        return p;
-    };
-    let n = range_rule(low.value, high.value, most);
-    if n == 0 {
-        return Read::Next(carrying_value(high, high.value, low.value));
+    let low = read_signed(source, names, words, scan, s)?;
+    let a = expect(words, scan, low, kind::DOTS, Reason::NotAllowed)?;
+    let high = read_signed(source, names, words, scan, a)?;
+    if let Some(reason) = range_rule(low.value, high.value, most) {
+        return refuse(words, scan, high, high.at - 1, reason);
     }
-    refuse(words, scan, high, high.at - 1, n)
+    Ok(high.with_value(high.value, low.value))
 }
 
 // ---- constant declarations
@@ -128,28 +111,25 @@ fn read_values(
     requires { Ready scan (length names.now) (length words.old) s }
     ensures { Reads anything (read_values size s.at) source.now scan s.count s names.now words.old result names.now words.new }
 {
-    let first = s.at;
     let most = size as usize;
     let mut here = s;
+    // Kept: a comma ends the loop, or the token where one is missing, not a count.
     let mut k: usize = 0;
     loop {
-        let r = read_signed(source, names, words, scan, here);
-        let Read::Next(a) = r else {
-            return r;
-        };
-        put_word(words, first + k, 3, a.value);
+        let a = read_signed(source, names, words, scan, here)?;
+        put_word(words, s.at + k, 3, a.value);
         let t = token_at(words, scan, a.at);
         let next = k + 1;
         if t.kind != kind::COMMA {
             if most <= next {
-                return Read::Next(a);
+                return Ok(a);
             }
-            return Read::Next(noting(words, scan, a, 45));
+            return Ok(noting(words, scan, a, Reason::ArrayValues));
         }
         if most <= next {
-            return refuse(words, scan, a, a.at, 45);
+            return refuse(words, scan, a, a.at, Reason::ArrayValues);
         }
-        here = moved(a);
+        here = a.moved();
         k = next;
     }
 }
@@ -159,15 +139,12 @@ fn read_size(source: &[u8], names: &[u32], words: &mut [u32], scan: Scan, s: Rea
     requires { Ready scan (length names.now) (length words.old) s }
     ensures { Reads InValue read_size source.now scan s.count s names.now words.old result names.now words.new }
 {
-    let r = read_constant(source, names, words, scan, s);
-    let Read::Next(a) = r else {
-        return r;
-    };
+    let a = read_constant(source, names, words, scan, s)?;
     let v = Value::decode(a.value);
     if v.within(Value { n: 1 }, Value { n: MOST_ELEMENTS }) {
-        return Read::Next(a);
+        return Ok(a);
     }
-    refuse(words, scan, a, a.at - 1, 44)
+    refuse(words, scan, a, a.at - 1, Reason::ArraySize)
 }
 
 // From the `[` after the name up to the size.
@@ -182,18 +159,9 @@ fn array_head(
     requires { Ready scan (length names.now) (length words.old) s × (s.at < scan.count) }
     ensures { Reads InValue (array_head free) source.now scan s.count s names.now words.old result names.now words.new }
 {
-    let r = opening(words, scan, s, free);
-    let Read::Next(a) = r else {
-        return r;
-    };
-    let q = expect(words, scan, a, kind::UNBRACKET, 7);
-    let Read::Next(b) = q else {
-        return q;
-    };
-    let p = expect(words, scan, b, kind::FOR_WORD, 7);
-    let Read::Next(d) = p else {
-        return p;
-    };
+    let a = opening(words, scan, s, free)?;
+    let b = expect(words, scan, a, kind::UNBRACKET, Reason::NotAllowed)?;
+    let d = expect(words, scan, b, kind::FOR_WORD, Reason::NotAllowed)?;
     read_size(source, names, words, scan, d)
 }
 
@@ -210,21 +178,12 @@ fn array_constant(
     requires { Ready scan (length names.old) (length words.old) s × (s.at < scan.count) × (s.count < most_names) × (i < scan.count) }
     ensures { Reads anything (array_constant free i) source.now scan 256 s names.old words.old result names.new words.new }
 {
-    let r = array_head(source, names, words, scan, s, free);
-    let Read::Next(size) = r else {
-        return r;
-    };
-    let q = expect(words, scan, size, kind::ASSIGN, 7);
-    let Read::Next(first) = q else {
-        return q;
-    };
-    let p = read_values(source, names, words, scan, first, size.value);
-    let Read::Next(a) = p else {
-        return p;
-    };
+    let size = array_head(source, names, words, scan, s, free)?;
+    let first = expect(words, scan, size, kind::ASSIGN, Reason::NotAllowed)?;
+    let a = read_values(source, names, words, scan, first, size.value)?;
     put_word(words, i, 2, size.value);
     put_word(words, i, 3, first.at as u32);
-    Read::Next(declare(names, words, scan, a, i, names::kind::ARRAY, i as u32))
+    Ok(declare(names, words, scan, a, i, names::kind::ARRAY, i as u32))
 }
 
 // From the `:=` after the name, which is at position i, on.
@@ -239,11 +198,8 @@ fn simple_constant(
     requires { Ready scan (length names.old) (length words.old) s × (s.at < scan.count) × (s.count < most_names) }
     ensures { Reads anything (simple_constant i) source.now scan 256 s names.old words.old result names.new words.new }
 {
-    let r = read_signed(source, names, words, scan, moved(s));
-    let Read::Next(a) = r else {
-        return r;
-    };
-    Read::Next(declare(names, words, scan, a, i, names::kind::CONSTANT, a.value))
+    let a = read_signed(source, names, words, scan, s.moved())?;
+    Ok(declare(names, words, scan, a, i, names::kind::CONSTANT, a.value))
 }
 
 // What follows the name of a constant.
@@ -266,7 +222,7 @@ fn constant_value(
     if t.kind == kind::BRACKET {
         return array_constant(source, names, words, scan, s, free, i);
     }
-    refuse(words, scan, s, s.at, 7)
+    refuse(words, scan, s, s.at, Reason::NotAllowed)
 }
 
 // A declaration, from `const` on.
@@ -281,16 +237,10 @@ pub fn read_declaration(
     requires { Ready scan (length names.old) (length words.old) s × (s.at < scan.count) }
     ensures { Reads anything (read_declaration free) source.now scan 256 s names.old words.old result names.new words.new }
 {
-    let r = fresh(source, names, words, scan, moved(s), false, 0);
-    let Read::Next(a) = r else {
-        return r;
-    };
-    let q = constant_value(source, names, words, scan, a, free, a.at - 1);
-    let Read::Next(past) = q else {
-        return q;
-    };
+    let a = fresh(source, names, words, scan, s.moved(), false, None)?;
+    let past = constant_value(source, names, words, scan, a, free, a.at - 1)?;
     put_word(words, s.at, 3, past.at as u32);
-    Read::Next(past)
+    Ok(past)
 }
 
 // The constants before the cell declaration.
@@ -308,12 +258,9 @@ pub fn read_constants(
     loop {
         let t = token_at(words, scan, here.at);
         if t.kind != kind::CONST_WORD {
-            return Read::Next(here);
+            return Ok(here);
         }
-        let r = read_declaration(source, names, words, scan, here, true);
-        let Read::Next(a) = r else {
-            return r;
-        };
+        let a = read_declaration(source, names, words, scan, here, true)?;
         here = a;
     }
 }

@@ -20,8 +20,8 @@ use Rattle.grammar.specs.Reader.{State, ◌>>=◌, ok, ◌>>◌, ◌▷◌, Turn
 use Rattle.grammar.specs.Source.{with_ranges, put_ranges, read_group, field_turn, group_turn}
 use Rattle.read_state.specs.Promises.Reading.{state, Gives, moved_of, carrying_number, carrying_fields, Carries}
 use Rattle.read_state.specs.declared.Reading.{Reading}
-use Rattle.read_state.specs.declared.Read.{Read}
-use Rattle.read_state.specs.declared.Read.TheVariants.{Next}
+use Rattle.read_state.specs.Promises.Reading.{Read}
+use Rattle.std.specs.Prelude.{Ok}
 use Rattle.read_state.proofs.Steps.{by_another, other, token}
 use Rattle.read_declaration.specs.Promises.Fields.{Ranges, Fields, Ranged, Starts}
 
@@ -55,14 +55,14 @@ module _ (old mid new : List ℕ) (base got more : ℕ) (rs : List Range) (r : R
 
 module _ {source : List ℕ} {sc : Scan} {s t : Reading} {ns ws ws₁ : List ℕ} where
   -- the ranges are written, with something else carried
-  put_on : {R : List Range → Reading → Type 0} (base : ℕ) (rs : List Range) (n : ℕ) (r : Range) {u : Reading} → ws₁ ≡ with_ranges ws (base + length rs) n r → Carries s u t → R (rs ++ replicate n r) t → Gives R (put_ranges base rs n r) source sc s ns ws (Next t) ns ws₁
+  put_on : {R : List Range → Reading → Type 0} (base : ℕ) (rs : List Range) (n : ℕ) (r : Range) {u : Reading} → ws₁ ≡ with_ranges ws (base + length rs) n r → Carries s u t → R (rs ++ replicate n r) t → Gives R (put_ranges base rs n r) source sc s ns ws (Ok t) ns ws₁
   unfolding put_ranges
   put_on base rs n r e c h =
       let got = rs ++ replicate n r in
       record { is = (got, h, ap (λ (x : List ℕ). ok (got, state s ns x)) (sym e) ∙ sym (ap (λ (z : State). ok (got, z)) (c.here ns ws₁))) }
 
   -- the ranges of a group, with which there are w fields
-  pub group_put : {old : List ℕ} (base got : ℕ) (rs : List Range) (n : ℕ) {r : Range} {w l : ℕ} → Ranges old base rs got → ((p : ℕ) → p < 4 * (base + got) → get_or ws p 0 ≡ get_or old p 0) → Ranged ws (base + got) (w - got) r ws₁ → n ≡ w → got < w → w ≤ 8 → base + w < s.at → Carries s (carrying_fields s w l) t → Gives (Fields ws₁ base l) (put_ranges base rs (n - length rs) r) source sc s ns ws (Next t) ns ws₁
+  pub group_put : {old : List ℕ} (base got : ℕ) (rs : List Range) (n : ℕ) {r : Range} {w : ℕ} {l : Bool} → Ranges old base rs got → ((p : ℕ) → p < 4 * (base + got) → get_or ws p 0 ≡ get_or old p 0) → Ranged ws (base + got) (w - got) r ws₁ → n ≡ w → got < w → w ≤ 8 → base + w < s.at → Carries s (carrying_fields s w l) t → Gives (Fields ws₁ base l) (put_ranges base rs (n - length rs) r) source sc s ns ws (Ok t) ns ws₁
   group_put {old} base got rs n {r} {w} {l} h f x e more few room c =
       let m = h.many in
       let q : n - length rs ≡ w - got = omega arith in
@@ -71,7 +71,7 @@ module _ {source : List ℕ} {sc : Scan} {s t : Reading} {ns ws ws₁ : List ℕ
       rw q (put_on base rs (w - got) r (rw m x.is) c (record { ranges = rw k at ranges; some = omega (arith, c.fields); few = omega (arith, c.fields); room = omega (arith, c.fields, c.at); named = c.named }))
 
   -- the range of the one unnamed field
-  pub unnamed_put : (base : ℕ) {r : Range} → Ranged ws base 1 r ws₁ → base + 1 < s.at → Carries s (carrying_fields s 1 0) t → Gives (Fields ws₁ base 0) (put_ranges base [] 1 r) source sc s ns ws (Next t) ns ws₁
+  pub unnamed_put : (base : ℕ) {r : Range} → Ranged ws base 1 r ws₁ → base + 1 < s.at → Carries s (carrying_fields s 1 false) t → Gives (Fields ws₁ base false) (put_ranges base [] 1 r) source sc s ns ws (Ok t) ns ws₁
   unnamed_put base x room c = group_put base 0 [] 1 (no_ranges ws base) (λ p h. refl) (rw (add-zero base) x) refl (omega arith) (omega arith) room c
 
 -- the names of a group, behind as many fields as there are ranges

@@ -20,8 +20,8 @@ use Rattle.grammar.specs.Reader.{Input, State, Result, ok, fail, Reader, and_the
 use Rattle.grammar.specs.Constants.{named_constant, read_constant, read_signed, range_rule, read_range}
 use Rattle.read_state.specs.Promises.Reading.{input, state, Gives}
 use Rattle.read_state.specs.declared.Reading.{Reading}
-use Rattle.read_state.specs.declared.Read.{Read}
-use Rattle.read_state.specs.declared.Read.TheVariants.{Next}
+use Rattle.read_state.specs.Promises.Reading.{Read}
+use Rattle.std.specs.Prelude.{Ok}
 use Rattle.read_state.proofs.Steps.{went_on}
 
 -- from state s to t, reading went on, and the words before where it stood stayed
@@ -143,7 +143,7 @@ keeps_range most =
     (λ high. keeps_if (eqb (range_rule most low high) 0) (keeps_return (range low high)) (keeps_refuse_last (range_rule most low high)))))
 
 -- the words before the place of reading stay where the code's reading of a range goes on
-pub range_keeps : (most : ℕ) {source : List ℕ} {sc : Scan} {R : Range → Reading → Type 0} {s t : Reading} {ns ws ns₁ ws₁ : List ℕ} {r : Read} → Gives R (read_range most) source sc s ns ws r ns₁ ws₁ → r ≡ Next t → (p : ℕ) → p < 4 * s.at → get_or ws₁ p 0 ≡ get_or ws p 0
+pub range_keeps : (most : ℕ) {source : List ℕ} {sc : Scan} {R : Range → Reading → Type 0} {s t : Reading} {ns ws ns₁ ws₁ : List ℕ} {r : Read} → Gives R (read_range most) source sc s ns ws r ns₁ ws₁ → r ≡ Ok t → (p : ℕ) → p < 4 * s.at → get_or ws₁ p 0 ≡ get_or ws p 0
 range_keeps most {source} {sc} {s = s} {t} {ns} {ws} {ns₁} {ws₁} x e =
     let y = (went_on x e).is in
     ((keeps_range most).kept (input source sc) (state s ns ws) (state t ns₁ ws₁) y.0 y.2).stay

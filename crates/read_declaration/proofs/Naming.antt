@@ -16,8 +16,8 @@ use Rattle.grammar.specs.Reader.{Input, State, Result, ok, fail, Reader, ◌>>=�
 use Rattle.grammar.specs.Source.{field_turn}
 use Rattle.read_state.specs.Promises.Reading.{input, state, passed, Gives}
 use Rattle.read_state.specs.declared.Reading.{Reading}
-use Rattle.read_state.specs.declared.Read.{Read}
-use Rattle.read_state.specs.declared.Read.TheVariants.{Next}
+use Rattle.read_state.specs.Promises.Reading.{Read}
+use Rattle.std.specs.Prelude.{Ok}
 use Rattle.read_state.proofs.Steps.{went_on}
 use Rattle.read_state.proofs.Turns.{Turning, turn_first}
 use Rattle.read_declaration.specs.Promises.Fields.{full_of}
@@ -72,7 +72,7 @@ module _ {source : List ℕ} {sc : Scan} {s : Reading} {ns ws ns₁ ws₁ : List
   field_name = rw (← e) x
 
   -- a name that was taken is the eighth at most
-  pub taken : {t : Reading} → r ≡ Next t → n < 8
+  pub taken : {t : Reading} → r ≡ Ok t → n < 8
   taken {t} q = by (leb 8 n) refl
     where
       stop : {o : Result (ℕ × State)} {a : ℕ} {u : State} → Failed o → o ≡ ok (a, u) → ⊥

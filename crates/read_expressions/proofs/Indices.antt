@@ -13,7 +13,7 @@ use Rattle.token.specs.declared.Scan.{Scan}
 use Rattle.program.specs.Syntax.{Index}
 use Rattle.grammar.specs.Reader.{put}
 use Rattle.read_state.specs.declared.Reading.{Reading}
-use Rattle.read_state.specs.declared.Read.{Read}
+use Rattle.read_state.specs.Promises.Reading.{Read}
 use Rattle.read_state.specs.Promises.Reading.{input, state, anything, Gives}
 use Rattle.read_state.proofs.Steps.{by_another}
 

@@ -1,12 +1,12 @@
 -- The laws of operands and brackets. Assumes nothing.
-use Prim.Native.Nat.{ℕ, zero, suc, ◌-◌}
+use Prim.Native.Nat.{ℕ, zero, suc}
 use native.Mathlib.Omega.{arith}
-use mathlib.Core.Path.{◌≡◌, refl, subst}
+use mathlib.Core.Path.{◌≡◌, refl}
 use mathlib.Core.Bool.{Bool, true, false}
 use mathlib.Core.List.{List}
 use lib.Dec.{ltb}
 use borrow.Author.Tests.{lt-ltb}
-use Rattle.std.specs.Prelude.{if◌then◌else◌}
+use Rattle.std.specs.Prelude.{Option, Some, None, if◌then◌else◌}
 use Rattle.token.specs.declared.Scan.{Scan}
 use Rattle.token.specs.declared.Token.{Token}
 use Rattle.token.specs.Scanning.{token_in}
@@ -14,10 +14,13 @@ use Rattle.program.specs.Syntax.{Expr}
 use Rattle.grammar.specs.Reader.{Reader, ◌>>=◌, ◌>>◌, next_token, opening}
 use Rattle.grammar.specs.Expressions.{Cell, climb, levels, read_operand, operand_in, read_bracket}
 use Rattle.read_state.specs.declared.Reading.{Reading}
-use Rattle.read_state.specs.declared.Read.{Read}
+use Rattle.read_state.specs.Promises.Reading.{Read}
 use Rattle.read_state.specs.Promises.Reading.{anything, Gives, Passes, refusing, Moved}
 use Rattle.read_state.proofs.Steps.{by_another, on, off, refused, advanced}
-use Rattle.read_expressions.specs.Promises.Promises.{some_free, inner_in}
+use Rattle.read_expressions.specs.declared.inside.Inside.{Inside}
+use Rattle.read_expressions.specs.Promises.Opening.{Entered}
+use Rattle.read_expressions.specs.Promises.Promises.{cell_as, some_free, inner_in}
+use Rattle.read_expressions.proofs.Opening.{none_free, same_cell, one_less}
 
 -- ---- steps
 
@@ -52,18 +55,13 @@ module _ {source : List ℕ} {sc : Scan} {s : Reading} {ns ws : List ℕ} {r : R
       by zero y = y
       by (suc n) y = y
 
+module _ (inside : Inside) {o : Option Inside} (x : Entered inside.loops inside o) {source : List ℕ} {sc : Scan} {s : Reading} {ns ws : List ℕ} {r : Read} where
   -- no bracket more may be open
-  pub closed : (close : ℕ) → free ≡ 0 → r ≡ refusing ws sc s s.at 14 → Gives anything (read_bracket (some_free free) (inner_in cell free) close) source sc s ns ws r ns ws
+  pub closed : (close : ℕ) → o ≡ None → r ≡ refusing ws sc s s.at 14 → Gives anything (read_bracket (some_free inside.free) (inner_in (cell_as inside.cell) inside.free) close) source sc s ns ws r ns ws
   unfolding read_bracket opening
-  closed close e y = rw e (off _ (off {R = anything} {Q = anything} _ (refused _ y) y) y)
+  closed close e y = rw (none_free inside.loops inside x e) (off _ (off {R = anything} {Q = anything} _ (refused _ y) y) y)
 
   -- an expression behind an opening bracket
-  pub entered : (free ≡ 0 → ⊥) → {a : Reading} {ws₁ : List ℕ} → Moved s a → Gives anything (climb levels (operand_in cell (free - 1)) 1) source sc a ns ws r ns ws₁ → Gives anything (opening (some_free free) >> inner_in cell free) source sc s ns ws r ns ws₁
+  pub entered : {inner : Inside} → o ≡ Some inner → {a : Reading} {ws₁ : List ℕ} → Moved s a → Gives anything (climb levels (operand_in (cell_as inner.cell) inner.free) 1) source sc a ns ws r ns ws₁ → Gives anything (opening (some_free inside.free) >> inner_in (cell_as inside.cell) inside.free) source sc s ns ws r ns ws₁
   unfolding opening
-  entered h {a} {ws₁} m x = by free h x
-    where
-      by : (n : ℕ) → (n ≡ 0 → ⊥) → Gives anything (climb levels (operand_in cell (n - 1)) 1) source sc a ns ws r ns ws₁ → Gives anything (opening (some_free n) >> inner_in cell n) source sc s ns ws r ns ws₁
-      by zero f y = absurd (f refl)
-      by (suc n) f y =
-          let e : suc n - 1 ≡ n = omega arith in
-          on _ (advanced m) refl (λ _ _. subst (λ (k : ℕ). Gives anything (climb levels (operand_in cell k) 1) source sc a ns ws r ns ws₁) e y)
+  entered e m y = rw (← one_less inside.loops inside x e, ← same_cell inside.loops inside x e) (on _ (advanced m) refl (λ _ _. y))

@@ -16,8 +16,8 @@ use Rattle.grammar.specs.Reader.{◌>>=◌, Result, ok, fail, Input, State, Read
 use Rattle.grammar.specs.Expressions.{LeftPart, left_part, read_right, operator_turn, climb}
 use Rattle.grammar.proofs.Theorems.Ends.{bind_ok}
 use Rattle.read_state.specs.declared.Reading.{Reading}
-use Rattle.read_state.specs.declared.Read.{Read}
-use Rattle.read_state.specs.declared.Read.TheVariants.{Next}
+use Rattle.read_state.specs.Promises.Reading.{Read}
+use Rattle.std.specs.Prelude.{Ok}
 use Rattle.read_state.specs.Promises.Reading.{input, state, anything, once_more, AtEnd, Gives, refusing, Moved}
 use Rattle.read_state.proofs.Steps.{by_another, on, so, other, token, made, refused, returned, advanced}
 use Rattle.read_expressions.specs.Promises.Promises.{are_relations}
@@ -65,7 +65,7 @@ relations {own} k l o p q = ap (λ (x : ℕ). eqb x 2 && eqb l.level 2) (sym o) 
 
 module _ {source : List ℕ} {sc : Scan} {s : Reading} {ns ws : List ℕ} (level : ℕ) (tighter : ℕ → Reader Expr) {t : Token} (st : Stands ws sc s.at t) {own last : ℕ} (o : own ≡ level_of t.kind) (l : LeftPart) (p : l.level ≡ last) where
   -- a looser operator, or none
-  pub turn_ends : own < level → Gives (AtEnd anything) (operator_turn level tighter l) source sc s ns ws (Next s) ns ws
+  pub turn_ends : own < level → Gives (AtEnd anything) (operator_turn level tighter l) source sc s ns ws (Ok s) ns ws
   unfolding operator_turn
   turn_ends h = token _ st (so _ _ (ap (λ (x : ℕ). ltb x level) (sym o) ∙ lt-ltb own level h) (returned _ tt))
 

@@ -10,20 +10,19 @@ use Rattle.token.specs.declared.Scan.{Scan}
 use Rattle.token.specs.Kind.{kind}
 use Rattle.token.specs.Lexeme.{is_built_in}
 use Rattle.token.specs.Promises.Promises.{Scans}
+use Rattle.program.specs.Refusal.{Refusal, refusal}
 use Rattle.program.specs.declared.Rule.{Rule}
 use Rattle.grammar.specs.Reader.{ok, fail}
 use Rattle.grammar.specs.Source.{Accepted, has_kind, settled, read_program, what_is_read, parse}
 use Rattle.grammar.specs.Checking.{source_read, rooms_fit, read_source, check, words_after}
 use Rattle.grammar.specs.Promises.Flat.{lent_fit, names_after}
 use Rattle.grammar.proofs.Theorems.Traces.{parses}
-use Rattle.read_state.specs.Promises.Reading.{input, state, Told}
+use Rattle.read_state.specs.Promises.Reading.{Read, input, state, Told}
 use Rattle.read_state.specs.declared.Reading.{Reading}
-use Rattle.read_state.specs.declared.Read.{Read}
-use Rattle.read_state.specs.declared.Read.TheVariants.{Next, Refused}
+use Rattle.std.specs.Prelude.{Result, Ok, Err}
 use Rattle.read_state.proofs.Steps.{went_on}
-use Rattle.read_source.specs.Promises.Promises.{begun, Whole, Programs, Checks, is_accepted, Loads, Unloaded}
+use Rattle.read_source.specs.Promises.Promises.{begun, end_in, Whole, Programs, Checks, is_accepted, Loads, refusal_in, is_loaded, rule_in}
 use Rattle.read_source.specs.declared.checking.ProgramRead.{ProgramRead}
-use Rattle.read_source.specs.declared.checking.Loaded.{Loaded}
 use Rattle.read_source.proofs.Traces.{rule_read}
 
 -- ---- whether the rooms fit
@@ -42,46 +41,37 @@ module _ (ws ns : List ℕ) where
   both_right e f = simp (eq-eqb _ _ e, eq-eqb _ _ f)
 
 -- what loading a source gives
-abbrev Answers : (source ws ns : List ℕ) → Loaded → (ws' ns' : List ℕ) → Type 0
-Answers source ws ns u ws' ns' = Checks (rooms_fit (length ws) (length ns)) source ws ns u.number u.place ws' ns' × Loads source ws ns u.accepted u.rule
+abbrev Answers : (source ws ns : List ℕ) → Result Rule Refusal → (ws' ns' : List ℕ) → Type 0
+Answers source ws ns r ws' ns' =
+    Checks (rooms_fit (length ws) (length ns)) source ws ns (refusal_in r).number (refusal_in r).place ws' ns' × Loads source ws ns (is_loaded r) (rule_in r)
 
 -- a source that is not accepted
-unaccepted : {source ws ns ws' ns' : List ℕ} {k p : ℕ} {u : Loaded} → Checks (rooms_fit (length ws) (length ns)) source ws ns k p ws' ns'
-    → false ≡ is_accepted (read_source (rooms_fit (length ws) (length ns)) source) → Unloaded k p u → Answers source ws ns u ws' ns'
-unaccepted x e y = (
-  rw (y.number, y.place) x,
-  record {
-    is = y.unaccepted ∙ e;
-    given = λ q. never (sym y.unaccepted ∙ q);
-    reads = λ q. never (sym y.unaccepted ∙ q);
-    table = λ q. never (sym y.unaccepted ∙ q);
-    list = λ q. never (sym y.unaccepted ∙ q);
-    short = λ q. never (sym y.unaccepted ∙ q);
-    none = λ _. y.rule;
-  },
-)
+unaccepted : {source ws ns ws' ns' : List ℕ} {e : Refusal} → Checks (rooms_fit (length ws) (length ns)) source ws ns e.number e.place ws' ns'
+    → false ≡ is_accepted (read_source (rooms_fit (length ws) (length ns)) source) → Answers source ws ns (Err e) ws' ns'
+unaccepted x e = (x, record { is = e; given = never; reads = never; table = never; list = never; short = never; none = λ _. refl })
 
-module _ (source ws ns : List ℕ) {u : Loaded} where
-  turned_away_1 : rooms_fit (length ws) (length ns) ≡ false → Unloaded 1 0 u → Answers source ws ns u ws ns
+module _ (source ws ns : List ℕ) {f : Refusal} where
+  turned_away_1 : rooms_fit (length ws) (length ns) ≡ false → f ≡ refusal 1 0 → Answers source ws ns (Err f) ws ns
   unfolding check words_after names_after read_source
-  turned_away_1 e = unaccepted (record { reply = simp e; words = simp e; names = simp e }) (simp e)
+  turned_away_1 e q = rw q (unaccepted (record { reply = simp e; words = simp e; names = simp e }) (simp e))
 
-  pub no_table : (length ws ≡ 16384 → ⊥) → Unloaded 1 0 u → Answers source ws ns u ws ns
+  pub no_table : (length ws ≡ 16384 → ⊥) → f ≡ refusal 1 0 → Answers source ws ns (Err f) ws ns
   no_table n = turned_away_1 (words_wrong ws ns n)
 
-  pub no_list : length ws ≡ 16384 → (length ns ≡ 1024 → ⊥) → Unloaded 1 0 u → Answers source ws ns u ws ns
+  pub no_list : length ws ≡ 16384 → (length ns ≡ 1024 → ⊥) → f ≡ refusal 1 0 → Answers source ws ns (Err f) ws ns
   no_list e n = turned_away_1 (names_wrong ws ns e n)
 
-  pub too_long : length ws ≡ 16384 → length ns ≡ 1024 → 65535 < length source → Unloaded 2 65535 u → Answers source ws ns u ws ns
+  pub too_long : length ws ≡ 16384 → length ns ≡ 1024 → 65535 < length source → f ≡ refusal 2 65535 → Answers source ws ns (Err f) ws ns
   unfolding check words_after names_after read_source
-  too_long e f l =
-      unaccepted
+  too_long e f l q =
+      rw q
+      (unaccepted
       (record {
         reply = simp (both_right ws ns e f, lt-ltb _ _ l);
         words = simp (both_right ws ns e f, lt-ltb _ _ l);
         names = simp (both_right ws ns e f, lt-ltb _ _ l);
       })
-      (simp (both_right ws ns e f, lt-ltb _ _ l))
+      (simp (both_right ws ns e f, lt-ltb _ _ l)))
 
 -- ---- reading
 
@@ -99,32 +89,32 @@ module _ (source ws ns : List ℕ) (e : length ws ≡ 16384) (f : length ns ≡ 
   accepts a q = record { reply = simp (reads, q); words = simp (reads, q); names = simp (reads, q) }
 
   -- what reading gives from the tokens of the source, where no name is declared
-  module _ {sc : Scan} {ws₁ ns₁ ws₂ ns₂ : List ℕ} {p : ProgramRead} (x : Scans source sc ws₁) (z : ns₁ ≡ replicate 1024 0) (g : Programs source sc ns₁ ws₁ p ns₂ ws₂) where
+  module _ {sc : Scan} {ws₁ ns₁ ws₂ ns₂ : List ℕ} {r : Result ProgramRead Refusal} (x : Scans source sc ws₁) (z : ns₁ ≡ replicate 1024 0) (g : Programs source sc ns₁ ws₁ r ns₂ ws₂) where
     parsed : parse source ≡ what_is_read (read_program (input source sc) (state begun ns₁ ws₁))
     unfolding parse
     parsed = rw (x.is, x.words, z) refl
 
-    read_refused : {k n : ℕ} → p.read ≡ Refused k n → parse source ≡ fail k n
-    read_refused q = parsed ∙ ap what_is_read (subst (λ (u : Read). Told (Whole ns₂ ws₂) (read_program (input source sc) (state begun ns₁ ws₁)) u ns₂ ws₂) q g.gives.is)
+    read_refused : {u : Refusal} → r ≡ Err u → parse source ≡ fail u.number u.place
+    read_refused q = parsed ∙ ap what_is_read (subst (λ (u : Result ProgramRead Refusal). Told (Whole ns₂ ws₂) (read_program (input source sc) (state begun ns₁ ws₁)) (end_in u) ns₂ ws₂) q g.gives.is)
 
-    pub refused_with : {k n : ℕ} {ws' ns' : List ℕ} {u : Loaded} → p.read ≡ Refused k n → length ws₂ ≡ length ws → length ns₂ ≡ length ns → ws' ≡ replicate (length ws₂) 0
-        → ns' ≡ replicate (length ns₂) 0 → Unloaded k n u → Answers source ws ns u ws' ns'
-    refused_with {k} {n} q a b c d =
-        unaccepted (rw (c ∙ ap (λ (n : ℕ). replicate n 0) a, d ∙ ap (λ (n : ℕ). replicate n 0) b) (refuses k n (read_refused q))) (simp (reads, read_refused q))
+    pub refused_with : {u : Refusal} {ws' ns' : List ℕ} → r ≡ Err u → length ws₂ ≡ length ws → length ns₂ ≡ length ns → ws' ≡ replicate (length ws₂) 0
+        → ns' ≡ replicate (length ns₂) 0 → Answers source ws ns (Err u) ws' ns'
+    refused_with {u} q a b c d =
+        unaccepted (rw (c ∙ ap (λ (n : ℕ). replicate n 0) a, d ∙ ap (λ (n : ℕ). replicate n 0) b) (refuses u.number u.place (read_refused q))) (simp (reads, read_refused q))
 
-    pub accepted_with : {t : Reading} {ns' : List ℕ} → p.read ≡ Next t → ns' ≡ settled ws₂ ns₂ t.count
-        → (rule : Rule) → rule.tokens ≡ sc.count → rule.base ≡ p.base → rule.body ≡ p.body → rule.dims ≡ p.dims → rule.fields ≡ p.fields → rule.slots ≡ t.count
+    pub accepted_with : {p : ProgramRead} {ns' : List ℕ} → r ≡ Ok p → ns' ≡ settled ws₂ ns₂ p.next.count
+        → (rule : Rule) → rule.tokens ≡ sc.count → rule.base ≡ p.base → rule.body ≡ p.body → rule.dims ≡ p.dims → rule.fields ≡ p.fields → rule.slots ≡ p.next.count
         → rule.timed ≡ has_kind kind.time ws₂ sc.count
-        → Checks (rooms_fit (length ws) (length ns)) source ws ns 0 0 ws₂ ns' × Loads source ws ns true rule
-    accepted_with {t} {ns'} q d rule tokens base body dims fields slots timed =
-        let y = (went_on g.gives q).is in
+        → Answers source ws ns (Ok rule) ws₂ ns'
+    accepted_with {p} {ns'} q d rule tokens base body dims fields slots timed =
+        let y = (went_on g.gives (ap end_in q)).is in
         let a = y.0 in
         let w = y.1 in
         let h : parse source ≡ ok a = parsed ∙ ap what_is_read y.2 in (
           subst (λ (l : List ℕ). Checks (rooms_fit (length ws) (length ns)) source ws ns 0 0 l ns') w.words (subst (λ (l : List ℕ). Checks (rooms_fit (length ws) (length ns)) source ws ns 0 0 a.words l) (w.names ∙ sym d) (accepts a h)),
           record {
             is = simp (reads, h);
-            given = λ _. rule_read x z (g.follows t q) rule tokens base body dims fields slots timed;
+            given = λ _. rule_read x z (g.follows p q) rule tokens base body dims fields slots timed;
             reads = λ _ u. reads ∙ ap source_read (parses u);
             table = λ _. e;
             list = λ _. f;

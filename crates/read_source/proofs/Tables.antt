@@ -1,13 +1,13 @@
 -- The kinds of tokens in a table, the values of names after acceptance, and zeros. Assumes nothing.
-use Prim.Native.Nat.{ℕ, suc, ◌+◌, ◌-◌, ◌*◌, ◌≤◌, ◌<◌}
+use Prim.Native.Nat.{ℕ, zero, suc, ◌+◌, ◌-◌, ◌*◌, ◌≤◌, ◌<◌}
 use native.Mathlib.Omega.{arith}
 use native.Mathlib.Numerals.{add-one}
 use mathlib.Core.Path.{◌≡◌, refl, sym, ap, ◌∙◌}
 use mathlib.Core.List.{List}
 use mathlib.Core.Bool.{Bool, true, false, ◌||◌}
 use lib.ListN.{length, get_or, length-set}
-use lib.Dec.{eqb}
-use borrow.Author.Tests.{eq-eqb, ne_eqb}
+use lib.Dec.{eqb, ltb}
+use borrow.Author.Tests.{eq-eqb, ne_eqb, ltb-true, ltb-false}
 use Rattle.value.proofs.Theorems.Truth.{or_second}
 use Rattle.names.specs.declared.Entry.{Entry}
 use Rattle.names.specs.Names.{entry_at, with_value}
@@ -16,53 +16,27 @@ use Rattle.grammar.specs.Source.{has_kind, settled_value, settled}
 
 -- ---- tokens of a kind
 
--- none of the tokens from i on is of the kind
-pub record Unseen (kind : ℕ) (words : List ℕ) (n i : ℕ) : Type 0 where
-  pub within : i ≤ n
-  pub left : has_kind kind words n ≡ has_kind kind words i
+module _ (kind : ℕ) (words : List ℕ) where
+  -- word 0 of a token, at its position
+  first_word : (n i : ℕ) → n ≡ i → word_at words n 0 ≡ get_or words (4 * i) 0
+  first_word n i e = ap (λ (j : ℕ). get_or words j 0) (omega arith)
 
-pub unseen_start : (kind : ℕ) (words : List ℕ) (n : ℕ) → Unseen kind words n n
-unseen_start kind words n = record { within = omega arith; left = refl }
-
-or_first : (a : Bool) {b : Bool} → b ≡ false → (a || b) ≡ a
-or_first true e = refl
-or_first false e = e
-
-module _ (kind : ℕ) (words : List ℕ) (n i : ℕ) (h : Unseen kind words n i) (l : 0 < i) where
-  last : has_kind kind words i ≡ (has_kind kind words (i - 1) || eqb (get_or words (4 * (i - 1)) 0) kind)
+  -- one of n tokens is of the kind
+  pub seen : (i n : ℕ) → i < n → get_or words (4 * i) 0 ≡ kind → true ≡ has_kind kind words n
   unfolding has_kind
-  last =
-      let e : i ≡ suc (i - 1) = omega arith in
-      let q : 4 * (i - 1) + 0 ≡ 4 * (i - 1) = omega arith in
-      ap (has_kind kind words) e ∙ ap (λ (x : ℕ). has_kind kind words (i - 1) || eqb (get_or words x 0) kind) q
+  seen i zero l e = absurd (omega arith)
+  seen i (suc n) l e = by (λ h. seen i n h e) (ltb i n) refl
+    where
+      by : (i < n → true ≡ has_kind kind words n) → (t : Bool) → ltb i n ≡ t → true ≡ (has_kind kind words n || eqb (word_at words n 0) kind)
+      by more true d = rw (← more (ltb-true i n d)) refl
+      by more false d = let k = ltb-false i n d in sym (or_second (has_kind kind words n) (eq-eqb _ _ (first_word n i (omega arith) ∙ e)))
 
-  pub seen_now : get_or words (4 * (i - 1)) 0 ≡ kind → true ≡ has_kind kind words n
-  seen_now e = sym (h.left ∙ last ∙ or_second (has_kind kind words (i - 1)) (eq-eqb _ _ e))
-
-  pub unseen_more : (get_or words (4 * (i - 1)) 0 ≡ kind → ⊥) → Unseen kind words n (i - 1)
-  unseen_more d = let k = h.within in record { within = omega arith; left = h.left ∙ last ∙ or_first (has_kind kind words (i - 1)) (ne_eqb _ _ d) }
-
-pub unseen_all : (kind : ℕ) (words : List ℕ) (n i : ℕ) → Unseen kind words n i → i ≤ 0 → false ≡ has_kind kind words n
-unfolding has_kind
-unseen_all kind words n i h l = let z : i ≡ 0 = omega arith in sym (h.left ∙ ap (has_kind kind words) z)
+  -- none of the first i tokens is, nor the next one
+  pub unseen_next : (i : ℕ) → false ≡ has_kind kind words i → (get_or words (4 * i) 0 ≡ kind → ⊥) → false ≡ has_kind kind words (i + 1)
+  unfolding has_kind
+  unseen_next i h d = rw (add-one i, ← h, ne_eqb _ _ (λ q. d (sym (first_word i i refl) ∙ q))) refl
 
 -- ---- values after acceptance
-
--- of one name, by its kind
-module _ (words : List ℕ) (e : Entry) where
-  pub value_of_array : e.kind ≡ 2 → {w : ℕ} → w ≡ word_at words e.word 2 → w ≡ settled_value words e
-  unfolding settled_value
-  value_of_array k p = p ∙ sym (simp (eq-eqb _ _ k))
-
-  pub value_of_variable : (e.kind ≡ 2 → ⊥) → e.kind ≡ 4 → 0 ≡ settled_value words e
-  unfolding settled_value
-  value_of_variable d k = sym (simp (ne_eqb _ _ d, eq-eqb _ _ k))
-
-  pub value_of_other : (e.kind ≡ 2 → ⊥) → (e.kind ≡ 4 → ⊥) → e.word ≡ settled_value words e
-  unfolding settled_value
-  value_of_other d n = sym (simp (ne_eqb _ _ d, ne_eqb _ _ n))
-
-pub ruleset Values = (value_of_array, value_of_variable, value_of_other)
 
 -- the first i names have them
 pub record Settled (words old : List ℕ) (i : ℕ) (new : List ℕ) : Type 0 where
@@ -77,6 +51,3 @@ pub settled_next : (words old : List ℕ) (i : ℕ) (new : List ℕ) → Settled
     → Settled words old (i + 1) after
 unfolding settled
 settled_next words old i new h {e} q {w} p {after} a = record { is = a ∙ rw (p, q, h.is) (sym (ap (settled words old) (add-one i))); long = ap length a ∙ length-set new (4 * i + 3) w ∙ h.long }
-
-pub settled_all : (words old : List ℕ) (i : ℕ) (new : List ℕ) {count : ℕ} → Settled words old i new → i ≤ count → count ≤ i → new ≡ settled words old count
-settled_all words old i new {count} h l m = let e : i ≡ count = omega arith in h.is ∙ ap (settled words old) e

@@ -1,7 +1,8 @@
 -- The laws of what reading an accepted source passes.
 use Prim.Native.Nat.{ℕ, ◌+◌, ◌≤◌}
-use mathlib.Core.Path.{◌≡◌, sym, ap, ap₂, ◌∙◌}
+use mathlib.Core.Path.{◌≡◌, refl, sym, ap, ap₂, ◌∙◌}
 use mathlib.Core.List.{List}
+use mathlib.Core.Bool.{false}
 use lib.ListN.{replicate}
 use Rattle.value.specs.Limits.{most_names, most_open}
 use Rattle.token.specs.declared.Scan.{Scan}
@@ -11,41 +12,55 @@ use Rattle.token.specs.Promises.Promises.{Scans}
 use Rattle.program.specs.declared.Rule.{Rule}
 use Rattle.grammar.specs.Reader.{State}
 use Rattle.grammar.specs.Constants.{read_constants}
-use Rattle.grammar.specs.Statements.{read_block}
 use Rattle.grammar.specs.Source.{read_cell, has_kind, read_program}
 use Rattle.grammar.specs.Promises.Traces.{Trace}
 use Rattle.read_state.specs.Promises.Reading.{state, anything, Gives}
 use Rattle.read_state.specs.declared.Reading.{Reading}
-use Rattle.read_state.specs.declared.Read.{Read}
-use Rattle.read_state.specs.declared.Read.TheVariants.{Next, Refused}
+use Rattle.read_state.specs.Promises.Reading.{Read}
+use Rattle.program.specs.Refusal.{Refusal}
+use Rattle.std.specs.Prelude.{Result, Ok, Err, None, IsErrAnd}
+use Rattle.read_state.proofs.Going.{passed_by}
 use Rattle.read_state.proofs.Steps.{went_on, on}
-use Rattle.read_expressions.specs.Promises.Promises.{cell_as}
-use Rattle.read_declaration.specs.Promises.Fields.{DeclaresField}
+use Rattle.read_expressions.specs.declared.inside.Inside.{Inside}
+use Rattle.read_statements.specs.Promises.Promises.{block_in}
+use Rattle.read_declaration.specs.Promises.Fields.{DeclaresField, DeclaresCell, next_in}
 use Rattle.read_declaration.specs.declared.CellRead.{CellRead}
 use Rattle.read_declaration.proofs.Cells.{stopped}
-use Rattle.read_source.specs.Promises.Promises.{begun, Ends, Follows, Programs, RuleIs}
+use Rattle.read_source.specs.Promises.Promises.{begun, end_in, Ends, Follows, Programs, RuleIs}
 use Rattle.read_source.specs.declared.checking.ProgramRead.{ProgramRead}
 use Rattle.read_source.proofs.Finishing.{cell_is, in_cell, never_next, few_left}
 
+-- reading begins with the default
+pub starts : (s : Reading) → (s.at ≡ 0) × ((s.noted ≡ None) × ((s.count ≡ 0) × ((s.value ≡ 0) × ((s.low ≡ 0) × ((s.number ≡ 0) × ((s.fields ≡ 0) × ((s.named ≡ false) × (s.more ≡ false)))))))) → s ≡ begun
+starts s e =
+    let z : ◌≡◌ {A = Reading} (record { at = s.at; noted = s.noted; count = s.count; value = s.value; low = s.low; number = s.number; fields = s.fields; named = s.named; more = s.more }) begun =
+    rw (e.0, e.1.0, e.1.1.0, e.1.1.1.0, e.1.1.1.1.0, e.1.1.1.1.1.0, e.1.1.1.1.1.1.0, e.1.1.1.1.1.1.1.0, e.1.1.1.1.1.1.1.1) refl in
+    z
+
 -- the readers of a program gave this, one after the other
-module _ {source : List ℕ} {sc : Scan} {ns ws ns₁ ws₁ ns₂ ws₂ ns₃ ws₃ : List ℕ} {a e : Read} {c : CellRead} {s₁ s₂ s₃ : Reading}
-    (g₁ : Gives anything read_constants source sc begun ns ws a ns₁ ws₁) (q₁ : a ≡ Next s₁)
-    (g₂ : Gives (DeclaresField ws₂ c) read_cell source sc s₁ ns₁ ws₁ c.read ns₂ ws₂) (q₂ : c.read ≡ Next s₂)
-    (g₃ : Gives anything (read_block (cell_as (record { dims = c.dims; named = c.named })) most_open 0) source sc s₂ ns₂ ws₂ e ns₃ ws₃) (q₃ : e ≡ Next s₃) where
+module _ {source : List ℕ} {sc : Scan} {ns ws ns₁ ws₁ ns₂ ws₂ ns₃ ws₃ : List ℕ} {a e r : Read} {cell : Result CellRead Refusal} {c : CellRead} {s₁ s₃ s₄ : Reading}
+    (g₁ : Gives anything read_constants source sc begun ns ws a ns₁ ws₁) (q₁ : a ≡ Ok s₁)
+    (g₂ : Gives (DeclaresCell ws₂ cell) read_cell source sc s₁ ns₁ ws₁ (next_in cell) ns₂ ws₂) (q₂ : cell ≡ Ok c)
+    (inside : Inside) (i : (inside.cell ≡ record { dims = c.dims; named = c.named }) × (inside.loops ≡ 0) × (inside.free ≡ most_open))
+    (g₃ : Gives anything (block_in inside) source sc c.next ns₂ ws₂ e ns₃ ws₃) (q₃ : e ≡ Ok s₃)
+    (x : Ends ws₃ sc s₃ r) (q₄ : r ≡ Ok s₄) where
+  -- what is declared of the cell
+  cell_given : Gives (DeclaresField ws₂ c) read_cell source sc s₁ ns₁ ws₁ (Ok c.next) ns₂ ws₂
+  cell_given = rw q₂ at g₂
+
   -- what the code tells of it
-  followed : (p : ProgramRead) → p.base ≡ s₁.at + 2 → p.body ≡ s₂.at → p.dims ≡ c.dims → p.fields ≡ c.fields → Ends ws₃ sc s₃ p.read
-      → (t : Reading) → p.read ≡ Next t → Follows source sc ns ws p t ns₃ ws₃
-  followed p base body dims fields x t q =
+  followed : (p : ProgramRead) → p.next ≡ s₄ → p.base ≡ s₁.at + 2 → p.body ≡ c.next.at → p.dims ≡ c.dims → p.fields ≡ c.fields → Follows source sc ns ws p p.next ns₃ ws₃
+  followed p next base body dims fields =
       let y₁ = (went_on g₁ q₁).is in
-      let y₂ = (went_on g₂ q₂).is in
+      let y₂ = cell_given.is in
       let d = y₂.0 in
-      let y₃ = (went_on (in_cell (cell_is y₂.1) g₃) q₃).is in
-      let f = x.finished t q in
+      let y₃ = (went_on (in_cell inside i (cell_is y₂.1) g₃) q₃).is in
+      let f = x.finished s₄ q₄ in
       record {
         trace =
             record {
               s₁ = state s₁ ns₁ ws₁;
-              s₂ = state s₂ ns₂ ws₂;
+              s₂ = state c.next ns₂ ws₂;
               s₃ = state s₃ ns₃ ws₃;
               declaration = d;
               body = y₃.0;
@@ -60,24 +75,27 @@ module _ {source : List ℕ} {sc : Scan} {ns ws ns₁ ws₁ ns₂ ws₂ ns₃ ws
         body = body;
         dims = dims ∙ sym y₂.1.dims;
         fields = fields ∙ sym y₂.1.ranges.many;
-        left = ap (λ (u : Reading). state u ns₃ ws₃) (sym (x.stays t q));
+        left = ap (λ (u : Reading). state u ns₃ ws₃) (sym (next ∙ x.stays s₄ q₄));
       }
 
   -- so the program is read
-  pub read_so : (p : ProgramRead) → p.base ≡ s₁.at + 2 → p.body ≡ s₂.at → p.dims ≡ c.dims → p.fields ≡ c.fields → Ends ws₃ sc s₃ p.read
-      → s₃.count ≤ most_names → Programs source sc ns ws p ns₃ ws₃
+  pub read_so : (p : ProgramRead) → p.next ≡ s₄ → p.base ≡ s₁.at + 2 → p.body ≡ c.next.at → p.dims ≡ c.dims → p.fields ≡ c.fields
+      → s₃.count ≤ most_names → Programs source sc ns ws (Ok p) ns₃ ws₃
   unfolding read_program
-  read_so p base body dims fields x few =
+  read_so p next base body dims fields few =
+      let ends : Ends ws₃ sc s₃ (Ok p.next) = rw (q₄, ← next) at x in
       record {
-        gives = on _ g₁ q₁ (λ _ _. on _ g₂ q₂ (λ d y. on _ (in_cell (cell_is y) g₃) q₃ (λ b _. x.gives source ns₃ d b)));
-        reaches = few_left x few;
-        follows = followed p base body dims fields x;
+        gives = on _ g₁ q₁ (λ _ _. on _ cell_given refl (λ d y. on _ (in_cell inside i (cell_is y) g₃) q₃ (λ b _. ends.gives source ns₃ d b)));
+        reaches = few_left ends few;
+        follows = λ u q. let z : p ≡ u = cc in rw (← z) (followed p next base body dims fields);
       }
 
 -- reading a program stopped at a refusal
-pub unread : {source : List ℕ} {sc : Scan} {ns ws ns' ws' : List ℕ} {r : Read} {k n : ℕ} (p : ProgramRead)
-    → Gives anything read_program source sc begun ns ws r ns' ws' → p.read ≡ r → r ≡ Refused k n → Programs source sc ns ws p ns' ws'
-unread p g e y = record { gives = stopped g e y; reaches = record { few = rw (e ∙ y) tt }; follows = λ t q. never_next (e ∙ y) q }
+pub unread : {source : List ℕ} {sc : Scan} {ns ws ns' ws' : List ℕ} {r : Read} {e : Refusal} (p : Result ProgramRead Refusal)
+    → Gives anything read_program source sc begun ns ws r ns' ws' → IsErrAnd p (λ f. f ≡ e) → r ≡ Err e → Programs source sc ns ws p ns' ws'
+unread p g h y =
+    let x = passed_by end_in (λ f. refl) p h y in
+    record { gives = stopped g x y; reaches = record { few = rw (x ∙ y) tt }; follows = λ u q. never_next (x ∙ y) (ap end_in q) }
 
 -- the rule, from what reading the source's tokens tells where no name is declared
 pub rule_read : {source : List ℕ} {sc : Scan} {ns ws ns' ws' : List ℕ} {p : ProgramRead} {t : Reading} → Scans source sc ws → ns ≡ replicate 1024 0

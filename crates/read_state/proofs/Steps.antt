@@ -10,18 +10,17 @@ use Rattle.token.specs.declared.Scan.{Scan}
 use Rattle.token.specs.declared.Token.{Token}
 use Rattle.token.specs.Scanning.{kind_in}
 use Rattle.names.specs.declared.Entry.{Entry}
-use Rattle.names.specs.declared.Found.{Found}
-use Rattle.names.specs.declared.Found.TheVariants.{At, Missing}
 use Rattle.names.specs.Names.{entry_at, without_entry, find_name}
-use Rattle.names.specs.Promises.Finding.{found_of, Below, Finds}
+use Rattle.names.specs.Promises.Finding.{Found, found_of, Below, Finds}
+use Rattle.program.specs.Refusal.{Refusal}
 use Rattle.program.specs.Table.{with_word}
 use Rattle.program.specs.Promises.Standing.{Stands}
 use Rattle.grammar.specs.Reader.{Result, ok, State, Reader, ◌>>=◌, ◌▷◌, return, unit, get_state, refuse, refuse_last, note, next_token, kind_after, position, advance, put, on_slot, by_name, entry_in, declare, release, use_name}
 use Rattle.grammar.proofs.Theorems.Ends.{bind_ok, bind_fail}
 use Rattle.read_state.specs.Promises.Reading.{input, state, exactly, anything, InNumber, only, Told, Gives, refusing, moved_of, Moved, Carries, Noted, released_of, Released, declared_of, Declares, Uses}
 use Rattle.read_state.specs.declared.Reading.{Reading}
-use Rattle.read_state.specs.declared.Read.{Read}
-use Rattle.read_state.specs.declared.Read.TheVariants.{Next, Refused}
+use Rattle.read_state.specs.Promises.Reading.{Read}
+use Rattle.std.specs.Prelude.{Ok, Err, Some, None}
 
 -- ---- putting readers together
 
@@ -30,41 +29,41 @@ pub by_another : {A : Type 0} {R : A → Reading → Type 0} {m m' : Reader A} {
 by_another {A} {R} {ns₁ = ns₁} {ws₁ = ws₁} {r = r} e x = record { is = subst (λ (o : Result (A × State)). Told R o r ns₁ ws₁) (sym e) x.is }
 
 -- where the code went on, and where it refused
-pub went_on : {A : Type 0} {R : A → Reading → Type 0} {m : Reader A} {source : List ℕ} {sc : Scan} {s t : Reading} {ns ws ns₁ ws₁ : List ℕ} {r : Read} → Gives R m source sc s ns ws r ns₁ ws₁ → r ≡ Next t → Gives R m source sc s ns ws (Next t) ns₁ ws₁
+pub went_on : {A : Type 0} {R : A → Reading → Type 0} {m : Reader A} {source : List ℕ} {sc : Scan} {s t : Reading} {ns ws ns₁ ws₁ : List ℕ} {r : Read} → Gives R m source sc s ns ws r ns₁ ws₁ → r ≡ Ok t → Gives R m source sc s ns ws (Ok t) ns₁ ws₁
 went_on x e = rw (← e) x
 
-pub no_further : {A : Type 0} {R Q : A → Reading → Type 0} {m : Reader A} {source : List ℕ} {sc : Scan} {s : Reading} {ns ws ns₁ ws₁ : List ℕ} {r : Read} {k p : ℕ} → Gives R m source sc s ns ws r ns₁ ws₁ → r ≡ Refused k p → Gives Q m source sc s ns ws r ns₁ ws₁
-no_further {A} {R} {Q} {m} {source} {sc} {s} {ns} {ws} {ns₁} {ws₁} {r} {k} {p} x e = by r e x.is
+pub no_further : {A : Type 0} {R Q : A → Reading → Type 0} {m : Reader A} {source : List ℕ} {sc : Scan} {s : Reading} {ns ws ns₁ ws₁ : List ℕ} {r : Read} {e : Refusal} → Gives R m source sc s ns ws r ns₁ ws₁ → r ≡ Err e → Gives Q m source sc s ns ws r ns₁ ws₁
+no_further {A} {R} {Q} {m} {source} {sc} {s} {ns} {ws} {ns₁} {ws₁} {r} {e} x q = by r q x.is
   where
-    by : (z : Read) → z ≡ Refused k p → Told R (m (input source sc) (state s ns ws)) z ns₁ ws₁ → Gives Q m source sc s ns ws z ns₁ ws₁
-    by (Next t) d y = let w : ◌≡◌ {A = ℕ} 0 1 = cc in absurd (omega arith)
-    by (Refused j q) d y = record { is = y }
+    by : (z : Read) → z ≡ Err e → Told R (m (input source sc) (state s ns ws)) z ns₁ ws₁ → Gives Q m source sc s ns ws z ns₁ ws₁
+    by (Ok t) d y = let w : ◌≡◌ {A = ℕ} 0 1 = cc in absurd (omega arith)
+    by (Err f) d y = record { is = y }
 
 -- what is known of what was read, said in another way
 pub told_as : {A : Type 0} {R Q : A → Reading → Type 0} {m : Reader A} {source : List ℕ} {sc : Scan} {s : Reading} {ns ws ns₁ ws₁ : List ℕ} {r : Read} → Gives R m source sc s ns ws r ns₁ ws₁ → ((a : A) (t : Reading) → R a t → Q a t) → Gives Q m source sc s ns ws r ns₁ ws₁
 told_as {A} {R} {Q} {m} {source} {sc} {s} {ns} {ws} {ns₁} {ws₁} {r} x f = by r x.is
   where
     by : (z : Read) → Told R (m (input source sc) (state s ns ws)) z ns₁ ws₁ → Gives Q m source sc s ns ws z ns₁ ws₁
-    by (Next t) y = record { is = (y.0, f y.0 t y.1, y.2) }
-    by (Refused j q) y = record { is = y }
+    by (Ok t) y = record { is = (y.0, f y.0 t y.1, y.2) }
+    by (Err f) y = record { is = y }
 
 module _ {A B : Type 0} {source : List ℕ} {sc : Scan} {R : A → Reading → Type 0} {Q : B → Reading → Type 0} {m : Reader A} (h : A → Reader B) {s : Reading} {ns ws ns₁ ws₁ : List ℕ} {r : Read} (x : Gives R m source sc s ns ws r ns₁ ws₁) where
   -- the first goes on, with some a, and what follows does so for this a
-  pub on : {s₁ : Reading} {ns₂ ws₂ : List ℕ} {q : Read} → r ≡ Next s₁ → ((a : A) → R a s₁ → Gives Q (h a) source sc s₁ ns₁ ws₁ q ns₂ ws₂) → Gives Q (m >>= h) source sc s ns ws q ns₂ ws₂
+  pub on : {s₁ : Reading} {ns₂ ws₂ : List ℕ} {q : Read} → r ≡ Ok s₁ → ((a : A) → R a s₁ → Gives Q (h a) source sc s₁ ns₁ ws₁ q ns₂ ws₂) → Gives Q (m >>= h) source sc s ns ws q ns₂ ws₂
   on {s₁} e y =
       let t = (went_on x e).is in
       by_another (bind_ok m h (input source sc) (state s ns ws) (state s₁ ns₁ ws₁) t.0 t.2) (y t.0 t.1)
 
   -- the first refuses
-  pub off : {k p : ℕ} → r ≡ Refused k p → Gives Q (m >>= h) source sc s ns ws r ns₁ ws₁
-  off {k} {p} e = by r e x.is
+  pub off : {e : Refusal} → r ≡ Err e → Gives Q (m >>= h) source sc s ns ws r ns₁ ws₁
+  off {e} q = by r q x.is
     where
-      by : (z : Read) → z ≡ Refused k p → Told R (m (input source sc) (state s ns ws)) z ns₁ ws₁ → Gives Q (m >>= h) source sc s ns ws z ns₁ ws₁
-      by (Next t) d y = let w : ◌≡◌ {A = ℕ} 0 1 = cc in absurd (omega arith)
-      by (Refused j q) d y = record { is = bind_fail m h (input source sc) (state s ns ws) j q y }
+      by : (z : Read) → z ≡ Err e → Told R (m (input source sc) (state s ns ws)) z ns₁ ws₁ → Gives Q (m >>= h) source sc s ns ws z ns₁ ws₁
+      by (Ok t) d y = let w : ◌≡◌ {A = ℕ} 0 1 = cc in absurd (omega arith)
+      by (Err f) d y = record { is = bind_fail m h (input source sc) (state s ns ws) f.number f.place y }
 
 -- the first goes on to a place that tells what was read
-pub on_told : {A B : Type 0} {source : List ℕ} {sc : Scan} {f : Reading → A} {Q : B → Reading → Type 0} {m : Reader A} (h : A → Reader B) {s s₁ : Reading} {ns ws ns₁ ws₁ ns₂ ws₂ : List ℕ} {r q : Read} → Gives (exactly f) m source sc s ns ws r ns₁ ws₁ → r ≡ Next s₁ → Gives Q (h (f s₁)) source sc s₁ ns₁ ws₁ q ns₂ ws₂ → Gives Q (m >>= h) source sc s ns ws q ns₂ ws₂
+pub on_told : {A B : Type 0} {source : List ℕ} {sc : Scan} {f : Reading → A} {Q : B → Reading → Type 0} {m : Reader A} (h : A → Reader B) {s s₁ : Reading} {ns ws ns₁ ws₁ ns₂ ws₂ : List ℕ} {r q : Read} → Gives (exactly f) m source sc s ns ws r ns₁ ws₁ → r ≡ Ok s₁ → Gives Q (h (f s₁)) source sc s₁ ns₁ ws₁ q ns₂ ws₂ → Gives Q (m >>= h) source sc s ns ws q ns₂ ws₂
 on_told {A} {B} {source} {sc} {f} {Q} h {s₁ = s₁} {ns₁ = ns₁} {ws₁ = ws₁} {ns₂ = ns₂} {ws₂ = ws₂} {q = q} x e y =
     on h x e (λ a p. subst (λ (z : A). Gives Q (h z) source sc s₁ ns₁ ws₁ q ns₂ ws₂) (sym p) y)
 
@@ -74,8 +73,8 @@ unfolding return
 made {A} {B} {source} {sc} {R} {Q} {m} f {s} {ns} {ws} {ns₁} {ws₁} {r} x g = by r x.is
   where
     by : (z : Read) → Told R (m (input source sc) (state s ns ws)) z ns₁ ws₁ → Gives Q (m ▷ f) source sc s ns ws z ns₁ ws₁
-    by (Next t) y = record { is = (f y.0, g y.0 t y.1, bind_ok m (λ a. return (f a)) (input source sc) (state s ns ws) (state t ns₁ ws₁) y.0 y.2) }
-    by (Refused j q) y = record { is = bind_fail m (λ a. return (f a)) (input source sc) (state s ns ws) j q y }
+    by (Ok t) y = record { is = (f y.0, g y.0 t y.1, bind_ok m (λ a. return (f a)) (input source sc) (state s ns ws) (state t ns₁ ws₁) y.0 y.2) }
+    by (Err e) y = record { is = bind_fail m (λ a. return (f a)) (input source sc) (state s ns ws) e.number e.place y }
 
 -- a choice by a test
 module _ {A : Type 0} {source : List ℕ} {sc : Scan} {R : A → Reading → Type 0} (m k : Reader A) {b : Bool} {s : Reading} {ns ws ns₁ ws₁ : List ℕ} {r : Read} where
@@ -103,16 +102,16 @@ second_not p q = rw (p, q)
 
 -- ---- steps that only look
 
-seen : (o : Option ℕ) (p : Found) → p ≡ found_of o → (slot : ℕ) → p ≡ At slot → o ≡ some slot
+seen : (o : Option ℕ) (p : Found) → p ≡ found_of o → (slot : ℕ) → p ≡ Some slot → o ≡ some slot
 seen (some j) p e slot d = cc
 seen none p e slot d = let z : ◌≡◌ {A = ℕ} 0 1 = cc in absurd (omega arith)
 
-unseen : (o : Option ℕ) (p : Found) → p ≡ found_of o → p ≡ Missing → o ≡ none
+unseen : (o : Option ℕ) (p : Found) → p ≡ found_of o → p ≡ None → o ≡ none
 unseen (some j) p e d = let z : ◌≡◌ {A = ℕ} 0 1 = cc in absurd (omega arith)
 unseen none p e d = refl
 
 -- a slot that was found is one of the list's
-pub below_slot : {n slot : ℕ} {q : Found} → Below n q → q ≡ At slot → slot < n
+pub below_slot : {n slot : ℕ} {q : Found} → Below n q → q ≡ Some slot → slot < n
 below_slot x e = rw e at x
 
 module _ {A : Type 0} {source : List ℕ} {sc : Scan} {R : A → Reading → Type 0} {s : Reading} {ns ws ns₁ ws₁ : List ℕ} {r : Read} where
@@ -139,14 +138,14 @@ module _ {A : Type 0} {source : List ℕ} {sc : Scan} {R : A → Reading → Typ
 
   -- a name that is found, and one that is not
   module _ (t : Token) {fields : Bool} (found : ℕ → Reader A) (missing : Reader A) {q : Found} (x : Finds source ns s.count fields t.start t.len q) where
-    pub found_it : {slot : ℕ} → q ≡ At slot → Gives R (found slot) source sc s ns ws r ns₁ ws₁ → Gives R (by_name t fields found missing) source sc s ns ws r ns₁ ws₁
+    pub found_it : {slot : ℕ} → q ≡ Some slot → Gives R (found slot) source sc s ns ws r ns₁ ws₁ → Gives R (by_name t fields found missing) source sc s ns ws r ns₁ ws₁
     unfolding by_name
     found_it {slot} e y =
         by_another
         (ap (λ (o : Option ℕ). on_slot o (λ j. found j (input source sc) (state s ns ws)) (missing (input source sc) (state s ns ws))) (seen (find_name source ns s.count fields t.start t.len) q x.is slot e))
         y
 
-    pub missed_it : q ≡ Missing → Gives R missing source sc s ns ws r ns₁ ws₁ → Gives R (by_name t fields found missing) source sc s ns ws r ns₁ ws₁
+    pub missed_it : q ≡ None → Gives R missing source sc s ns ws r ns₁ ws₁ → Gives R (by_name t fields found missing) source sc s ns ws r ns₁ ws₁
     unfolding by_name
     missed_it e y =
         by_another
@@ -165,33 +164,33 @@ module _ {A : Type 0} {source : List ℕ} {sc : Scan} {R : A → Reading → Typ
   unfolding refuse_last
   refused_last n e = rw e (record { is = refl })
 
-  pub returned : (a : A) → R a s → Gives R (return a) source sc s ns ws (Next s) ns ws
+  pub returned : (a : A) → R a s → Gives R (return a) source sc s ns ws (Ok s) ns ws
   unfolding return
   returned a h = record { is = (a, h, refl) }
 
   -- with something else carried, which the definition's state does not have
-  pub carried : (a : A) {t r : Reading} → Carries s t r → R a r → Gives R (return a) source sc s ns ws (Next r) ns ws
+  pub carried : (a : A) {t r : Reading} → Carries s t r → R a r → Gives R (return a) source sc s ns ws (Ok r) ns ws
   unfolding return
   carried a {t} {r} e h = record { is = (a, h, sym (ap (λ (z : State). ok (a, z)) (e.here ns ws))) }
 
 -- ---- steps
 
 module _ {source : List ℕ} {sc : Scan} {s : Reading} {ns ws : List ℕ} where
-  pub advanced : {r : Reading} → Moved s r → Gives anything advance source sc s ns ws (Next r) ns ws
+  pub advanced : {r : Reading} → Moved s r → Gives anything advance source sc s ns ws (Ok r) ns ws
   unfolding advance
   advanced e = record { is = (unit, tt, sym (ap (λ (z : Reading). ok (unit, state z ns ws)) e.is)) }
 
-  pub noted : (n : ℕ) {r : Reading} → Noted ws sc s n r → Gives anything (note n) source sc s ns ws (Next r) ns ws
+  pub noted : (n : ℕ) {r : Reading} → Noted ws sc s n r → Gives anything (note n) source sc s ns ws (Ok r) ns ws
   unfolding note
-  noted n e = record { is = (unit, tt, sym (ap (λ (z : Reading). ok (unit, state z ns ws)) e.is)) }
+  noted n e = record { is = (unit, tt, rw (e.at, e.noted, e.count)) }
 
   -- a word of the table, and two of them
-  pub put_in : (i w v : ℕ) {ws₁ : List ℕ} → ws₁ ≡ with_word ws i w v → Gives anything (put i w v) source sc s ns ws (Next s) ns ws₁
+  pub put_in : (i w v : ℕ) {ws₁ : List ℕ} → ws₁ ≡ with_word ws i w v → Gives anything (put i w v) source sc s ns ws (Ok s) ns ws₁
   unfolding put
   put_in i w v e = record { is = (unit, tt, ap (λ (x : List ℕ). ok (unit, state s ns x)) (sym e)) }
 
   -- a new name, and a new value for a name
-  pub declared : (i k v : ℕ) {r : Reading} {ns₁ : List ℕ} → Declares i k v sc s ns ws r ns₁ → Gives InNumber (declare i k v) source sc s ns ws (Next r) ns₁ ws
+  pub declared : (i k v : ℕ) {r : Reading} {ns₁ : List ℕ} → Declares i k v sc s ns ws r ns₁ → Gives InNumber (declare i k v) source sc s ns ws (Ok r) ns₁ ws
   unfolding declare
   declared i k v {r} {ns₁} d =
       record {
@@ -202,12 +201,12 @@ module _ {source : List ℕ} {sc : Scan} {s : Reading} {ns ws : List ℕ} where
         );
       }
 
-  pub released : (slot : ℕ) {r : Reading} {ns₁ : List ℕ} → Released s r → ns₁ ≡ without_entry ns slot → Gives anything (release slot) source sc s ns ws (Next r) ns₁ ws
+  pub released : (slot : ℕ) {r : Reading} {ns₁ : List ℕ} → Released s r → ns₁ ≡ without_entry ns slot → Gives anything (release slot) source sc s ns ws (Ok r) ns₁ ws
   unfolding release
   released slot {r} {ns₁} d e = record { is = (unit, tt, ap (λ (x : List ℕ). ok (unit, state (released_of s) x ws)) (sym e) ∙ sym (ap (λ (z : Reading). ok (unit, state z ns₁ ws)) d.is)) }
 
   -- a name in use, whose entry was looked up
-  pub used : (slot : ℕ) {e : Entry} {r : Reading} {ws₁ : List ℕ} → e ≡ entry_at ns slot → Uses e s ws r ws₁ → Gives (only e) (use_name slot) source sc s ns ws (Next r) ns ws₁
+  pub used : (slot : ℕ) {e : Entry} {r : Reading} {ws₁ : List ℕ} → e ≡ entry_at ns slot → Uses e s ws r ws₁ → Gives (only e) (use_name slot) source sc s ns ws (Ok r) ns ws₁
   unfolding use_name entry_in position put advance return ◌>>=◌
   used slot {e} {r} {ws₁} q u =
       record {

@@ -4,12 +4,13 @@ use native.Mathlib.Omega.{arith}
 use mathlib.Core.Path.{◌≡◌, refl, ap, ◌∙◌}
 use mathlib.Core.List.{List}
 use Rattle.token.specs.declared.Scan.{Scan}
+use Rattle.program.specs.Refusal.{Refusal}
 use Rattle.grammar.specs.Reader.{ok, Reader, ◌>>=◌, Turn, again, done, turned, repeat, turns}
 use Rattle.grammar.proofs.Theorems.Ends.{bind_ok}
 use Rattle.read_state.specs.Promises.Reading.{input, state, anything, once_more, AtEnd, Gives}
 use Rattle.read_state.specs.declared.Reading.{Reading}
-use Rattle.read_state.specs.declared.Read.{Read}
-use Rattle.read_state.specs.declared.Read.TheVariants.{Next, Refused}
+use Rattle.read_state.specs.Promises.Reading.{Read}
+use Rattle.std.specs.Prelude.{Ok, Err}
 use Rattle.read_state.proofs.Steps.{by_another, on, off, returned}
 
 -- after some turns of the code's loop: what is left of m is what the turns that are left give from here on, with some x of which X holds,
@@ -43,7 +44,7 @@ module _ {S T : Type 0} {m : Reader T} {body : S → Reader (Turn S T)} {source 
   step = w.says ∙ ap (λ (n : ℕ). repeat n body w.x (input source sc) (state s ns ws)) one_more.1
 
   -- one more turn
-  pub turn_again : {Y : S → Type 0} {s₁ : Reading} {ns₁ ws₁ : List ℕ} → ((x : S) → X x → Gives (once_more Y) (body x) source sc s ns ws (Next s₁) ns₁ ws₁) → s.at < s₁.at → Turning m body source sc s₀ ns₀ ws₀ Y s₁ ns₁ ws₁
+  pub turn_again : {Y : S → Type 0} {s₁ : Reading} {ns₁ ws₁ : List ℕ} → ((x : S) → X x → Gives (once_more Y) (body x) source sc s ns ws (Ok s₁) ns₁ ws₁) → s.at < s₁.at → Turning m body source sc s₀ ns₀ ws₀ Y s₁ ns₁ ws₁
   turn_again {Y} {s₁} {ns₁} {ws₁} g h = let t = (g w.x w.holds).is in by t.0 t.1 t.2
     where
       by : (t : Turn S T) → once_more Y t s₁ → body w.x (input source sc) (state s ns ws) ≡ ok (t, state s₁ ns₁ ws₁) → Turning m body source sc s₀ ns₀ ws₀ Y s₁ ns₁ ws₁
@@ -51,13 +52,13 @@ module _ {S T : Type 0} {m : Reader T} {body : S → Reader (Turn S T)} {source 
       by (done r) p e = absurd p
 
   -- the last turn
-  pub turn_done : {Q : T → Reading → Type 0} {s₁ : Reading} {ns₁ ws₁ : List ℕ} → ((x : S) → X x → Gives (AtEnd Q) (body x) source sc s ns ws (Next s₁) ns₁ ws₁) → Gives Q m source sc s₀ ns₀ ws₀ (Next s₁) ns₁ ws₁
+  pub turn_done : {Q : T → Reading → Type 0} {s₁ : Reading} {ns₁ ws₁ : List ℕ} → ((x : S) → X x → Gives (AtEnd Q) (body x) source sc s ns ws (Ok s₁) ns₁ ws₁) → Gives Q m source sc s₀ ns₀ ws₀ (Ok s₁) ns₁ ws₁
   turn_done {Q} {s₁} {ns₁} {ws₁} g = by_another step (on _ (g w.x w.holds) refl by)
     where
-      by : (t : Turn S T) → AtEnd Q t s₁ → Gives Q (turned t (λ y. repeat one_more.0 body y)) source sc s₁ ns₁ ws₁ (Next s₁) ns₁ ws₁
+      by : (t : Turn S T) → AtEnd Q t s₁ → Gives Q (turned t (λ y. repeat one_more.0 body y)) source sc s₁ ns₁ ws₁ (Ok s₁) ns₁ ws₁
       by (again y) p = absurd p
       by (done r) p = returned r p
 
   -- a turn that refuses
-  pub turn_refused : {Q : T → Reading → Type 0} {r : Read} {k p : ℕ} {ns₁ ws₁ : List ℕ} → ((x : S) → X x → Gives anything (body x) source sc s ns ws r ns₁ ws₁) → r ≡ Refused k p → Gives Q m source sc s₀ ns₀ ws₀ r ns₁ ws₁
+  pub turn_refused : {Q : T → Reading → Type 0} {r : Read} {e : Refusal} {ns₁ ws₁ : List ℕ} → ((x : S) → X x → Gives anything (body x) source sc s ns ws r ns₁ ws₁) → r ≡ Err e → Gives Q m source sc s₀ ns₀ ws₀ r ns₁ ws₁
   turn_refused g e = by_another step (off _ (g w.x w.holds) e)

@@ -3,185 +3,200 @@
 // The steps from which the readers of the code are put together: each is the reader of the same name in the grammar's definition.
 ghost use Rattle.std.specs.Prelude.{◌≡◌, ◌≤◌, ◌<◌, length};
 ghost use Rattle.value.specs.Limits.{most_tokens, table_words, most_names, name_words};
-ghost use Rattle.program.specs.Refusal.{refusal};
-ghost use Rattle.grammar.specs.Ranking.{rank, broken};
+ghost use Rattle.program.specs.Reason.{reason_number};
+ghost use Rattle.grammar.specs.Ranking.{rank, before, first_of, broken};
 ghost use Rattle.grammar.specs.Reader.{expect_or, forbid, opening, fresh};
-ghost use Rattle.read_state.specs.Promises.Reading.{anything, passed, Ready, Reads, Passes, first_refused, refusing, Moved, Carries, carrying_value, carrying_number, carrying_fields, carrying_more, Noted, Named, Declares, Released, Uses};
+ghost use Rattle.read_state.specs.Promises.Reading.{anything, passed, Ready, Reads, Passes, note_refusal, refusal_noted, refusing, rule_number, Moved, Carries, carrying_value, carrying_number, carrying_fields, carrying_more, Noted, Named, Declares, Released, Uses};
 
-use names::{Entry, Found, find_name, write_entry};
+use names::{Entry, find_name, write_entry};
+use program::reply::{Reason, Refusal};
 use program::{put_word, token_at};
 use token::{Scan, Token, kind};
 use value::limits::MOST_NAMES;
 
-// The state of a reading: the position of the next token, the number and place of the refusal noted so far (number 0: none), how many
-// names are declared; and what was read last: a value or a range (`value`, the upper bound; `low`, the lower one), the number of a slot, a
-// field, a variable or a kind of names (`number`), how many fields there are and whether they have names (`fields`; `named`, 1 or 0),
-// whether one more part follows (`more`, 1 or 0).
-#[derive(Clone, Copy)]
+// A rule that was found broken, and the place, while reading goes on.
+#[derive(Clone, Copy, Debug, PartialEq, Eq, Hash)]
+pub struct Note {
+    pub reason: Reason,
+    pub place: u32,
+}
+
+// The state of a reading: the position of the next token, what is noted so far, how many names are declared; and what was read last: a value
+// or a range (`value`, the upper bound; `low`, the lower one), the number of a slot, a field, a variable or a kind of names (`number`), how
+// many fields there are and whether they have names (`fields`, `named`), whether one more part follows (`more`).
+#[derive(Clone, Copy, Debug, Default, PartialEq, Eq, Hash)]
 pub struct Reading {
     pub at: usize,
-    pub noted: u32,
-    pub place: u32,
+    pub noted: Option<Note>,
     pub count: usize,
     pub value: u32,
     pub low: u32,
     pub number: u32,
     pub fields: u32,
-    pub named: u32,
-    pub more: u32,
+    pub named: bool,
+    pub more: bool,
 }
 
-// How a reading ends: with its state then, or with the number and the place of the reply that refuses.
-#[derive(Clone, Copy)]
-pub enum Read {
-    Next(Reading),
-    Refused(u32, u32),
-}
+// How a reading ends: with its state then, or with the reply that refuses.
+pub type Read = Result<Reading, Refusal>;
 
 // ---- refusals
 
 // The rank of a rule's number where several are broken at one place: 40 to 45 rank where 10 did.
+#[tactic(auto, unfolding(grammar::specs::Ranking::rank))]
 fn rank(n: u32) -> u64
     ensures { result ≡ rank n }
 {
-    let k = n as u64;
-    if n < 40 {
-        return 100 * k;
+    let n = n as u64;
+    match n {
+        40..=45 => 1000 + n,
+        _ => 100 * n,
     }
-    if n <= 45 {
-        return 1000 + k;
-    }
-    100 * k
 }
 
-// The rule's number at a token; at a stop, the first of the two.
-fn lower(t: Token, n: u32) -> u32
-    ensures { result ≡ (broken n t).number }
+// Whether refusal a goes before b, or is the same.
+#[tactic(auto, unfolding(grammar::specs::Ranking::before))]
+fn goes_before(a: Refusal, b: Refusal) -> bool
+    ensures { result ≡ before a b }
 {
-    if t.kind == kind::STOP {
-        if rank(t.value) <= rank(n) {
-            return t.value;
+    a.place < b.place || a.place == b.place && rank(a.number) <= rank(b.number)
+}
+
+// What is refused for a reason at a token; at a stop, the first of the two.
+#[tactic(auto, unfolding(grammar::specs::Ranking::broken, grammar::specs::Ranking::first_number))]
+fn broken(t: Token, reason: Reason) -> Refusal
+    ensures { result ≡ broken (reason_number reason) t }
+{
+    let number = reason.number();
+    let stops = t.kind == kind::STOP && rank(t.value) <= rank(number);
+    Refusal {
+        number: if stops { t.value } else { number },
+        place: t.start,
+    }
+}
+
+impl From<Note> for Refusal {
+    ghost from_gives = { λ n r. r ≡ note_refusal n };
+
+    fn from(note: Note) -> Self {
+        Refusal::new(note.reason, note.place)
+    }
+}
+
+// The first of what was noted, if there is anything, and a new refusal.
+fn first(noted: Option<Note>, new: Refusal) -> Refusal
+    ensures { result ≡ first_of (refusal_noted noted) new }
+{
+    match noted {
+        Some(note) if goes_before(note.into(), new) => note.into(),
+        _ => new,
+    }
+}
+
+// Refused for a reason at the token at position i, or by what was noted before.
+pub fn refuse(words: &[u32], scan: Scan, s: Reading, i: usize, reason: Reason) -> Read
+    requires { (scan.count ≤ most_tokens) × (length words.now ≡ table_words) }
+    ensures { result ≡ refusing words.now scan s i (reason_number reason) }
+{
+    Err(first(s.noted, broken(token_at(words, scan, i), reason)))
+}
+
+// A rule is broken at the next token, and reading goes on.
+pub fn noting(words: &[u32], scan: Scan, s: Reading, reason: Reason) -> Reading
+    requires { (scan.count ≤ most_tokens) × (length words.now ≡ table_words) }
+    ensures { Noted words.now scan s (reason_number reason) result }
+{
+    let place = token_at(words, scan, s.at).start;
+    match s.noted {
+        Some(old) if goes_before(old.into(), Refusal::new(reason, place)) => s,
+        _ => Reading {
+            noted: Some(Note { reason, place }),
+            ..s
+        },
+    }
+}
+
+// ---- places of reading
+
+impl Reading {
+    // Over the next token.
+    pub fn moved(self) -> Reading
+        requires { self.at < most_tokens }
+        ensures { Moved self result }
+    {
+        Reading {
+            at: self.at + 1,
+            ..self
         }
     }
-    n
-}
 
-// The first of a refusal noted earlier, if there is one, and a new one.
-fn first(noted: u32, place: u32, n: u32, p: u32) -> Read
-    ensures { result ≡ first_refused (refusal noted place) (refusal n p) }
-{
-    if noted == 0 {
-        return Read::Refused(n, p);
+    // The same place, with a value or a range that was read.
+    pub fn with_value(self, value: u32, low: u32) -> Reading
+        ensures { Carries self (carrying_value self value low) result }
+    {
+        Reading { value, low, ..self }
     }
-    if place < p {
-        return Read::Refused(noted, place);
+
+    // With the number of a slot, a field, a variable or a kind of names.
+    pub fn with_number(self, number: u32) -> Reading
+        ensures { Carries self (carrying_number self number) result }
+    {
+        Reading { number, ..self }
     }
-    if place == p {
-        if rank(noted) <= rank(n) {
-            return Read::Refused(noted, place);
+
+    // With the number of fields, and whether they have names.
+    pub fn with_fields(self, fields: u32, named: bool) -> Reading
+        ensures { Carries self (carrying_fields self fields named) result }
+    {
+        Reading {
+            fields,
+            named,
+            ..self
         }
     }
-    Read::Refused(n, p)
-}
 
-// Refused by rule n at the token at position i, or by what was noted before.
-pub fn refuse(words: &[u32], scan: Scan, s: Reading, i: usize, n: u32) -> Read
-    requires { (scan.count ≤ most_tokens) × (length words.now ≡ table_words) }
-    ensures { result ≡ refusing words.now scan s i n }
-{
-    let t = token_at(words, scan, i);
-    let k = lower(t, n);
-    first(s.noted, s.place, k, t.start)
-}
+    // With whether one more part follows.
+    pub fn with_more(self, more: bool) -> Reading
+        ensures { Carries self (carrying_more self more) result }
+    {
+        Reading { more, ..self }
+    }
 
-// Rule n is broken at the next token, and reading goes on.
-pub fn noting(words: &[u32], scan: Scan, s: Reading, n: u32) -> Reading
-    requires { (scan.count ≤ most_tokens) × (length words.now ≡ table_words) }
-    ensures { Noted words.now scan s n result }
-{
-    let t = token_at(words, scan, s.at);
-    let r = first(s.noted, s.place, n, t.start);
-    let Read::Refused(k, p) = r else {
-        return s;
-    };
-    let mut t = s;
-    t.noted = k;
-    t.place = p;
-    t
+    // With one name less, if there is one.
+    pub fn released(self) -> Reading
+        ensures { Released self result }
+    {
+        Reading {
+            count: self.count.saturating_sub(1),
+            ..self
+        }
+    }
 }
 
 // ---- tokens
 
-// Over the next token.
-pub fn moved(s: Reading) -> Reading
-    requires { s.at < most_tokens }
-    ensures { Moved s result }
-{
-    let mut t = s;
-    t.at = s.at + 1;
-    t
-}
-
-// The same place, with a value or a range that was read.
-pub fn carrying_value(s: Reading, value: u32, low: u32) -> Reading
-    ensures { Carries s (carrying_value s value low) result }
-{
-    let mut t = s;
-    t.value = value;
-    t.low = low;
-    t
-}
-
-// With the number of a slot, a field, a variable or a kind of names.
-pub fn carrying_number(s: Reading, number: u32) -> Reading
-    ensures { Carries s (carrying_number s number) result }
-{
-    let mut t = s;
-    t.number = number;
-    t
-}
-
-// With the number of fields, and whether they have names.
-pub fn carrying_fields(s: Reading, fields: u32, named: u32) -> Reading
-    ensures { Carries s (carrying_fields s fields named) result }
-{
-    let mut t = s;
-    t.fields = fields;
-    t.named = named;
-    t
-}
-
-// With whether one more part follows.
-pub fn carrying_more(s: Reading, more: u32) -> Reading
-    ensures { Carries s (carrying_more s more) result }
-{
-    let mut t = s;
-    t.more = more;
-    t
-}
-
-// Over a token of the kind, else refused by rule n.
-pub fn expect(words: &[u32], scan: Scan, s: Reading, kind: u32, n: u32) -> Read
+// Over a token of the kind, else refused for the reason.
+pub fn expect(words: &[u32], scan: Scan, s: Reading, kind: u32, reason: Reason) -> Read
     requires { (scan.count ≤ most_tokens) × (length words.now ≡ table_words) × (1 ≤ kind) }
-    ensures { Passes anything (expect_or kind n) scan 1 s words.now result }
+    ensures { Passes anything (expect_or kind (reason_number reason)) scan 1 s words.now result }
 {
     let t = token_at(words, scan, s.at);
     if t.kind == kind {
-        return Read::Next(moved(s));
+        return Ok(s.moved());
     }
-    refuse(words, scan, s, s.at, n)
+    refuse(words, scan, s, s.at, reason)
 }
 
-// The next token must not be of the kind, else refused by rule n.
-pub fn forbid(words: &[u32], scan: Scan, s: Reading, kind: u32, n: u32) -> Read
+// The next token must not be of the kind, else refused for the reason.
+pub fn forbid(words: &[u32], scan: Scan, s: Reading, kind: u32, reason: Reason) -> Read
     requires { (scan.count ≤ most_tokens) × (length words.now ≡ table_words) × (s.at ≤ scan.count) }
-    ensures { Passes anything (forbid kind n) scan 0 s words.now result }
+    ensures { Passes anything (forbid kind (reason_number reason)) scan 0 s words.now result }
 {
     let t = token_at(words, scan, s.at);
     if t.kind == kind {
-        return refuse(words, scan, s, s.at, n);
+        return refuse(words, scan, s, s.at, reason);
     }
-    Read::Next(s)
+    Ok(s)
 }
 
 // Over an opening token, where one more may be open, else refused 14.
@@ -190,27 +205,22 @@ pub fn opening(words: &[u32], scan: Scan, s: Reading, free: bool) -> Read
     ensures { Passes anything (opening free) scan 1 s words.now result }
 {
     if free {
-        return Read::Next(moved(s));
+        return Ok(s.moved());
     }
-    refuse(words, scan, s, s.at, 14)
+    refuse(words, scan, s, s.at, Reason::DeepNesting)
 }
 
 // ---- names
 
 // Whether a token is an identifier, or `cell` or `time`.
+#[tactic(auto, unfolding(grammar::specs::Reader::is_name))]
 pub fn is_name(t: Token) -> bool
     ensures { Named t result }
 {
-    if t.kind == kind::NAME {
-        return true;
-    }
-    if t.kind == kind::CELL {
-        return true;
-    }
-    t.kind == kind::TIME
+    matches!(t.kind, kind::NAME | kind::CELL | kind::TIME)
 }
 
-// Over a name in declaration position, for which there is room: refused by rule `full`, if that is not 0, where the name is free.
+// Over a name in declaration position, for which there is room: a free name is refused for the reason `full`, if there is one.
 pub fn fresh(
     source: &[u8],
     names: &[u32],
@@ -218,29 +228,28 @@ pub fn fresh(
     scan: Scan,
     s: Reading,
     fields: bool,
-    full: u32,
+    full: Option<Reason>,
 ) -> Read
     requires { Ready scan (length names.now) (length words.now) s }
-    ensures { Reads passed (fresh fields full) source.now scan 255 s names.now words.now result names.now words.now }
+    ensures { Reads passed (fresh fields (rule_number full)) source.now scan 255 s names.now words.now result names.now words.now }
 {
     let t = token_at(words, scan, s.at);
-    if is_name(t) {
-        if t.kind == kind::NAME {
-            let f = find_name(source, names, s.count, fields, t.start, t.len);
-            let Found::At(_) = f else {
-                if full != 0 {
-                    return refuse(words, scan, s, s.at, full);
-                }
-                if s.count < MOST_NAMES {
-                    return Read::Next(moved(s));
-                }
-                return refuse(words, scan, s, s.at, 15);
-            };
-            return refuse(words, scan, s, s.at, 9);
-        }
-        return refuse(words, scan, s, s.at, 9);
+    if !is_name(t) {
+        return refuse(words, scan, s, s.at, Reason::NotAllowed);
     }
-    refuse(words, scan, s, s.at, 7)
+    if t.kind != kind::NAME {
+        return refuse(words, scan, s, s.at, Reason::UsedName);
+    }
+    if let Some(_) = find_name(source, names, s.count, fields, t.start, t.len) {
+        return refuse(words, scan, s, s.at, Reason::UsedName);
+    }
+    if let Some(reason) = full {
+        return refuse(words, scan, s, s.at, reason);
+    }
+    if MOST_NAMES <= s.count {
+        return refuse(words, scan, s, s.at, Reason::ManyNames);
+    }
+    Ok(s.moved())
 }
 
 // A record for the name at position i, of a kind and with a value's word.
@@ -251,39 +260,24 @@ pub fn declare(
     s: Reading,
     i: usize,
     kind: u32,
-    v: u32,
+    word: u32,
 ) -> Reading
     requires { (scan.count ≤ most_tokens) × (length words.now ≡ table_words) × (s.count < most_names) × (length names.old ≡ name_words) }
-    ensures { Declares i kind v scan s names.old words.now result names.new }
+    ensures { Declares i kind word scan s names.old words.now result names.new }
 {
-    let t = token_at(words, scan, i);
-    let slot = s.count;
-    write_entry(
-        names,
-        slot,
-        Entry {
-            start: t.start,
-            len: t.len,
-            kind: kind,
-            word: v,
-        },
-    );
-    let mut r = s;
-    r.count = slot + 1;
-    r.number = slot as u32;
-    r
-}
-
-// The place of reading with one name less, if there is one.
-pub fn released(s: Reading) -> Reading
-    ensures { Released s result }
-{
-    let mut t = s;
-    if 0 < s.count {
-        t.count = s.count - 1;
-        return t;
+    let Token { start, len, .. } = token_at(words, scan, i);
+    let entry = Entry {
+        start,
+        len,
+        kind,
+        word,
+    };
+    write_entry(names, s.count, entry);
+    Reading {
+        count: s.count + 1,
+        number: s.count as u32,
+        ..s
     }
-    t
 }
 
 // Over a name in use, whose entry is e.
@@ -291,8 +285,7 @@ pub fn use_name(words: &mut [u32], s: Reading, e: Entry) -> Reading
     requires { (length words.old ≡ table_words) × (s.at < most_tokens) }
     ensures { Uses e s words.old result words.new }
 {
-    let at = s.at;
-    put_word(words, at, 2, e.kind);
-    put_word(words, at, 3, e.word);
-    moved(s)
+    put_word(words, s.at, 2, e.kind);
+    put_word(words, s.at, 3, e.word);
+    s.moved()
 }

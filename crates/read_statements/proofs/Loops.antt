@@ -1,6 +1,5 @@
 -- The laws of loops: a `forall` is read as its head, its body and its end. Assumes nothing.
-use Prim.Native.Nat.{ℕ, zero, suc, ◌+◌, ◌-◌, ◌≤◌}
-use native.Mathlib.Omega.{arith}
+use Prim.Native.Nat.{ℕ, ◌+◌}
 use mathlib.Core.Path.{◌≡◌, refl, sym, ◌∙◌}
 use mathlib.Core.Bool.{true}
 use mathlib.Core.List.{List}
@@ -11,13 +10,17 @@ use Rattle.names.specs.Names.{name_kind}
 use Rattle.program.specs.Syntax.{Range, Block, loop}
 use Rattle.grammar.specs.Reader.{Result, ok, fail, Input, State, Reader, and_then, ◌>>=◌, return, position, advance, put_both, opening, expect_or, declare, fresh_name}
 use Rattle.grammar.specs.Constants.{read_range}
-use Rattle.grammar.specs.Expressions.{Cell}
 use Rattle.grammar.specs.Statements.{read_forall, read_block}
 use Rattle.read_state.specs.Promises.Reading.{input, state, anything, Gives, refusing}
 use Rattle.read_state.specs.declared.Reading.{Reading}
-use Rattle.read_state.specs.declared.Read.{Read}
+use Rattle.read_state.specs.Promises.Reading.{Read}
 use Rattle.read_state.proofs.Steps.{by_another, off, here, refused}
-use Rattle.read_statements.specs.Promises.Promises.{loop_range, loop_head, loop_end, parts_of, forall_with}
+use Rattle.read_statements.specs.Promises.Promises.{loop_range, loop_head, loop_end, block_in, parts_in, forall_with}
+use Rattle.read_expressions.specs.declared.inside.Inside.{Inside}
+use Rattle.read_expressions.specs.Promises.Opening.{Entered}
+use Rattle.read_expressions.specs.Promises.Promises.{cell_as}
+use Rattle.read_expressions.proofs.Opening.{none_free, same_cell, loops_now, one_less}
+use Rattle.std.specs.Prelude.{Option, Some, None}
 
 module _ {A B : Type 0} (m : Reader A) (i : Input) (s : State) where
   regroup : {C : Type 0} (f : A → Reader B) (g : B → Reader C) → ((m >>= f) >>= g) i s ≡ (m >>= λ a. f a >>= g) i s
@@ -75,18 +78,17 @@ forall_apart depth block i s =
     same_after position i s _ _ (λ at t.
     same_after advance i t _ _ (λ _ u. sym (head_apart depth (λ h. position >>= λ inner. block >>= λ body. loop_end at inner h.1 (loop h.0 body)) i u)))
 
-module _ (cell : Cell) {source : List ℕ} {sc : Scan} {s : Reading} {ns ws ns₁ ws₁ : List ℕ} {r : Read} where
-  pub forall_open : (free loops : ℕ) → 1 ≤ free → Gives anything (forall_body loops (read_block cell (free - 1) (loops + 1))) source sc s ns ws r ns₁ ws₁ → Gives anything (forall_with (parts_of cell free) loops) source sc s ns ws r ns₁ ws₁
-  forall_open zero loops h x = absurd (omega arith)
-  forall_open (suc free) loops h x =
-      let e : suc free - 1 ≡ free = omega arith in
-      by_another (forall_apart loops (read_block cell free (loops + 1)) (input source sc) (state s ns ws)) (rw e at x)
+module _ (inside : Inside) {o : Option Inside} (x : Entered (inside.loops + 1) inside o) {source : List ℕ} {sc : Scan} {s : Reading} {ns ws : List ℕ} {r : Read} where
+  pub forall_open : {inner : Inside} {ns₁ ws₁ : List ℕ} → o ≡ Some inner → Gives anything (forall_body inside.loops (block_in inner)) source sc s ns ws r ns₁ ws₁ → Gives anything (forall_with (parts_in inside) inside.loops) source sc s ns ws r ns₁ ws₁
+  forall_open {inner} e y =
+      rw (← one_less (inside.loops + 1) inside x e, ← same_cell (inside.loops + 1) inside x e)
+      (by_another
+      (forall_apart inside.loops (read_block (cell_as inner.cell) inner.free (inside.loops + 1)) (input source sc) (state s ns ws))
+      (rw (loops_now (inside.loops + 1) inside x e) at y))
 
-module _ (cell : Cell) {source : List ℕ} {sc : Scan} {s : Reading} {ns ws : List ℕ} {r : Read} where
-  pub forall_shut : (free loops : ℕ) → free ≡ 0 → r ≡ refusing ws sc s s.at 14 → Gives anything (forall_with (parts_of cell free) loops) source sc s ns ws r ns ws
+  pub forall_shut : o ≡ None → r ≡ refusing ws sc s s.at 14 → Gives anything (forall_with (parts_in inside) inside.loops) source sc s ns ws r ns ws
   unfolding read_forall opening
-  forall_shut zero loops h e = here _ (off {R = anything} _ (refused 14 e) e)
-  forall_shut (suc free) loops h e = absurd (omega arith)
+  forall_shut e y = rw (none_free (inside.loops + 1) inside x e) (here _ (off {R = anything} _ (refused 14 y) y))
 
 -- a loop's end, with the slot that the code has
 pub ended_at : {R : (Block → Block) → Reading → Type 0} (i inner : ℕ) {slot n : ℕ} (x : Block → Block) {source : List ℕ} {sc : Scan} {s : Reading} {ns ws ns₁ ws₁ : List ℕ} {r : Read} → slot ≡ n → Gives R (loop_end i inner n x) source sc s ns ws r ns₁ ws₁ → Gives R (loop_end i inner slot x) source sc s ns ws r ns₁ ws₁

@@ -2,7 +2,7 @@
 use Prim.Native.Nat.{ℕ, zero, suc, ◌≤◌}
 use native.Mathlib.Nat.{mul-le-mul}
 use native.Mathlib.Omega.{arith}
-use mathlib.Core.Path.{◌≡◌, refl, sym, ap, ◌∙◌, subst₂}
+use mathlib.Core.Path.{◌≡◌, refl, sym, ap, ◌∙◌, subst, subst₂}
 use mathlib.Core.Bool.{Bool, true, false, not, ◌||◌}
 use mathlib.Core.List.{List, [], ◌∷◌}
 use mathlib.Core.Option.{some}
@@ -14,7 +14,7 @@ use mir.Val.{SFits, to_z, of_z}
 use mir.Facts.{to_z-of_z}
 use borrow.Author.Tests.{eq-eqb, ne_eqb, ltb-false}
 use Rattle.value.specs.Limits.{most_cells}
-use Rattle.std.specs.Prelude.{if◌then◌else◌}
+use Rattle.std.specs.Prelude.{Option, Some, None, Result, Ok, Err, if◌then◌else◌}
 use Rattle.automaton.specs.Promises.ListedLaws.{get_or_list_of}
 use Rattle.automaton.proofs.Theorems.Quiet.{or_false}
 use Rattle.automaton.specs.Shape.{Bound}
@@ -24,6 +24,7 @@ use Rattle.cell_meaning.specs.Promises.Stands.{Holds}
 use Rattle.cell_meaning.specs.Written.{Relative, relatives_in, Written, written_of, written_in}
 use Rattle.cell_meaning.specs.Places.{own_place, add_relatives, places}
 use Rattle.run_meaning.specs.declared.Bounds.{Bounds}
+use Rattle.run_meaning.specs.declared.Reach.{Reach}
 use Rattle.run_meaning.specs.Reach.{below, above, own_only, widen, widened, box}
 use Rattle.program.specs.Refusal.{Refusal, refusal}
 use Rattle.program.specs.declared.Rule.{Rule}
@@ -31,15 +32,12 @@ use Rattle.run_meaning.specs.Admission.{Request, good_sizes, good_rooms, good_ti
 use Rattle.program.specs.Promises.Fitting.{Sized}
 use Rattle.run_meaning.specs.Promises.Fitting.{held_fields, bound_at, bounds_of, Near}
 use Rattle.run_indices.specs.declared.Survey.{Survey}
-use Rattle.run_indices.specs.Promises.Surveying.{Surveyed}
-use Rattle.run_admission.specs.declared.Refusal as declared
-use Rattle.run_admission.specs.declared.admitting.Admitted.{Admitted}
-use Rattle.run_admission.specs.Promises.Admitting.{AdmissionAsked, InFields, request_of, Lists, Admits}
+use Rattle.run_indices.specs.Promises.Surveying.{far_of, Surveyed}
+use Rattle.run_admission.specs.Promises.Admitting.{refusal_told, AdmissionAsked, InFields, request_of, Lists, Admitted, Admits}
+use Rattle.run_admission.proofs.RequestLaws.{first_refusal}
+use Rattle.run_admission.proofs.Results.{err_same, ok_same}
 
 -- ---- one refusal after the other
-
-abbrev first_refusal : Bool → Bool → Bool → ℕ
-first_refusal a b c = if not a then 20 else if not b then 21 else if not c then 22 else 0
 
 abbrev tried : Bool → Bool → Bool → Refusal → Refusal → Refusal
 tried a b c far out =
@@ -139,58 +137,62 @@ module _ {words : List ℕ} {rule : Rule} {sizes : List ℕ} (grid : List ℤ) {
   number_is : (p : Program) → Holds words rule p → n ≡ first_refusal (good_sizes p sizes) (good_rooms p (request_of sizes grid scratch marks start steps)) (good_times start steps)
   number_is p h = asked.says p h.dims (held_fields p h) (request_of sizes grid scratch marks start steps) refl refl refl refl refl refl
 
-  pub asked_refused : (n ≡ 0 → ⊥) → {r : Admitted} → (r.number ≡ n) × (r.place ≡ 0) → Admits words rule sizes grid scratch marks start steps r
-  asked_refused z {r} e =
-      let never : r.number ≡ 0 → ⊥ = λ k. z (sym e.0 ∙ k) in
-      record {
-        says = λ p h w. (λ i. refusal (e.0 i) (e.1 i)) ∙ tried_first (good_sizes p sizes) (good_rooms p (request_of sizes grid scratch marks start steps)) (good_times start steps) (too_far sizes (written_in p)) (out_of_field p.fields 0 grid) n (number_is p h) z ∙ sym (admission_is p (request_of sizes grid scratch marks start steps));
-        shaped = λ k. absurd (never k);
-        scratch_fits = λ k. absurd (never k);
-        marks_fit = λ k. absurd (never k);
-        start_is = λ k. absurd (never k);
-        steps_is = λ k. absurd (never k);
-        times = λ k. absurd (never k);
-        reaches = λ k. absurd (never k);
-        lists = λ k. absurd (never k);
-        near = λ k. absurd (never k);
-      }
+  pub asked_refused : {e : Refusal} → (n ≡ 0 → ⊥) → e ≡ refusal n 0 → Admits words rule sizes grid scratch marks start steps (Err e)
+  asked_refused {e} z q = record {
+    says = λ p h w. q ∙ tried_first (good_sizes p sizes) (good_rooms p (request_of sizes grid scratch marks start steps)) (good_times start steps) (too_far sizes (written_in p)) (out_of_field p.fields 0 grid) n (number_is p h) z ∙ sym (admission_is p (request_of sizes grid scratch marks start steps));
+    refused = λ x r k. z (sym (ap (λ (f : Refusal). f.number) q) ∙ ap (λ (f : Refusal). f.number) (err_same r) ∙ k);
+    admitted = λ x r. cc;
+  }
 
   module _ (none : n ≡ 0) {s : Survey} (surveyed : Surveyed words rule sizes s) where
-    far_number : (rs : List Relative) → Lists words rule rs → s.number ≡ (too_far sizes (written_of rs)).number
+    far_number : (rs : List Relative) → Lists words rule rs → (far_of s.far).number ≡ (too_far sizes (written_of rs)).number
     far_number rs w = ap (λ (x : Refusal). x.number) (surveyed.far rs w)
 
     rest_is : (p : Program) → Holds words rule p → admission p (request_of sizes grid scratch marks start steps) ≡ (if not (eqb (too_far sizes (written_in p)).number 0) then too_far sizes (written_in p) else out_of_field p.fields 0 grid)
     rest_is p h = admission_is p (request_of sizes grid scratch marks start steps) ∙ tried_rest (good_sizes p sizes) (good_rooms p (request_of sizes grid scratch marks start steps)) (good_times start steps) (too_far sizes (written_in p)) (out_of_field p.fields 0 grid) n (number_is p h) none
 
-    pub far_refused : (s.number ≡ 0 → ⊥) → {r : Admitted} → (r.number ≡ s.number) × (r.place ≡ s.place) → Admits words rule sizes grid scratch marks start steps r
+    pub far_refused : {place : ℕ} → s.far ≡ Some place → {e : Refusal} → e ≡ refusal 23 place → Admits words rule sizes grid scratch marks start steps (Err e)
     unfolding written_in
-    far_refused z {r} e =
-        let never : r.number ≡ 0 → ⊥ = λ k. z (sym e.0 ∙ k) in
-        record {
-          says = λ p h w. (λ i. refusal (e.0 i) (e.1 i)) ∙ surveyed.far (relatives_in p) w ∙ rest_far _ _ s.number (far_number (relatives_in p) w) z ∙ sym (rest_is p h);
-          shaped = λ k. absurd (never k);
-          scratch_fits = λ k. absurd (never k);
-          marks_fit = λ k. absurd (never k);
-          start_is = λ k. absurd (never k);
-          steps_is = λ k. absurd (never k);
-          times = λ k. absurd (never k);
-          reaches = λ k. absurd (never k);
-          lists = λ k. absurd (never k);
-          near = λ k. absurd (never k);
-        }
+    far_refused {place} f {e} q = record {
+      says = λ p h w.
+          q ∙ sym (ap far_of f) ∙ surveyed.far (relatives_in p) w ∙ rest_far _ _ (far_of s.far).number (far_number (relatives_in p) w) (λ k. absurd (omega (arith, k, ap (λ (o : Option ℕ). (far_of o).number) f)))
+          ∙ sym (rest_is p h);
+      refused = λ x r k. absurd (omega (arith, k, ap (λ (g : Refusal). g.number) q, ap (λ (g : Refusal). g.number) (err_same r)));
+      admitted = λ x r. cc;
+    }
 
-    pub admitted : s.number ≡ 0 → {f : declared.Refusal} → InFields words rule grid f → Admits words rule sizes grid scratch marks start steps (record { number = f.number; place = f.place; reach = s.reach })
-    unfolding box written_in places
-    admitted z {f} fields =
-        record {
-          says = λ p h w. fields.says ∙ ap (λ (rs : List Range). out_of_field rs 0 grid) (sym h.fields) ∙ rest_out _ _ s.number (far_number (relatives_in p) w) z ∙ sym (rest_is p h);
-          shaped = λ _. asked.shaped none;
-          scratch_fits = λ _. asked.scratch_fits none;
-          marks_fit = λ _. asked.marks_fit none;
-          start_is = λ _. asked.start_is none;
-          steps_is = λ _. asked.steps_is none;
-          times = λ _. asked.times none;
-          reaches = λ _ p h w. ap (λ (d : ℕ). widened (replicate d own_only) (written_in p)) h.dims ∙ sym (surveyed.bounds (relatives_in p) w);
-          lists = λ _ p h w. ap (λ (d : ℕ). add_relatives d (some (own_place d ∷ [])) (relatives_in p)) h.dims ∙ sym (surveyed.places (relatives_in p) w);
-          near = λ _ rs w. near_of sizes s.reach.bounds rule.dims (written_of rs) (asked.shaped none).dims (sym (far_number rs w) ∙ z) (surveyed.bounds rs w);
-        }
+    module _ (near : s.far ≡ None) {f : Result (Unit {0}) Refusal} (fields : InFields words rule grid f) where
+      clear : (far_of s.far).number ≡ 0
+      clear = ap (λ (o : Option ℕ). (far_of o).number) near
+
+      out_is : (p : Program) → Holds words rule p → Lists words rule (relatives_in p) → refusal_told f ≡ admission p (request_of sizes grid scratch marks start steps)
+      unfolding written_in
+      out_is p h w = fields.says ∙ ap (λ (rs : List Range). out_of_field rs 0 grid) (sym h.fields) ∙ rest_out _ _ (far_of s.far).number (far_number (relatives_in p) w) clear ∙ sym (rest_is p h)
+
+      pub field_refused : {e : Refusal} {r : Result Reach Refusal} → f ≡ Err e → r ≡ Err e → Admits words rule sizes grid scratch marks start steps r
+      field_refused {e} q i = record {
+        says = λ p h w. ap refusal_told i ∙ sym (ap refusal_told q) ∙ out_is p h w;
+        refused = λ x j k. absurd (omega (arith, k, fields.refused e q, ap (λ (g : Refusal). g.number) (err_same (sym i ∙ j))));
+        admitted = λ x j. cc;
+      }
+
+      pub admitted : (u : Unit {0}) → f ≡ Ok u → Admits words rule sizes grid scratch marks start steps (Ok s.reach)
+      unfolding box written_in places
+      admitted u q = record {
+        says = λ p h w. sym (ap refusal_told q) ∙ out_is p h w;
+        refused = λ x r. cc;
+        admitted = λ x r. subst (Admitted words rule sizes (length grid) scratch marks start steps) (ok_same r) whole;
+      }
+        where
+          whole : Admitted words rule sizes (length grid) scratch marks start steps s.reach
+          whole = record {
+            shaped = asked.shaped none;
+            scratch_fits = asked.scratch_fits none;
+            marks_fit = asked.marks_fit none;
+            start_is = asked.start_is none;
+            steps_is = asked.steps_is none;
+            times = asked.times none;
+            reaches = λ p h w. ap (λ (d : ℕ). widened (replicate d own_only) (written_in p)) h.dims ∙ sym (surveyed.bounds (relatives_in p) w);
+            lists = λ p h w. ap (λ (d : ℕ). add_relatives d (some (own_place d ∷ [])) (relatives_in p)) h.dims ∙ sym (surveyed.places (relatives_in p) w);
+            near = λ rs w. near_of sizes s.reach.bounds rule.dims (written_of rs) (asked.shaped none).dims (sym (far_number rs w) ∙ clear) (surveyed.bounds rs w);
+          }

@@ -17,10 +17,12 @@ use Rattle.program.specs.Syntax.{Range, no_range}
 use Rattle.cell_meaning.specs.Evaluation.{in_field}
 use Rattle.cell_meaning.specs.Promises.Stands.{range_in, ranges_in, rule_table}
 use Rattle.cell_meaning.specs.Links.{Table}
-use Rattle.program.specs.Refusal.{refusal}
+use Rattle.std.specs.Prelude.{Ok, Err}
+use Rattle.program.specs.Refusal.{Refusal, refusal}
 use Rattle.program.specs.declared.Rule.{Rule}
 use Rattle.run_meaning.specs.Admission.{out_of_field}
 use Rattle.run_admission.specs.Promises.Admitting.{InFields}
+use Rattle.run_admission.proofs.Results.{err_same}
 
 -- ---- the field's number
 
@@ -32,14 +34,12 @@ field_next which fields l n = sym (mod-eq_of_lt (omega arith))
 
 -- ---- one entry
 
-module _ (t : Table) (base n f : ℕ) (z : ℤ) where
-  pub fits_known : {a b : ℕ} {low high v : Value} {r : Bool} → f < n → a ≡ t.word2 (base + f) → low ≡ value (decode_of a)
-      → b ≡ t.word3 (base + f) → high ≡ value (decode_of b)
-      → v ≡ value z → r ≡ within low.n high.n v.n → r ≡ in_field (get_or (ranges_in t base n) f no_range) z
-  fits_known {low = low} {high = high} l ea el eb eh ev er =
-      er ∙ ap (λ (x : Value). within low.n high.n x.n) ev
-      ∙ ap₂ (λ (x y : Value). within x.n y.n z) (el ∙ ap (λ (i : ℕ). value (decode_of i)) ea) (eh ∙ ap (λ (i : ℕ). value (decode_of i)) eb)
-      ∙ sym (ap (λ (x : Range). in_field x z) (get_or_list_of (λ k. range_in t (base + k)) n f no_range l))
+module _ (t : Table) (base n f : ℕ) (v : Value) where
+  pub fits_known : {a b : ℕ} {low high : Value} {r : Bool} → f < n → a ≡ t.word2 (base + f) → low ≡ value (decode_of a) → b ≡ t.word3 (base + f) → high ≡ value (decode_of b)
+      → r ≡ within low.n high.n v.n → r ≡ in_field (get_or (ranges_in t base n) f no_range) v.n
+  fits_known l ea el eb eh er =
+      er ∙ ap₂ (λ (x y : Value). within x.n y.n v.n) (el ∙ ap (λ (i : ℕ). value (decode_of i)) ea) (eh ∙ ap (λ (i : ℕ). value (decode_of i)) eb)
+      ∙ sym (ap (λ (x : Range). in_field x v.n) (get_or_list_of (λ k. range_in t (base + k)) n f no_range l))
 
 module _ (fields : List Range) (grid : List ℤ) (e : ℕ) where
   past : e ≡ length grid → out_of_field fields e (drop e grid) ≡ refusal 0 0
@@ -78,8 +78,8 @@ module _ (words : List ℕ) (rule : Rule) (grid : List ℤ) where
     pub passed_field : 0 < rule.fields → which < rule.fields
     passed_field h = omega (arith, p.field, mod-lt e {m = rule.fields} h)
 
-    pub passed_end : length grid ≤ e → InFields words rule grid (record { number = 0; place = 0 })
-    passed_end l = record { says = sym (p.says ∙ past (rule_ranges words rule) grid e (omega (arith, p.most))) }
+    pub passed_end : length grid ≤ e → InFields words rule grid (Ok tt)
+    passed_end l = record { refused = λ x q. cc; says = sym (p.says ∙ past (rule_ranges words rule) grid e (omega (arith, p.most))) }
 
     module _ (l : e < length grid) {b : Bool} (eb : b ≡ in_field (get_or (rule_ranges words rule) which no_range) (get_or grid e (pos 0))) where
       here : b ≡ in_field (get_or (rule_ranges words rule) (e % length (rule_ranges words rule)) no_range) (get_or grid e (pos 0))
@@ -87,8 +87,8 @@ module _ (words : List ℕ) (rule : Rule) (grid : List ℤ) where
           eb ∙ ap (λ (f : ℕ). in_field (get_or (rule_ranges words rule) f no_range) (get_or grid e (pos 0)))
           (p.field ∙ ap (λ (n : ℕ). e % n) (sym ranges_length))
 
-      pub passed_out : b ≡ false → InFields words rule grid (record { number = 24; place = e })
-      passed_out h = record { says = sym (p.says ∙ out (rule_ranges words rule) grid e l here h) }
+      pub passed_out : b ≡ false → InFields words rule grid (Err (refusal 24 e))
+      passed_out h = record { refused = λ x q. sym (ap (λ (f : Refusal). f.number) (err_same q)); says = sym (p.says ∙ out (rule_ranges words rule) grid e l here h) }
 
       pub passed_on : {next : ℕ} → b ≡ true → next ≡ (which + 1) % rule.fields → Passed words rule grid next (e + 1)
       passed_on {next} h q =

@@ -5,29 +5,11 @@ ghost use Rattle.run_admission.specs.Promises.Admitting.{Admits};
 
 use crate::{out_of_field, refused_request};
 use program::Rule;
+use program::reply::{Reason, Refusal};
 use run_indices::surveying::survey;
-use run_meaning::{Reach, own_only};
+use run_meaning::Reach;
 
-// Whether a run is admitted: number 0, with the program's reach; else the refusal's number and place.
-#[derive(Clone, Copy)]
-pub struct Admitted {
-    pub number: u32,
-    pub place: u32,
-    pub reach: Reach,
-}
-
-// A refusal.
-fn turned_away(number: u32, place: u32) -> Admitted
-    ensures { (result.number ≡ number) × (result.place ≡ place) }
-{
-    Admitted {
-        number: number,
-        place: place,
-        reach: own_only(),
-    }
-}
-
-// The first of 20 to 24 that holds; or the run is admitted. `scratch` and `marks` are the lengths of these.
+// Whether a run is admitted, with the program's reach: else the first refusal of 20 to 24. `scratch` and `marks` are the lengths of these.
 pub fn admit(
     words: &[u32],
     rule: Rule,
@@ -37,23 +19,17 @@ pub fn admit(
     marks: usize,
     start: i64,
     steps: i64,
-) -> Admitted
+) -> Result<Reach, Refusal>
     requires { (Sized (length words.now) rule) × (0 < rule.fields) }
     ensures { Admits words.now rule sizes.now grid.now scratch marks start steps result }
 {
-    let asked = refused_request(rule, sizes, grid.len(), scratch, marks, start, steps);
-    if asked != 0 {
-        return turned_away(asked, 0);
+    if let Err(reason) = refused_request(rule, sizes, grid.len(), scratch, marks, start, steps) {
+        return Err(Refusal::new(reason, 0));
     }
     let indices = survey(words, rule, sizes);
-    if indices.number != 0 {
-        return turned_away(indices.number, indices.place);
+    if let Some(place) = indices.far {
+        return Err(Refusal::new(Reason::LargeIndex, place));
     }
-    let reach = indices.reach;
-    let entries = out_of_field(words, rule, grid);
-    Admitted {
-        number: entries.number,
-        place: entries.place,
-        reach: reach,
-    }
+    out_of_field(words, rule, grid)?;
+    Ok(indices.reach)
 }

@@ -9,22 +9,16 @@ ghost use Rattle.cell_meaning.specs.Evaluation.{in_field};
 ghost use Rattle.cell_meaning.specs.Promises.Stands.{rule_table, ranges_in};
 ghost use Rattle.run_meaning.specs.Admission.{good_times};
 ghost use Rattle.program.specs.Promises.Fitting.{Sized};
-ghost use Rattle.run_admission.specs.Promises.Admitting.{times_of, cells_of, rooms_of, AdmissionAsked, InFields};
+ghost use Rattle.run_admission.specs.Promises.Admitting.{times_of, cells_of, rooms_of, number_told, AdmissionAsked, InFields};
 
 mod admitting;
 
-pub use admitting::{Admitted, admit};
+pub use admitting::admit;
 use cell_operands::table::word_at;
 use program::Rule;
+use program::reply::{Reason, Refusal};
 use value::Value;
 use value::limits::{MOST_ALONG, MOST_CELLS};
-
-// A refusal's number and place; number 0: admitted.
-#[derive(Clone, Copy)]
-pub struct Refusal {
-    pub number: u32,
-    pub place: u32,
-}
 
 // The product with one size more before it; 0 where that size is not 1 to 4,096, or the product is over 1,048,576.
 #[tactic(auto, using(crate::proofs::RequestLaws::times_low, crate::proofs::RequestLaws::times_high, crate::proofs::RequestLaws::times_over, crate::proofs::RequestLaws::times_in))]
@@ -32,13 +26,10 @@ fn times(n: u32, total: u64) -> u64
     requires { total ≤ most_cells }
     ensures { result ≡ times_of n total }
 {
-    if n < 1 {
+    if n < 1 || MOST_ALONG < n {
         return 0;
     }
-    if MOST_ALONG < n {
-        return 0;
-    }
-    let more = (n as u64) * total;
+    let more = u64::from(n) * total;
     if MOST_CELLS < more {
         return 0;
     }
@@ -50,10 +41,8 @@ pub fn cells(sizes: &[u32]) -> u64
     requires { length sizes.now ≤ most_dims }
     ensures { result ≡ cells_of sizes.now }
 {
-    let mut total: u64 = 1;
-    let mut k = sizes.len();
-    while 0 < k {
-        k -= 1;
+    let mut total = 1;
+    for k in (0..sizes.len()).rev() {
         total = times(sizes[k], total);
         if total == 0 {
             return 0;
@@ -68,12 +57,7 @@ fn good_rooms(cells: u64, fields: u32, entries: usize, scratch: usize, marks: us
     requires { (cells ≤ most_cells) × (fields ≤ most_fields) }
     ensures { result ≡ rooms_of cells fields entries scratch marks }
 {
-    if entries as u64 == cells * (fields as u64) {
-        if scratch == entries {
-            return marks as u64 == cells;
-        }
-    }
-    false
+    entries as u64 == cells * u64::from(fields) && scratch == entries && marks as u64 == cells
 }
 
 // Whether start and steps are not negative, and their sum is at most 2147483647.
@@ -81,15 +65,10 @@ fn good_rooms(cells: u64, fields: u32, entries: usize, scratch: usize, marks: us
 pub fn good_times(start: i64, steps: i64) -> bool
     ensures { result ≡ good_times start steps }
 {
-    if 0 <= start {
-        if 0 <= steps {
-            return (start as u64) + (steps as u64) <= 2147483647;
-        }
-    }
-    false
+    0 <= start && 0 <= steps && (start as u64) + (steps as u64) <= 2147483647
 }
 
-// The first of 20 to 22 that holds, by the sizes, the lengths of grid, scratch and marks, and the times; else 0.
+// The first of 20 to 22 that holds, by the sizes, the lengths of grid, scratch and marks, and the times.
 pub fn refused_request(
     rule: Rule,
     sizes: &[u32],
@@ -98,26 +77,27 @@ pub fn refused_request(
     marks: usize,
     start: i64,
     steps: i64,
-) -> u32
+) -> Result<(), Reason>
     requires { (rule.dims ≤ most_dims) × (rule.fields ≤ most_fields) }
-    ensures { AdmissionAsked rule sizes.now entries scratch marks start steps result }
+    ensures { AdmissionAsked rule sizes.now entries scratch marks start steps (number_told result) }
 {
     if sizes.len() != rule.dims as usize {
-        return 20;
+        return Err(Reason::Shape);
     }
     let n = cells(sizes);
     if n == 0 {
-        return 20;
+        return Err(Reason::Shape);
     }
     if !good_rooms(n, rule.fields, entries, scratch, marks) {
-        return 21;
+        return Err(Reason::GridLength);
     }
     if !good_times(start, steps) {
-        return 22;
+        return Err(Reason::Times);
     }
-    0
+    Ok(())
 }
 
+// The value of an entry.
 fn value_at(grid: &[i32], e: usize) -> Value
     requires { e < length grid.now }
     ensures { result ≡ value (get_or grid.now e (pos 0)) }
@@ -125,17 +105,17 @@ fn value_at(grid: &[i32], e: usize) -> Value
     Value { n: grid[e] }
 }
 
-// Whether an entry is in the range of a field.
+// Whether a value is in the range of a field.
 #[tactic(auto, using(crate::proofs::EntryLaws::fits_known))]
-fn fits(words: &[u32], rule: Rule, which: usize, grid: &[i32], e: usize) -> bool
-    requires { (Sized (length words.now) rule) × (which < rule.fields) × (e < length grid.now) }
-    ensures { result ≡ in_field (get_or (ranges_in (rule_table words.now rule) rule.base rule.fields) which no_range) (get_or grid.now e (pos 0)) }
+fn fits(words: &[u32], rule: Rule, which: usize, entry: Value) -> bool
+    requires { (Sized (length words.now) rule) × (which < rule.fields) }
+    ensures { result ≡ in_field (get_or (ranges_in (rule_table words.now rule) rule.base rule.fields) which no_range) entry.n }
 {
     let n = rule.tokens;
     let at = rule.base + which;
     let low = Value::decode(word_at(words, n, 2, at));
     let high = Value::decode(word_at(words, n, 3, at));
-    value_at(grid, e).within(low, high)
+    entry.within(low, high)
 }
 
 // The number of the field after a field; the first is after the last.
@@ -150,27 +130,19 @@ fn next_field(which: usize, fields: usize) -> usize
     next
 }
 
-// The lowest entry of a grid that is out of its field's range: 24 at its number; else number 0 and place 0.
-#[tactic(auto, using(crate::proofs::EntryLaws::passed_out, crate::proofs::EntryLaws::passed_on, crate::proofs::EntryLaws::passed_end))]
-pub fn out_of_field(words: &[u32], rule: Rule, grid: &[i32]) -> Refusal
+// The lowest entry of a grid that is out of its field's range is refused with 24 at its number.
+#[tactic(auto, using(crate::proofs::EntryLaws::passed_start, crate::proofs::EntryLaws::passed_field, crate::proofs::EntryLaws::passed_out, crate::proofs::EntryLaws::passed_on, crate::proofs::EntryLaws::passed_end))]
+pub fn out_of_field(words: &[u32], rule: Rule, grid: &[i32]) -> Result<(), Refusal>
     requires { (Sized (length words.now) rule) × (0 < rule.fields) × (length grid.now ≤ 33554432) }
     ensures { InFields words.now rule grid.now result }
 {
     let fields = rule.fields as usize;
     let mut which = 0;
-    let mut e = 0;
-    while e < grid.len() {
-        if !fits(words, rule, which, grid, e) {
-            return Refusal {
-                number: 24,
-                place: e as u32,
-            };
+    for e in 0..grid.len() {
+        if !fits(words, rule, which, value_at(grid, e)) {
+            return Err(Refusal::new(Reason::FieldRange, e as u32));
         }
         which = next_field(which, fields);
-        e += 1;
     }
-    Refusal {
-        number: 0,
-        place: 0,
-    }
+    Ok(())
 }

@@ -3,7 +3,7 @@ use Prim.Native.Nat.{ℕ, suc, ◌+◌, ◌-◌, ◌*◌, ◌<◌, ◌≤◌}
 use native.Mathlib.Omega.{arith}
 use mathlib.Core.Path.{◌≡◌, refl, sym, ap, ap₂, ◌∙◌}
 use mathlib.Core.Bool.{Bool, true, false, ◌&&◌}
-use mathlib.Core.List.{List, [], ◌∷◌, ◌++◌, append-nil}
+use mathlib.Core.List.{List, [], ◌∷◌, append-nil}
 use mathlib.Core.Option.{Option, none, some}
 use lib.Dec.{eqb, ltb}
 use lib.IntN.{ℤ, pos}
@@ -12,8 +12,7 @@ use borrow.Author.Tests.{ltb-true, ltb-false}
 use Rattle.value.specs.Limits.{most_places}
 use Rattle.std.specs.Prelude.{if◌then◌else◌}
 use Rattle.value.specs.Worked.{decode_of}
-use Rattle.automaton.specs.Listed.{list_of}
-use Rattle.automaton.specs.Promises.ListedLaws.{length_list_of, get_or_list_of, list_of_ext}
+use Rattle.automaton.specs.Promises.ListedLaws.{length_list_of, get_or_list_of}
 use Rattle.program.specs.Syntax.{Range, range, no_range, Index, fixed, moving}
 use Rattle.cell_meaning.specs.Evaluation.{entry, offset}
 use Rattle.cell_meaning.specs.Written.{Relative, values_of, place_of, written_in_index, written_of}
@@ -22,14 +21,13 @@ use Rattle.cell_meaning.specs.Links.{Table}
 use Rattle.cell_meaning.specs.Places.{used_ranges, choice_count, vectors_of, add_places, add_relative, add_relatives}
 use Rattle.run_meaning.specs.declared.Bounds.{Bounds}
 use Rattle.run_meaning.specs.declared.Reach.{Reach}
-use Rattle.program.specs.Refusal.{refusal}
 use Rattle.program.specs.declared.Rule.{Rule}
 use Rattle.run_meaning.specs.Promises.Fitting.{bounds_of, places_of}
 use Rattle.run_places.specs.Promises.Vectors.{vector_values, ends, loops_of, index_places, relative_at, IndexReach}
 use Rattle.run_places.specs.Promises.Widening.{joined, Widens}
 use Rattle.run_indices.specs.declared.Count.{Count}
 use Rattle.run_indices.specs.declared.Survey.{Survey}
-use Rattle.run_indices.specs.Promises.Surveying.{Tally, tallied, tally, tally_of, found, survey_of, Counts, Opened}
+use Rattle.run_indices.specs.Promises.Surveying.{Tally, tallied, tally, far_of, tally_of, found, survey_of, Counts}
 use Rattle.run_indices.proofs.CountingLaws.{counts_tallied}
 
 -- ---- the values of an element
@@ -58,17 +56,6 @@ place_here t at = go (eqb (t.kind at) 1 && eqb (t.word2 at) 5)
     go : (b : Bool) → place_of (if b then moving (t.place at) (t.word3 at) else fixed (t.place at) (decode_of (t.word3 at))) ≡ t.place at
     go true = refl
     go false = refl
-
--- ---- the open loops, with one more
-
-pub loops_more : (lows highs : List ℕ) (depth low high : ℕ) {lows' highs' : List ℕ} → Opened lows depth low lows' → Opened highs depth high highs'
-    → loops_of lows' highs' (depth + 1) ≡ loops_of lows highs depth ++ (ends low high ∷ [])
-unfolding list_of
-loops_more lows highs depth low high {lows'} {highs'} a b =
-    let e : depth + 1 ≡ suc depth = omega arith in
-    ap (loops_of lows' highs') e
-    ∙ ap₂ (λ (x : List Range) (y : Range). x ++ (y ∷ [])) (list_of_ext _ _ depth (λ k l. ap₂ ends (a.others k (λ q. omega arith)) (b.others k (λ q. omega arith))))
-    (ap₂ ends a.here b.here)
 
 -- ---- one element after the other
 
@@ -119,13 +106,13 @@ joined_relative dims o r = by (ltb most_places (choice_count (used_ranges r.loop
     by false = refl
 
 -- its elements are counted, and its places added
-pub index_found : (words : List ℕ) (rule : Rule) (sizes : List ℕ) (loops : List Range) (at : ℕ) (s : Survey) {c : Count} {index wider : Reach}
-    → tally_of c rule.dims ≡ tally sizes (tally_of (record { number = s.number; place = s.place; bounds = s.reach.bounds }) rule.dims) (written_in_index loops 0 (indices_in (rule_table words rule) rule.dims at))
+pub index_found : (words : List ℕ) (rule : Rule) (sizes : List ℕ) (loops : List Range) (at : ℕ) (s : Survey) (c : Count) {index wider : Reach}
+    → tally_of c rule.dims ≡ tally sizes (tally_of (record { far = s.far; bounds = s.reach.bounds }) rule.dims) (written_in_index loops 0 (indices_in (rule_table words rule) rule.dims at))
     → IndexReach words rule loops at c.bounds index → Widens s.reach index rule.dims wider
-    → survey_of (record { number = c.number; place = c.place; reach = wider }) rule.dims ≡ found sizes rule.dims (survey_of s rule.dims) (relative_at words rule loops at ∷ [])
+    → survey_of (record { far = c.far; reach = wider }) rule.dims ≡ found sizes rule.dims (survey_of s rule.dims) (relative_at words rule loops at ∷ [])
 unfolding written_of add_relatives
-index_found words rule sizes loops at s {c} {index} {wider} e i w =
+index_found words rule sizes loops at s c {index} {wider} e i w =
     ap₂ (λ (t : Tally) (o : Option (List (List ℤ))). record { tally = t; places = o })
-    (ap (λ (b : Bounds). record { far = refusal c.number c.place; bounds = bounds_of b rule.dims }) (w.bounded ∙ i.bounded) ∙ e
+    (ap (λ (b : Bounds). record { far = far_of c.far; bounds = bounds_of b rule.dims }) (w.bounded ∙ i.bounded) ∙ e
     ∙ ap (tally sizes (survey_of s rule.dims).tally) (sym (append-nil (written_in_index loops 0 (indices_in (rule_table words rule) rule.dims at)))))
     (w.places ∙ ap (joined (places_of s.reach rule.dims)) i.places ∙ joined_relative rule.dims (places_of s.reach rule.dims) (relative_at words rule loops at))

@@ -11,10 +11,8 @@ use lib.IntN.{ℤ}
 use lib.ListN.{length, get_or, set, replicate}
 use borrow.Author.Tests.{lt-ltb, le-ltb, ltb-true, eq-eqb, ne_eqb, eqb-true}
 use Rattle.value.specs.Limits.{most_open}
-use Rattle.std.specs.Prelude.{if◌then◌else◌}
+use Rattle.std.specs.Prelude.{None, if◌then◌else◌}
 use Rattle.value.proofs.Theorems.Laws.{never, and_both}
-use Rattle.automaton.specs.Listed.{list_of}
-use Rattle.automaton.specs.Promises.ListedLaws.{length_list_of}
 use Rattle.automaton.specs.Shape.{Bound}
 use Rattle.token.specs.Kind.{keyword}
 use Rattle.program.specs.Syntax.{Range}
@@ -30,10 +28,9 @@ use Rattle.run_meaning.specs.Admission.{too_far}
 use Rattle.run_meaning.specs.Reach.{own_only, widen, widened}
 use Rattle.run_meaning.specs.declared.Reach.{Reach}
 use Rattle.run_meaning.specs.Promises.Fitting.{OwnOnly}
-use Rattle.run_places.specs.Promises.Vectors.{ends, loops_of, relative_at}
+use Rattle.run_places.specs.Promises.Vectors.{ends, relative_at}
 use Rattle.run_indices.specs.declared.Survey.{Survey}
-use Rattle.run_indices.specs.Promises.Surveying.{Tally, goes_past, tallied, tally, Found, found, survey_of, listed_places, Opened, CountsAt, Surveyed}
-use Rattle.run_indices.proofs.ElementLaws.{loops_more}
+use Rattle.run_indices.specs.Promises.Surveying.{Tally, goes_past, tallied, tally, Found, found, survey_of, listed_places, CountsAt, Surveyed}
 
 -- ---- what stands at a position
 
@@ -202,15 +199,10 @@ found_append sizes dims f rs qs =
     ap₂ (λ (t : Tally) (o : Option (List (List ℤ))). record { tally = t; places = o })
     (ap (tally sizes f.tally) (written_of_append rs qs) ∙ tally_append sizes f.tally (written_of rs) (written_of qs)) (relatives_append dims f.places rs qs)
 
--- the ranges of the open loops, and with the loop at a position
-pub loops_length : (lows highs : List ℕ) (depth : ℕ) → length (loops_of lows highs depth) ≡ depth
-loops_length lows highs depth = length_list_of (λ k. ends (get_or lows k 0) (get_or highs k 0)) depth
-
-pub loops_opened : (words : List ℕ) (rule : Rule) (lows highs : List ℕ) (depth at : ℕ) {low high : ℕ} {lows' highs' : List ℕ} → low ≡ word_in words rule.tokens 2 (at + 1)
-    → high ≡ word_in words rule.tokens 3 (at + 1) → Opened lows depth low lows' → Opened highs depth high highs'
-    → loops_of lows' highs' (depth + 1) ≡ loops_of lows highs depth ++ (range_in (rule_table words rule) (at + 1) ∷ [])
-loops_opened words rule lows highs depth at {low} {high} el eh a b =
-    loops_more lows highs depth low high a b ∙ ap₂ (λ (x y : ℕ). loops_of lows highs depth ++ (ends x y ∷ [])) el eh
+-- the open loops with the loop at a position
+pub loops_opened : (words : List ℕ) (rule : Rule) (loops : List Range) (at : ℕ) {low high : ℕ} {more : List Range} → low ≡ word_in words rule.tokens 2 (at + 1)
+    → high ≡ word_in words rule.tokens 3 (at + 1) → more ≡ loops ++ (ends low high ∷ []) → more ≡ loops ++ (range_in (rule_table words rule) (at + 1) ∷ [])
+loops_opened words rule loops at el eh e = e ∙ ap₂ (λ (x y : ℕ). loops ++ (ends x y ∷ [])) el eh
 
 module _ (words : List ℕ) (rule : Rule) where
   abbrev tb : Table
@@ -302,11 +294,10 @@ tally_all sizes bs (w ∷ ws) = by (goes_past (get_or sizes w.dim 0) w.values) (
     by true h = tally_far sizes w.place _ ws
     by false h = h
 
-pub survey_done : (words : List ℕ) (rule : Rule) (sizes lows highs : List ℕ) {own : Reach} → OwnOnly own → {r : Survey}
-    → survey_of r rule.dims ≡ found sizes rule.dims (survey_of (record { number = 0; place = 0; reach = own }) rule.dims) (listed_places words rule (loops_of lows highs 0) rule.body rule.tokens)
+pub survey_done : (words : List ℕ) (rule : Rule) (sizes : List ℕ) {loops : List Range} → loops ≡ [] → {own : Reach} → OwnOnly own → {r : Survey}
+    → survey_of r rule.dims ≡ found sizes rule.dims (survey_of (record { far = None; reach = own }) rule.dims) (listed_places words rule loops rule.body rule.tokens)
     → Surveyed words rule sizes r
-unfolding list_of
-survey_done words rule sizes lows highs {own} o {r} e =
+survey_done words rule sizes {loops} none {own} o {r} e =
     record { far = λ rs w. ap (λ (x : Found). x.tally.far) (whole rs w); bounds = λ rs w. ap (λ (x : Found). x.tally.bounds) (whole rs w); places = λ rs w. ap (λ (x : Found). x.places) (whole rs w) }
   where
     whole : (rs : List Relative) → Writes (rule_table words rule) [] rule.body rule.tokens rs
@@ -320,7 +311,7 @@ survey_done words rule sizes lows highs {own} o {r} e =
         let q : listed_places words rule [] rule.body n ≡ rs =
         enough words n rule.dims (suc n) f [] rule.body n (le_refl n) (omega arith) (omega arith) ∙ w.says f (omega arith)
         in
-        e ∙ ap (found sizes rule.dims _) q
+        e ∙ ap (λ (ls : List Range). found sizes rule.dims (survey_of (record { far = None; reach = own }) rule.dims) (listed_places words rule ls rule.body n)) none ∙ ap (found sizes rule.dims _) q
         ∙ ap₂ (λ (t : Tally) (ps : Option (List (List ℤ))). record { tally = t; places = add_relatives rule.dims ps rs })
         (ap (λ (bs : List Bound). tally sizes (record { far = refusal 0 0; bounds = bs }) (written_of rs)) (o.bounds rule.dims) ∙ tally_all sizes (replicate rule.dims own_only) (written_of rs))
         (o.places rule.dims)

@@ -8,18 +8,17 @@ mod walk;
 
 use run_meaning::{Bounds, Reach};
 
-// The elements counted so far: the first that is larger in size than its dimension, with 23 at its place, number 0 for none; and the box.
-#[derive(Clone, Copy)]
+// The elements counted so far: the place of the first that is larger in size than its dimension, and the box.
+#[derive(Clone, Copy, Debug, PartialEq, Eq)]
 pub struct Count {
-    pub number: u32,
-    pub place: u32,
+    pub far: Option<u32>,
     pub bounds: Bounds,
 }
 
-// The first written index that is larger in size than its dimension is refused, with 23 at its place; number 0: there is none. And the reach.
+// The place of the first written index that is larger in size than its dimension; and the reach.
+// Kept: only Clone and Copy, as `Reach`, which it holds.
 #[derive(Clone, Copy)]
 pub struct Survey {
-    pub number: u32,
-    pub place: u32,
+    pub far: Option<u32>,
     pub reach: Reach,
 }

@@ -7,7 +7,7 @@ use crate::Survey;
 use crate::walk::part;
 use program::Rule;
 use run_meaning::own_only;
-use value::limits::MOST_OPEN;
+use run_places::loops::Loops;
 
 // The survey of a program, in one walk over its statements.
 #[tactic(auto, using(crate::proofs::WalkLaws::survey_done))]
@@ -15,20 +15,15 @@ pub fn survey(words: &[u32], rule: Rule, sizes: &[u32]) -> Survey
     requires { Sized (length words.now) rule × (length sizes.now ≡ rule.dims) }
     ensures { Surveyed words.now rule sizes.now result }
 {
-    let none: [u32; MOST_OPEN] = [0; MOST_OPEN];
-    let reach = own_only();
     let start = Survey {
-        number: 0,
-        place: 0,
-        reach: reach,
+        far: None,
+        reach: own_only(),
     };
     part(
         words,
         rule,
         sizes,
-        &none,
-        &none,
-        0,
+        &Loops::none(),
         rule.body,
         rule.tokens,
         start,

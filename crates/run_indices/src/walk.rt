@@ -1,63 +1,52 @@
 // The walk over the tokens.
-ghost use Rattle.std.specs.Prelude.{◌≡◌, ◌&&◌, [], ◌∷◌, ◌+◌, ◌*◌, ◌<◌, ◌≤◌, eqb, ltb, length};
-ghost use Rattle.value.specs.Limits.{most_tokens, most_open};
+ghost use Rattle.std.specs.Prelude.{◌≡◌, ◌&&◌, [], ◌∷◌, ◌*◌, ◌<◌, ◌≤◌, eqb, ltb, length};
+ghost use Rattle.value.specs.Limits.{most_tokens};
 ghost use Rattle.token.specs.Kind.{keyword};
 ghost use Rattle.cell_meaning.specs.Written.{written_in_index};
 ghost use Rattle.cell_meaning.specs.Promises.Stands.{rule_table, indices_in};
 ghost use Rattle.cell_meaning.specs.Links.{word_in, table_of};
 ghost use Rattle.cell_meaning.specs.Promises.Listing.{is_index, behind};
-ghost use Rattle.run_indices.specs.Promises.Surveying.{tally, tally_of, found, survey_of, Walks, listed_places, Opened, CountsAt};
-ghost use Rattle.run_places.specs.Promises.Vectors.{loops_of, relative_at};
+ghost use Rattle.run_indices.specs.Promises.Surveying.{tally, tally_of, found, survey_of, Walks, listed_places, CountsAt};
+ghost use Rattle.run_places.specs.Promises.Vectors.{open_loops, relative_at};
 
 use crate::counting::counted;
 use crate::{Count, Survey};
 use cell_operands::neighbour::element_after;
 use cell_operands::table::{link_at, place_at, word_at};
 use program::Rule;
+use run_places::loops::Loops;
 use run_places::vectors::{element_word, index_reach};
-use run_places::widening::widened_in_place;
+use run_places::widening::widen;
 use token::kind;
 use value::limits::MOST_OPEN;
 
 // The elements of a relative index, from a position on.
-fn elements(
-    words: &[u32],
-    rule: Rule,
-    sizes: &[u32],
-    lows: &[u32; MOST_OPEN],
-    highs: &[u32; MOST_OPEN],
-    depth: usize,
-    at: usize,
-    s: Count,
-) -> Count
-    requires { Walks (length words.now) rule (length sizes.now) depth × (at ≤ most_tokens) }
-    ensures { tally_of result rule.dims ≡ tally sizes.now (tally_of s rule.dims) (written_in_index (loops_of lows.now highs.now depth) 0 (indices_in (rule_table words.now rule) rule.dims at)) }
+fn elements(words: &[u32], rule: Rule, sizes: &[u32], loops: &Loops, at: usize, s: Count) -> Count
+    requires { Walks (length words.now) rule (length sizes.now) × (at ≤ most_tokens) }
+    ensures { tally_of result rule.dims ≡ tally sizes.now (tally_of s rule.dims) (written_in_index (open_loops loops.now) 0 (indices_in (rule_table words.now rule) rule.dims at)) }
 {
     let n = rule.tokens;
     let dims = rule.dims as usize;
+    let lows = loops.lows();
+    let highs = loops.highs();
     let mut now = s;
     let mut here = at;
-    let mut k = 0;
-    while k < dims {
-        let low = element_word(words, n, dims, lows, depth, here);
-        let high = element_word(words, n, dims, highs, depth, here);
+    for k in 0..dims {
+        let low = element_word(words, n, dims, lows, here);
+        let high = element_word(words, n, dims, highs, here);
         now = counted(now, sizes[k], place_at(words, n, here), k, low, high);
         here = element_after(words, n, dims, here);
-        k += 1;
     }
     now
 }
 
 // Whether a relative index begins at a position.
-#[tactic(auto, using(crate::proofs::WalkLaws::index_here, crate::proofs::WalkLaws::index_not))]
+#[tactic(auto, unfolding(cell_meaning::specs::Promises::Listing::is_index))]
 fn is_index(words: &[u32], n: usize, dims: usize, at: usize) -> bool
     requires { (4 * n ≤ length words.now) × (n ≤ most_tokens) }
     ensures { result ≡ is_index (table_of words.now n dims) at }
 {
-    if word_at(words, n, 0, at) == kind::BRACKET {
-        return 0 < word_at(words, n, 3, at);
-    }
-    false
+    word_at(words, n, 0, at) == kind::BRACKET && 0 < word_at(words, n, 3, at)
 }
 
 // The position after the construct at a position.
@@ -67,13 +56,7 @@ fn behind(words: &[u32], n: usize, dims: usize, at: usize) -> usize
     ensures { result ≡ behind (table_of words.now n dims) at }
 {
     let kind = word_at(words, n, 0, at);
-    if kind == kind::FORALL_WORD {
-        return link_at(words, n, 3, at);
-    }
-    if kind == kind::CONST_WORD {
-        return link_at(words, n, 3, at);
-    }
-    if is_index(words, n, dims, at) {
+    if kind == kind::FORALL_WORD || kind == kind::CONST_WORD || is_index(words, n, dims, at) {
         return link_at(words, n, 3, at);
     }
     at + 1
@@ -84,20 +67,7 @@ fn opens(words: &[u32], n: usize, depth: usize, at: usize) -> bool
     requires { (4 * n ≤ length words.now) × (n ≤ most_tokens) }
     ensures { result ≡ (eqb (word_in words.now n 0 at) keyword.forall && ltb depth 16) }
 {
-    if word_at(words, n, 0, at) == kind::FORALL_WORD {
-        return depth < MOST_OPEN;
-    }
-    false
-}
-
-// The words of the open loops' lowest or highest values, with one for one loop more.
-fn opened(words: [u32; MOST_OPEN], depth: usize, word: u32) -> [u32; MOST_OPEN]
-    requires { depth < most_open }
-    ensures { Opened words depth word result }
-{
-    let mut more = words;
-    more[depth] = word;
-    more
+    word_at(words, n, 0, at) == kind::FORALL_WORD && depth < MOST_OPEN
 }
 
 // The relative index whose elements begin at a position: they are counted, and its places are added to the reach.
@@ -105,51 +75,36 @@ fn with_index(
     words: &[u32],
     rule: Rule,
     sizes: &[u32],
-    lows: &[u32; MOST_OPEN],
-    highs: &[u32; MOST_OPEN],
-    depth: usize,
+    loops: &Loops,
     at: usize,
     s: Survey,
 ) -> Survey
-    requires { Walks (length words.now) rule (length sizes.now) depth × (at ≤ most_tokens) }
-    ensures { survey_of result rule.dims ≡ found sizes.now rule.dims (survey_of s rule.dims) (relative_at words.now rule (loops_of lows.now highs.now depth) at ∷ []) }
+    requires { Walks (length words.now) rule (length sizes.now) × (at ≤ most_tokens) }
+    ensures { survey_of result rule.dims ≡ found sizes.now rule.dims (survey_of s rule.dims) (relative_at words.now rule (open_loops loops.now) at ∷ []) }
 {
-    let reach = s.reach;
-    let old = reach.bounds;
     let start = Count {
-        number: s.number,
-        place: s.place,
-        bounds: old,
+        far: s.far,
+        bounds: s.reach.bounds,
     };
-    let c = elements(words, rule, sizes, lows, highs, depth, at, start);
-    let bounds = c.bounds;
-    let index = index_reach(words, rule, lows, highs, depth, at, bounds);
-    let wider = widened_in_place(reach, index, rule.dims as usize);
+    let count = elements(words, rule, sizes, loops, at, start);
+    let index = index_reach(words, rule, loops, at, count.bounds);
+    let mut reach = s.reach;
+    widen(&mut reach, &index, rule.dims as usize);
     Survey {
-        number: c.number,
-        place: c.place,
-        reach: wider,
+        far: count.far,
+        reach,
     }
 }
 
 // What is written at a position where no loop opens.
 #[tactic(auto, using(crate::proofs::WalkLaws::counts_index, crate::proofs::WalkLaws::counts_flat, crate::proofs::WalkLaws::counts_none))]
-fn index_at(
-    words: &[u32],
-    rule: Rule,
-    sizes: &[u32],
-    lows: &[u32; MOST_OPEN],
-    highs: &[u32; MOST_OPEN],
-    depth: usize,
-    at: usize,
-    s: Survey,
-) -> Survey
-    requires { Walks (length words.now) rule (length sizes.now) depth × (at < rule.tokens) }
-    ensures { CountsAt words.now rule sizes.now (loops_of lows.now highs.now depth) at s result }
+fn index_at(words: &[u32], rule: Rule, sizes: &[u32], loops: &Loops, at: usize, s: Survey) -> Survey
+    requires { Walks (length words.now) rule (length sizes.now) × (at < rule.tokens) }
+    ensures { CountsAt words.now rule sizes.now (open_loops loops.now) at s result }
 {
     if is_index(words, rule.tokens, rule.dims as usize, at) {
         if 0 < rule.dims {
-            return with_index(words, rule, sizes, lows, highs, depth, at + 1, s);
+            return with_index(words, rule, sizes, loops, at + 1, s);
         }
     }
     s
@@ -160,39 +115,26 @@ pub fn part(
     words: &[u32],
     rule: Rule,
     sizes: &[u32],
-    lows: &[u32; MOST_OPEN],
-    highs: &[u32; MOST_OPEN],
-    depth: usize,
+    loops: &Loops,
     from: usize,
     to: usize,
     s: Survey,
 ) -> Survey
-    requires { Walks (length words.now) rule (length sizes.now) depth × (to ≤ rule.tokens) }
-    ensures { survey_of result rule.dims ≡ found sizes.now rule.dims (survey_of s rule.dims) (listed_places words.now rule (loops_of lows.now highs.now depth) from to) }
+    requires { Walks (length words.now) rule (length sizes.now) × (to ≤ rule.tokens) }
+    ensures { survey_of result rule.dims ≡ found sizes.now rule.dims (survey_of s rule.dims) (listed_places words.now rule (open_loops loops.now) from to) }
 {
     let n = rule.tokens;
     let dims = rule.dims as usize;
     let mut now = s;
     let mut at = from;
     while at < to {
-        if opens(words, n, depth, at) {
-            let more_lows = opened(*lows, depth, word_at(words, n, 2, at + 1));
-            let more_highs = opened(*highs, depth, word_at(words, n, 3, at + 1));
-            let inner = link_at(words, n, 2, at);
+        if opens(words, n, loops.depth, at) {
+            let inner = loops.opened(word_at(words, n, 2, at + 1), word_at(words, n, 3, at + 1));
+            let first = link_at(words, n, 2, at);
             let past = link_at(words, n, 3, at);
-            now = part(
-                words,
-                rule,
-                sizes,
-                &more_lows,
-                &more_highs,
-                depth + 1,
-                inner,
-                past,
-                now,
-            );
-        } else if is_index(words, n, dims, at) {
-            now = index_at(words, rule, sizes, lows, highs, depth, at, now);
+            now = part(words, rule, sizes, &inner, first, past, now);
+        } else {
+            now = index_at(words, rule, sizes, loops, at, now);
         }
         at = behind(words, n, dims, at);
     }

@@ -1,44 +1,60 @@
 -- The exchange of the marked cells.
-use Prim.Native.Nat.{ℕ, ◌+◌, ◌*◌, ◌≤◌, ◌<◌}
+use Prim.Native.Nat.{ℕ, ◌+◌, ◌-◌, ◌*◌, ◌≤◌, ◌<◌}
 use native.Mathlib.Omega.{arith}
 use native.Mathlib.Nat.{mul-le-mul, mul-le-mul_right}
 use mathlib.Core.Path.{◌≡◌, refl, sym, ap, ◌∙◌}
 use mathlib.Core.Logic.{◌⊎◌, inl, inr}
 use mathlib.Core.Bool.{true, cond}
-use mathlib.Core.List.{List}
-use lib.ListN.{length, get_or, set, length-set}
-use lib.Seq.{get_or-set_same, get_or-set_other}
+use mathlib.Core.List.{List, ◌++◌}
+use lib.ListN.{length, get_or, take, drop, length-append, length-drop}
+use lib.Seq.{length-take-le, get_or-take, get_or-drop}
 use lib.IntN.{ℤ, pos}
-use Rattle.automaton.specs.Promises.ListedLaws.{last_or_below}
 use Rattle.automaton.specs.Step.{marked}
 use Rattle.automaton.specs.Grid.{cell_of}
 use Rattle.run_marked_cells.specs.Promises.Marked.{NextMarked, Swapping, Swapped, Exchanging, Exchanged}
 use Rattle.run_marked_cells.proofs.ScanLaws.{below_or}
-use Rattle.run_marked_cells.proofs.PartLaws.{entry_before, cell_same}
+use Rattle.run_marked_cells.proofs.PartLaws.{entry_before, cell_same, pasted, paste_below, paste_inside, paste_above}
 
 -- ---- entries
 
-pub swap_start : (a b : List ℤ) (from : ℕ) → Swapped a b a from from
-swap_start a b from = record { size = refl; inside = λ e l m. absurd (omega arith); below = λ e l. refl; above = λ e l. refl }
+-- the same is asked the other way round
+pub turned : {a b from end : ℕ} → Swapping a b from end → Swapping b a from end
+turned s = record { alike = sym s.alike; order = s.order; within = omega (arith, s.alike, s.within) }
 
--- one more entry is exchanged
-pub swap_more : (a b a' b' : List ℤ) (from i : ℕ) (v : ℤ) → Swapped a b a' from i → Swapped b a b' from i → from ≤ i → i < length a → v ≡ get_or b' i (pos 0)
-    → Swapped a b (set a' i v) from (i + 1)
-swap_more a b a' b' from i v h h' o l q = record {
-  size = length-set a' i v ∙ h.size;
-  inside = λ e m n. in_part e m (last_or_below (omega arith));
-  below = λ e m. get_or-set_other a' i e v (pos 0) (λ r. absurd (let w = r in omega arith)) ∙ h.below e m;
-  above = λ e m. get_or-set_other a' i e v (pos 0) (λ r. absurd (let w = r in omega arith)) ∙ h.above e (omega arith);
+-- a part of a, with that of b put in its place
+pub swap_part : (a b v : List ℤ) (from end : ℕ) → Swapping (length a) (length b) from end → v ≡ take (end - from) (drop from b)
+    → Swapped a b (take from a ++ (v ++ drop (end - from) (drop from a))) from end
+swap_part a b v from end s put = record {
+  size = rw (length-append, length-append, length-take-le from a (omega arith), size, length-drop, length-drop) (omega arith);
+  inside = λ e l m. ap (λ (n : ℕ). get_or (pasted from k a v room size) n (pos 0)) (there e l) ∙ paste_inside from k a v room size (e - from) (omega arith) ∙ put_at e l m;
+  below = paste_below from k a v room size;
+  above = λ e l. paste_above from k a v room size e (omega arith);
 }
   where
-    in_part : (e : ℕ) → from ≤ e → (e ≡ i) ⊎ (e < i) → get_or (set a' i v) e (pos 0) ≡ get_or b e (pos 0)
-    in_part e m (inl r) =
-        ap (λ (x : ℕ). get_or (set a' i v) x (pos 0)) r ∙ get_or-set_same a' i v (pos 0) (let s = h.size in omega arith)
-        ∙ q ∙ h'.above i (omega arith) ∙ ap (λ (x : ℕ). get_or b x (pos 0)) (sym r)
-    in_part e m (inr r) = get_or-set_other a' i e v (pos 0) (λ w. absurd (let u = w in omega arith)) ∙ h.inside e m r
+    k : ℕ
+    k = end - from
 
-pub swap_end : (a b a' : List ℤ) (from i end : ℕ) → Swapped a b a' from i → i ≤ end → end ≤ i → Swapped a b a' from end
-swap_end a b a' from i end h l m = let e : i ≡ end = omega arith in rw e at h
+    order : from ≤ end
+    order = s.order
+
+    within : end ≤ length a
+    within = s.within
+
+    size : length v ≡ k
+    size = ap length put ∙ length-take-le k (drop from b) (let e = s.alike in rw length-drop (omega arith))
+
+    room : from + k ≤ length a
+    room = omega arith
+
+    there : (e : ℕ) → from ≤ e → e ≡ from + (e - from)
+    there e l = omega arith
+
+    put_at : (e : ℕ) → from ≤ e → e < end → get_or v (e - from) (pos 0) ≡ get_or b e (pos 0)
+    put_at e l m =
+        ap (λ (xs : List ℤ). get_or xs (e - from) (pos 0)) put
+        ∙ get_or-take k (drop from b) (e - from) (pos 0) (omega arith)
+        ∙ get_or-drop from b (e - from) (pos 0)
+        ∙ ap (λ (n : ℕ). get_or b n (pos 0)) (sym (there e l))
 
 -- ---- cells
 

@@ -1,6 +1,6 @@
 #![tactic(auto)]
 
-// Going over the marked cells of a grid: the next one, its coordinates, the exchange of their fields, and marks and numbers set throughout.
+// Going over the marked cells of a grid: the next one, its coordinates, the exchange of their fields, and marks made 1.
 
 pub mod exchange;
 pub mod points;

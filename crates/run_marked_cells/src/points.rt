@@ -10,12 +10,9 @@ pub fn set_point(sizes: &[u32], cell: u32, point: &mut [u32])
     ensures { PointSet sizes.now cell point.new }
 {
     let mut rest = cell;
-    let mut k = sizes.len();
-    while 0 < k {
-        k -= 1;
-        let size = sizes[k];
-        point[k] = rest % size;
-        rest = rest / size;
+    for k in (0..sizes.len()).rev() {
+        point[k] = rest % sizes[k];
+        rest /= sizes[k];
     }
 }
 
@@ -24,12 +21,9 @@ fn advance(sizes: &[u32], point: &mut [u32])
     requires { Inside sizes.now point.old }
     ensures { PointSet sizes.now (cell_number sizes.now point.old + 1) point.new }
 {
-    let mut k = sizes.len();
-    while 0 < k {
-        k -= 1;
-        let size = sizes[k];
+    for k in (0..sizes.len()).rev() {
         let up = point[k] + 1;
-        if up < size {
+        if up < sizes[k] {
             point[k] = up;
             return;
         }

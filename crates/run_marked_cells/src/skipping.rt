@@ -7,7 +7,7 @@ fn mark(marks: &[u8], cell: usize) -> u32
     requires { cell < length marks.now }
     ensures { (result ≡ get_or marks.now cell 0) × (result ≤ 255) }
 {
-    marks[cell] as u32
+    u32::from(marks[cell])
 }
 
 // The sum of the eight marks from a cell on.

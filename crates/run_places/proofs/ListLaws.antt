@@ -1,5 +1,5 @@
 -- The laws of places that are put into a list, each once.
-use Prim.Native.Nat.{ℕ, zero, suc, ◌+◌, ◌*◌, ◌<◌, ◌≤◌}
+use Prim.Native.Nat.{ℕ, zero, suc, ◌+◌, ◌<◌, ◌≤◌}
 use native.Mathlib.Nat.{not-suc-le-zero}
 use native.Mathlib.Omega.{arith}
 use mathlib.Core.Path.{◌≡◌, refl, sym, ap, ap₂, ◌∙◌}
@@ -8,12 +8,15 @@ use mathlib.Core.Bool.{Bool, true, false, not, ◌||◌}
 use mathlib.Core.List.{List, [], ◌∷◌, ◌++◌}
 use mathlib.Core.Option.{Option, none, some}
 use lib.IntN.{ℤ, pos}
-use lib.ListN.{length, get_or}
-use borrow.Author.Tests.{lt-ltb, le-ltb, le-leb, lt-leb, not-false}
+use lib.ListN.{length, get_or, set, take}
+use lib.Seq.{get_or-set_same, get_or-set_other, get_or-take, length-take-le, ext_get_or}
+use lib.Dec.{eqb}
+use lib.Pointwise.{pointwise}
+use borrow.Author.Tests.{lt-ltb, le-ltb, le-leb, lt-leb}
 use Rattle.value.proofs.Theorems.Truth.{or_true}
 use Rattle.value.specs.Worked.{encode_of, decode_of}
-use Rattle.value.specs.Number.{eq_z}
-use Rattle.value.proofs.Theorems.Laws.{encode_decode, eq_z_true, eq_z_refl}
+use Rattle.std.specs.Cmp.Lexicographic.{bytes_decides}
+use Rattle.value.proofs.Theorems.Laws.{never, encode_decode}
 use Rattle.automaton.specs.Listed.{list_of}
 use Rattle.automaton.specs.Promises.ListedLaws.{length_list_of, get_or_list_of, list_of_ext, last_or_below}
 use Rattle.automaton.specs.Grid.{differ}
@@ -21,58 +24,38 @@ use Rattle.automaton.proofs.Theorems.GridLaws.{differ_false, differ_self}
 use Rattle.cell_meaning.specs.Places.{has_place, add_place, add_places}
 use Rattle.run_meaning.specs.declared.Reach.{Reach}
 use Rattle.run_meaning.specs.Promises.Fitting.{place_at, place_list, places_of}
-use Rattle.run_places.specs.Promises.Vectors.{SetPlace}
+use Rattle.run_places.specs.Promises.Vectors.{vector_values}
 use Rattle.run_places.specs.Promises.Widening.{joined, Widens}
-use Rattle.run_places.proofs.VectorLaws.{place_same}
-
--- ---- two words
-
-pub word_same : (x y : ℕ) → x ≡ y → false ≡ not (eq_z (decode_of x) (decode_of y))
-word_same x y e = sym (ap (λ (w : ℕ). not (eq_z (decode_of w) (decode_of y))) e ∙ ap not (eq_z_refl (decode_of y)))
-
-pub word_other : (x y : ℕ) → x < 4294967296 → y < 4294967296 → (x ≡ y → ⊥) → true ≡ not (eq_z (decode_of x) (decode_of y))
-word_other x y l m out = go (eq_z (decode_of x) (decode_of y)) refl
-  where
-    go : (t : Bool) → eq_z (decode_of x) (decode_of y) ≡ t → true ≡ not t
-    go true e = absurd (out (sym (encode_decode x l) ∙ ap encode_of (eq_z_true (decode_of x) (decode_of y) e) ∙ encode_decode y m))
-    go false e = refl
 
 -- ---- two places
 
-module _ (a : List ℕ) (i : ℕ) (b : List ℕ) (j dims : ℕ) where
-  -- the first d words stand for the same numbers
-  pub record Agreeing (d : ℕ) : Type 0 where
-    pub turn : d ≤ dims
-    pub each : (m : ℕ) → m < d → decode_of (get_or a (3 * i + m) 0) ≡ decode_of (get_or b (3 * j + m) 0)
+-- words are the same where they stand for the same numbers
+same_words : (dims : ℕ) (a b : List ℕ) → dims ≤ length a → dims ≤ length b → ((k : ℕ) → get_or a k 0 < 4294967296) → ((k : ℕ) → get_or b k 0 < 4294967296)
+    → differ (vector_values a dims) (vector_values b dims) ≡ false → take dims a ≡ take dims b
+same_words dims a b la lb fa fb e =
+    ext_get_or 0 (take dims a) (take dims b) (length-take-le dims a la ∙ sym (length-take-le dims b lb))
+    (λ k h.
+    let l : k < dims = omega (arith, h, length-take-le dims a la) in
+    get_or-take dims a k 0 l ∙ sym (encode_decode (get_or a k 0) (fa k))
+    ∙ ap encode_of (sym (get_or_list_of (λ d. decode_of (get_or a d 0)) dims k (pos 0) l) ∙ ap (λ (p : List ℤ). get_or p k (pos 0)) (differ_false _ _ e) ∙ get_or_list_of (λ d. decode_of (get_or b d 0)) dims k (pos 0) l)
+    ∙ encode_decode (get_or b k 0) (fb k) ∙ sym (get_or-take dims b k 0 l))
 
-  pub agreeing_start : Agreeing 0
-  agreeing_start = record { turn = omega arith; each = λ m l. absurd (not-suc-le-zero l) }
+same_values : (dims : ℕ) (a b : List ℕ) → take dims a ≡ take dims b → vector_values a dims ≡ vector_values b dims
+same_values dims a b e =
+    list_of_ext _ _ dims (λ k l. ap decode_of (sym (get_or-take dims a k 0 l) ∙ ap (λ (p : List ℕ). get_or p k 0) e ∙ get_or-take dims b k 0 l))
 
-  module _ (d : ℕ) (l : d < dims) {t : Bool} (et : t ≡ not (eq_z (decode_of (get_or a (3 * i + d) 0)) (decode_of (get_or b (3 * j + d) 0)))) where
-    pub agreeing_more : Agreeing d → t ≡ false → Agreeing (d + 1)
-    agreeing_more s q = record { turn = omega arith; each = λ m h. at m (last_or_below (let w : m < suc d = omega arith in w)) }
-      where
-        at : (m : ℕ) → (m ≡ d) ⊎ (m < d) → decode_of (get_or a (3 * i + m) 0) ≡ decode_of (get_or b (3 * j + m) 0)
-        at m (inl e) = rw e (eq_z_true _ _ (not-false _ (sym et ∙ q)))
-        at m (inr e) = s.each m e
+pub same_place : (dims : ℕ) (a b : List ℕ) → dims ≤ length a → dims ≤ length b → ((k : ℕ) → get_or a k 0 < 4294967296) → ((k : ℕ) → get_or b k 0 < 4294967296)
+    → {r : Bool} → r ≡ pointwise eqb (take dims a) (take dims b) → r ≡ not (differ (vector_values a dims) (vector_values b dims))
+same_place dims a b la lb fa fb {r} e = by r e (differ (vector_values a dims) (vector_values b dims)) refl
+  where
+    decides : (pointwise eqb (take dims a) (take dims b) ≡ true → take dims a ≡ take dims b) × (take dims a ≡ take dims b → pointwise eqb (take dims a) (take dims b) ≡ true)
+    decides = bytes_decides (take dims a) (take dims b)
 
-    pub agreeing_not : t ≡ true → false ≡ not (differ (place_at a dims i) (place_at b dims j))
-    agreeing_not q = go (differ (place_at a dims i) (place_at b dims j)) refl
-      where
-        go : (u : Bool) → differ (place_at a dims i) (place_at b dims j) ≡ u → false ≡ not u
-        go true e = refl
-        go false e =
-            let same : decode_of (get_or a (3 * i + d) 0) ≡ decode_of (get_or b (3 * j + d) 0) =
-            sym (get_or_list_of (λ m. decode_of (get_or a (3 * i + m) 0)) dims d (pos 0) l)
-            ∙ ap (λ (p : List ℤ). get_or p d (pos 0)) (differ_false (place_at a dims i) (place_at b dims j) e)
-            ∙ get_or_list_of (λ m. decode_of (get_or b (3 * j + m) 0)) dims d (pos 0) l
-            in
-            sym (ap not (eq_z_refl (decode_of (get_or b (3 * j + d) 0)))) ∙ ap (λ (z : ℤ). not (eq_z z (decode_of (get_or b (3 * j + d) 0)))) (sym same) ∙ sym et ∙ q
-
-  pub agreeing_done : (d : ℕ) → Agreeing d → dims ≤ d → true ≡ not (differ (place_at a dims i) (place_at b dims j))
-  agreeing_done d s l =
-      let e : place_at a dims i ≡ place_at b dims j = list_of_ext _ _ dims (λ m h. s.each m (omega arith)) in
-      sym (ap not (ap (λ (p : List ℤ). differ p (place_at b dims j)) e ∙ differ_self (place_at b dims j)))
+    by : (r : Bool) → r ≡ pointwise eqb (take dims a) (take dims b) → (d : Bool) → differ (vector_values a dims) (vector_values b dims) ≡ d → r ≡ not d
+    by true e true q = never (sym (differ_self (vector_values b dims)) ∙ ap (λ (p : List ℤ). differ p (vector_values b dims)) (sym (same_values dims a b (decides.0 (sym e)))) ∙ q)
+    by true e false q = refl
+    by false e true q = refl
+    by false e false q = never (e ∙ decides.1 (same_words dims a b la lb fa fb q))
 
 -- ---- a place among others
 
@@ -91,25 +74,18 @@ has_append (q ∷ ps) p ds = ap (λ (b : Bool). not (differ q ds) || b) (has_app
 
 module _ (f : ℕ → List ℤ) (ds : List ℤ) where
   -- none of the first k places
-  pub record Missing (count k : ℕ) : Type 0 where
-    pub turn : k ≤ count
+  pub record Missing (k : ℕ) : Type 0 where
     pub says : has_place (list_of f k) ds ≡ false
 
-  pub missing_start : (count : ℕ) → Missing count 0
+  pub missing_start : Missing 0
   unfolding has_place list_of
-  missing_start count = record { turn = omega arith; says = refl }
+  missing_start = record { says = refl }
 
-  pub missing_more : (count k : ℕ) {b : Bool} → Missing count k → k < count → b ≡ not (differ (f k) ds) → b ≡ false → Missing count (k + 1)
+  pub missing_more : (k : ℕ) {b : Bool} → Missing k → b ≡ not (differ (f k) ds) → b ≡ false → Missing (k + 1)
   unfolding list_of
-  missing_more count k {b} s l eb q =
+  missing_more k {b} s eb q =
       let n : suc k ≡ k + 1 = omega arith in
-      record {
-        turn = omega arith;
-        says = ap (λ (i : ℕ). has_place (list_of f i) ds) (sym n) ∙ has_append (list_of f k) (f k) ds ∙ ap₂ ◌||◌ s.says (sym eb ∙ q);
-      }
-
-  pub missing_done : (count k : ℕ) → Missing count k → count ≤ k → false ≡ has_place (list_of f count) ds
-  missing_done count k s l = let e : k ≡ count = omega (arith, s.turn) in sym (ap (λ (i : ℕ). has_place (list_of f i) ds) (sym e) ∙ s.says)
+      record { says = ap (λ (i : ℕ). has_place (list_of f i) ds) (sym n) ∙ has_append (list_of f k) (f k) ds ∙ ap₂ ◌||◌ s.says (sym eb ∙ q) }
 
   pub missing_found : (count k : ℕ) {b : Bool} → k < count → b ≡ not (differ (f k) ds) → b ≡ true → true ≡ has_place (list_of f count) ds
   unfolding list_of
@@ -123,28 +99,38 @@ module _ (f : ℕ → List ℤ) (ds : List ℤ) where
 
 -- ---- one place more
 
-module _ (places : List ℕ) (dims count : ℕ) (ds : List ℤ) where
+-- the first places of a list
+listed_taken : (places : List (List ℕ)) (dims count : ℕ) → count ≤ length places → list_of (place_at (take count places) dims) (length (take count places)) ≡ list_of (place_at places dims) count
+listed_taken places dims count l =
+    ap (list_of (place_at (take count places) dims)) (length-take-le count places l)
+    ∙ list_of_ext _ _ count (λ k h. ap (λ (row : List ℕ). vector_values row dims) (get_or-take count places k [] h))
+
+module _ (places : List (List ℕ)) (dims count : ℕ) (ds : List ℤ) where
   pub add_past : 256 < count → place_list places dims count ≡ add_place (place_list places dims count) ds
   unfolding add_place
   add_past l = rw (lt-ltb 256 count l)
 
-  module _ (l : count ≤ 256) {b : Bool} (eb : b ≡ has_place (list_of (place_at places dims) count) ds) where
-    pub add_known : b ≡ true → place_list places dims count ≡ add_place (place_list places dims count) ds
+  module _ (size : length places ≡ 256) (l : count ≤ 256) {t : Bool} (et : t ≡ has_place (list_of (place_at (take count places) dims) (length (take count places))) ds) where
+    eb : t ≡ has_place (list_of (place_at places dims) count) ds
+    eb = et ∙ ap (λ (dss : List (List ℤ)). has_place dss ds) (listed_taken places dims count (omega (arith, size)))
+
+    pub add_known : t ≡ true → place_list places dims count ≡ add_place (place_list places dims count) ds
     unfolding add_place
     add_known q = rw (le-ltb 256 count l, ← eb, q)
 
-    pub add_full : (places' : List ℕ) → b ≡ false → 255 < count → place_list places' dims 257 ≡ add_place (place_list places dims count) ds
+    pub add_full : (places' : List (List ℕ)) → t ≡ false → 256 ≤ count → place_list places' dims 257 ≡ add_place (place_list places dims count) ds
     unfolding add_place
     add_full places' q h = rw (le-ltb 256 count l, ← eb, q, le-leb 256 (length (list_of (place_at places dims) count)) (omega (arith, length_list_of (place_at places dims) count)))
 
-    pub add_new : {places' : List ℕ} {place : List ℤ} → b ≡ false → count ≤ 255 → dims ≤ 3 → SetPlace dims count place places places' → place ≡ ds
-        → place_list places' dims (count + 1) ≡ add_place (place_list places dims count) ds
+    pub add_new : (row : List ℕ) → t ≡ false → count < 256 → vector_values row dims ≡ ds → place_list (set places count row) dims (count + 1) ≡ add_place (place_list places dims count) ds
     unfolding add_place list_of
-    add_new {places'} {place} q h few s e =
+    add_new row q h e =
         let n : count + 1 ≡ suc count = omega arith in
-        let new : list_of (place_at places' dims) (count + 1) ≡ list_of (place_at places dims) count ++ (ds ∷ []) =
-        ap (list_of (place_at places' dims)) n
-        ∙ ap₂ (λ (xs : List (List ℤ)) (x : List ℤ). xs ++ (x ∷ [])) (list_of_ext _ _ count (λ k m. place_same places places' dims k few (λ j r. s.before j (omega arith)))) (s.here ∙ e)
+        let new : list_of (place_at (set places count row) dims) (count + 1) ≡ list_of (place_at places dims) count ++ (ds ∷ []) =
+        ap (list_of (place_at (set places count row) dims)) n
+        ∙ ap₂ (λ (xs : List (List ℤ)) (x : List ℤ). xs ++ (x ∷ []))
+        (list_of_ext _ _ count (λ k m. ap (λ (w : List ℕ). vector_values w dims) (get_or-set_other places count k row [] (λ p. absurd (let w = p in omega arith)))))
+        (ap (λ (w : List ℕ). vector_values w dims) (get_or-set_same places count row [] (omega (arith, size))) ∙ e)
         in
         rw (le-ltb 256 count l, le-ltb 256 (count + 1) (omega arith), ← eb, q, lt-leb 256 (length (list_of (place_at places dims) count)) (omega (arith, length_list_of (place_at places dims) count)))
         (ap some new)
@@ -157,38 +143,29 @@ add_append [] o ds = refl
 add_append (es ∷ dss) o ds = add_append dss (add_place o es) ds
 
 module _ (dims : ℕ) (f : ℕ → List ℤ) (o : Option (List (List ℤ))) where
-  pub record Adding (places : List ℕ) (r e : ℕ) : Type 0 where
-    pub len : length places ≡ 768
+  pub record Adding (places : List (List ℕ)) (r e : ℕ) : Type 0 where
     pub says : place_list places dims r ≡ add_places o (list_of f e)
 
-  pub adding_more : (places places' : List ℕ) (r r' e : ℕ) → Adding places r e → length places' ≡ 768 → place_list places' dims r' ≡ add_place (place_list places dims r) (f e)
-      → Adding places' r' (e + 1)
+  pub adding_more : (places places' : List (List ℕ)) (r r' e : ℕ) → Adding places r e → place_list places' dims r' ≡ add_place (place_list places dims r) (f e) → Adding places' r' (e + 1)
   unfolding list_of
-  adding_more places places' r r' e s l q =
+  adding_more places places' r r' e s q =
       let n : suc e ≡ e + 1 = omega arith in
-      record {
-        len = l;
-        says = q ∙ ap (λ (x : Option (List (List ℤ))). add_place x (f e)) s.says ∙ sym (add_append (list_of f e) o (f e)) ∙ ap (λ (i : ℕ). add_places o (list_of f i)) n;
-      }
+      record { says = q ∙ ap (λ (x : Option (List (List ℤ))). add_place x (f e)) s.says ∙ sym (add_append (list_of f e) o (f e)) ∙ ap (λ (i : ℕ). add_places o (list_of f i)) n }
 
-pub adding_start : (dims : ℕ) (f : ℕ → List ℤ) (places : List ℕ) (r : ℕ) → length places ≡ 768 → Adding dims f (place_list places dims r) places r 0
+pub adding_start : (dims : ℕ) (f : ℕ → List ℤ) (places : List (List ℕ)) (r : ℕ) → Adding dims f (place_list places dims r) places r 0
 unfolding list_of add_places
-adding_start dims f places r l = record { len = l; says = refl }
-
-pub adding_done : (dims : ℕ) (f : ℕ → List ℤ) (o : Option (List (List ℤ))) (places : List ℕ) (r e many : ℕ) → Adding dims f o places r e → e ≤ many → many ≤ e
-    → place_list places dims r ≡ add_places o (list_of f many)
-adding_done dims f o places r e many s l m = let q : e ≡ many = omega arith in s.says ∙ ap (λ (i : ℕ). add_places o (list_of f i)) q
+adding_start dims f places r = record { says = refl }
 
 -- ---- a reach
 
-pub widens_past : (reach index : Reach) (dims : ℕ) {places : List ℕ} → 256 < index.count → Widens reach index dims (record { bounds = index.bounds; count = 257; places = places })
+pub widens_past : (reach index : Reach) (dims : ℕ) {places : List (List ℕ)} → 256 < index.count → Widens reach index dims (record { bounds = index.bounds; count = 257; places = places })
 widens_past reach index dims l =
     let e : places_of index dims ≡ none = rw (lt-ltb 256 index.count l) in
     record { bounded = refl; places = sym (ap (joined (places_of reach dims)) e) }
 
-pub widens_more : (reach index : Reach) (dims : ℕ) {places : List ℕ} {count : ℕ} → index.count ≤ 256
-    → place_list places dims count ≡ add_places (places_of reach dims) (list_of (place_at index.places dims) index.count)
+pub widens_more : (reach index : Reach) (dims : ℕ) {places : List (List ℕ)} {count : ℕ} → index.count ≤ 256 → length index.places ≡ 256
+    → place_list places dims count ≡ add_places (places_of reach dims) (list_of (place_at (take index.count index.places) dims) (length (take index.count index.places)))
     → Widens reach index dims (record { bounds = index.bounds; count = count; places = places })
-widens_more reach index dims l q =
+widens_more reach index dims l size q =
     let e : places_of index dims ≡ some (list_of (place_at index.places dims) index.count) = rw (le-ltb 256 index.count l) in
-    record { bounded = refl; places = q ∙ sym (ap (joined (places_of reach dims)) e) }
+    record { bounded = refl; places = q ∙ ap (add_places (places_of reach dims)) (listed_taken index.places dims index.count (omega (arith, size))) ∙ sym (ap (joined (places_of reach dims)) e) }

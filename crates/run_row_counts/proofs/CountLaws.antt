@@ -3,7 +3,7 @@ use Prim.Native.Nat.{ℕ, zero, suc, ◌+◌, ◌*◌, ◌/◌, ◌≤◌, ◌<�
 use native.Mathlib.Nat.{mul-le-mul_right, mul-div_cancel}
 use native.Mathlib.Numerals.{add-one}
 use native.Mathlib.Omega.{arith}
-use mathlib.Core.Path.{◌≡◌, refl, sym, ap, ap₂, ◌∙◌, subst}
+use mathlib.Core.Path.{◌≡◌, refl, sym, ap, ◌∙◌, subst}
 use mathlib.Core.Logic.{◌⊎◌, inl, inr}
 use mathlib.Core.Bool.{Bool}
 use mathlib.Core.List.{List, [], ◌∷◌}
@@ -154,9 +154,6 @@ module _ (fields field q : ℕ) (g : List ℤ) where
   -- the count of a row
   abbrev pub row_count : ℕ → ℕ
   row_count row = zeros_from fields field (row * q) g q
-
-  pub row_counted : (row : ℕ) {from cells count : ℕ} → count ≡ zeros_from fields field from g cells → from ≡ row * q → cells ≡ q → count ≡ row_count row
-  row_counted row h first all = h ∙ ap₂ (λ (from cells : ℕ). zeros_from fields field from g cells) first all
 
   pub all_counted : {n row : ℕ} {counts : List ℕ} → Made row_count 0 n counts row → n ≤ row → row ≤ n → counts ≡ counts_by (has_zero fields field g) n q
   unfolding counts_by

@@ -7,13 +7,18 @@ use mathlib.Core.Logic.{◌⊎◌, inl, inr}
 use mathlib.Core.Bool.{Bool, true, false, ◌&&◌, cond}
 use mathlib.Core.List.{List}
 use mathlib.Core.Option.{Option, none, some}
-use lib.ListN.{length, get_or}
+use lib.ListN.{length, get_or, take, drop}
+use lib.Seq.{get_or-take, get_or-drop}
 use lib.Dec.{ltb, leb}
 use borrow.Author.Tests.{lt-ltb, le-leb, lt-leb, ltb-true, leb-true}
 use Rattle.value.proofs.Theorems.Laws.{and_both}
 use Rattle.automaton.specs.Promises.ListedLaws.{last_or_below}
 use Rattle.automaton.specs.Step.{non_zero}
 use Rattle.automaton.specs.Rows.{in_rows, or_later, lowest, first_row}
+use Rattle.std.specs.Prelude as rust
+use Rattle.std.specs.Prelude.{MatchOption}
+use Rattle.std.specs.List.{AllWithin, HoldsAt}
+use Rattle.std.proofs.option.Match.{if_some}
 use Rattle.run_marked_cells.proofs.ScanLaws.{non_zero_true}
 use Rattle.run_row_counts.specs.RowQueries.{row_reply, counts_refused, one_a_row, rows_within, rows_asked, row_found, row_asked}
 
@@ -83,16 +88,13 @@ module _ (counts : List ℕ) where
   -- ---- the sum
 
   -- one row more
-  pub in_rows_more : (a row sum : ℕ) → a ≤ row → sum ≡ in_rows counts a (row - a) → sum + get_or counts row 0 ≡ in_rows counts a (row + 1 - a)
+  pub in_rows_more : (a b k sum count : ℕ) → sum ≡ in_rows counts a k → count ≡ get_or (take (b + 1 - a) (drop a counts)) k 0 → k < b + 1 - a → sum + count ≡ in_rows counts a (k + 1)
   unfolding in_rows
-  in_rows_more a row sum l e =
-      let next : row + 1 - a ≡ suc (row - a) = omega arith in
-      let here : a + (row - a) ≡ row = omega arith in
-      rw (next, here, e)
+  in_rows_more a b k sum count e is l = rw (add-one k, e, is, get_or-take (b + 1 - a) (drop a counts) k 0 l, get_or-drop a counts k 0) refl
 
-  pub in_no_rows : (a : ℕ) → 0 ≡ in_rows counts a (a - a)
+  pub in_no_rows : (a : ℕ) → 0 ≡ in_rows counts a 0
   unfolding in_rows
-  in_no_rows a = let e : a - a ≡ 0 = omega arith in rw e
+  in_no_rows a = refl
 
   -- ---- the search
 
@@ -100,17 +102,10 @@ module _ (counts : List ℕ) where
   abbrev pub has_one : ℕ → Bool
   has_one r = non_zero (get_or counts r 0)
 
-  pub none_below : lowest has_one 0 ≡ none
+  none_within : (n : ℕ) → ((k : ℕ) → k < n → has_one k ≡ false) → lowest has_one n ≡ none
   unfolding lowest
-  none_below = refl
-
-  pub none_more : (row : ℕ) → lowest has_one row ≡ none → get_or counts row 0 ≡ 0 → lowest has_one (row + 1) ≡ none
-  unfolding lowest
-  none_more row h e = rw (add-one row, h, e)
-
-  pub none_at_all : (row : ℕ) → lowest has_one row ≡ none → length counts ≤ row → row ≤ length counts → first_row counts ≡ none
-  unfolding first_row
-  none_at_all row h l m = let e : row ≡ length counts = omega arith in rw e at h
+  none_within zero h = refl
+  none_within (suc n) h = rw (none_within n (λ k l. h k (omega arith)), h n (omega arith)) refl
 
   found_below : (n row : ℕ) → row < n → lowest has_one row ≡ none → has_one row ≡ true → lowest has_one n ≡ some row
   unfolding lowest
@@ -124,6 +119,16 @@ module _ (counts : List ℕ) where
           rw (e', h') (ap some (sym s))
       by (inr s) below = rw (below s h e)
 
-  pub found_at : (row : ℕ) → row < length counts → lowest has_one row ≡ none → (get_or counts row 0 ≡ 0 → ⊥) → first_row counts ≡ some row
+  -- what a search for a count that is not 0 finds
+  abbrev pub FoundFirst : rust.Option ℕ → Type 0
+  FoundFirst r = MatchOption r (AllWithin (λ x. x ≡ 0) counts 0 (length counts)) (λ i. (i < length counts) × HoldsAt (λ x. x ≡ 0 → ⊥) counts i × AllWithin (λ x. x ≡ 0) counts 0 i)
+
+  pub first_found : {r : rust.Option ℕ} (row : ℕ) → r ≡ rust.Some row → FoundFirst r → first_row counts ≡ some row
   unfolding first_row
-  found_at row l h d = found_below (length counts) row l h (non_zero_true (get_or counts row 0) d)
+  first_found row e found =
+      let first = if_some _ _ _ e found in
+      found_below (length counts) row first.0 (none_within row (λ k l. ap non_zero (first.2 k 0 (omega arith) l))) (non_zero_true (get_or counts row 0) (first.1 0))
+
+  pub none_found : {r : rust.Option ℕ} → r ≡ rust.None → FoundFirst r → first_row counts ≡ none
+  unfolding first_row
+  none_found {r} e found = let all : FoundFirst rust.None = rw e at found in none_within (length counts) (λ k l. ap non_zero (all k 0 (omega arith) l))

@@ -2,11 +2,12 @@
 use Prim.Native.Nat.{ℕ, ◌+◌, ◌-◌, ◌*◌, ◌≤◌, ◌<◌}
 use native.Mathlib.Numerals.{add-one}
 use native.Mathlib.Omega.{arith}
-use mathlib.Core.Path.{◌≡◌, ap, ◌∙◌, subst}
+use mathlib.Core.Path.{◌≡◌, sym, ap, ◌∙◌, subst}
 use mathlib.Core.Logic.{◌⊎◌, inl, inr}
 use mathlib.Core.Bool.{false}
 use mathlib.Core.List.{List}
-use lib.ListN.{length, get_or}
+use lib.ListN.{length, get_or, take, drop}
+use lib.Seq.{get_or-take, get_or-drop}
 use Rattle.automaton.specs.Promises.ListedLaws.{last_or_below}
 use Rattle.automaton.specs.Step.{non_zero, marked}
 use Rattle.run_marked_cells.specs.Promises.Marked.{NextMarked}
@@ -21,12 +22,15 @@ pub record Summed (marks : List ℕ) (at k sum : ℕ) : Type 0 where
 pub summed_start : (marks : List ℕ) (at : ℕ) → Summed marks at 0 0
 summed_start marks at = record { few = omega arith; none = λ e j l. absurd (omega arith) }
 
-pub summed_more : {marks : List ℕ} {at k sum : ℕ} → Summed marks at k sum → k < 64 → get_or marks (at + k) 0 ≤ 255 → Summed marks at (k + 1) (sum + get_or marks (at + k) 0)
-summed_more {marks} {at} {k} {sum} h l b = record {
+pub summed_more : {marks : List ℕ} {at k sum mark : ℕ} → Summed marks at k sum → k < 64 → mark ≡ get_or (take (at + 64 - at) (drop at marks)) k 0 → mark ≤ 255 → Summed marks at (k + 1) (sum + mark)
+summed_more {marks} {at} {k} {sum} {mark} h l is b = record {
   few = let f = h.few in omega arith;
-  none = λ e j m. by (let z : sum ≡ 0 = omega arith in h.none z) (omega (arith, e)) j (last_or_below (subst (λ (x : ℕ). j < x) (add-one k) m));
+  none = λ e j m. by (let z : sum ≡ 0 = omega arith in h.none z) (sym own ∙ omega (arith, e)) j (last_or_below (subst (λ (x : ℕ). j < x) (add-one k) m));
 }
   where
+    own : mark ≡ get_or marks (at + k) 0
+    own = is ∙ get_or-take (at + 64 - at) (drop at marks) k 0 (omega arith) ∙ get_or-drop at marks k 0
+
     by : ((j : ℕ) → j < k → get_or marks (at + j) 0 ≡ 0) → get_or marks (at + k) 0 ≡ 0 → (j : ℕ) → (j ≡ k) ⊎ (j < k) → get_or marks (at + j) 0 ≡ 0
     by below here j (inl q) = ap (λ (x : ℕ). get_or marks (at + x) 0) q ∙ here
     by below here j (inr q) = below j q

@@ -11,8 +11,7 @@ fn row_cells(sizes: &[u32], cells: usize) -> usize
     requires { Divisible sizes.now cells }
     ensures { result ≡ row_size sizes.now }
 {
-    let rows = sizes[0] as usize;
-    cells / rows
+    cells / sizes[0] as usize
 }
 
 // 1 for an entry that is 0, else 0.
@@ -20,11 +19,7 @@ fn zero_at(grid: &[i32], at: usize) -> u32
     requires { at < length grid.now }
     ensures { result ≡ zero_bit grid.now at }
 {
-    let x = grid[at];
-    if x == 0 {
-        return 1;
-    }
-    0
+    u32::from(grid[at] == 0)
 }
 
 // How many of the cells of a row, whose first cell is `from`, have 0 in the field.
@@ -34,12 +29,8 @@ fn count_row(grid: &[i32], from: usize, cells: usize, fields: usize, field: usiz
     ensures { result ≡ how_many (λ j. has_zero fields field grid.now (from + j)) cells }
 {
     let mut count: u32 = 0;
-    let mut at = from * fields + field;
-    let mut cell: usize = 0;
-    while cell < cells {
-        count += zero_at(grid, at);
-        at += fields;
-        cell += 1;
+    for cell in from..from + cells {
+        count += zero_at(grid, cell * fields + field);
     }
     count
 }
@@ -50,12 +41,8 @@ pub fn fill_counts(sizes: &[u32], fields: usize, field: usize, grid: &[i32], cou
     ensures { counts.new ≡ row_counts sizes.now fields field grid.now }
 {
     let cells = row_cells(sizes, grid.len() / fields);
-    let mut from: usize = 0;
-    let mut row: usize = 0;
-    while row < counts.len() {
-        counts[row] = count_row(grid, from, cells, fields, field);
-        from += cells;
-        row += 1;
+    for (row, count) in counts.iter_mut().enumerate() {
+        *count = count_row(grid, row * cells, cells, fields, field);
     }
 }
 

@@ -11,10 +11,8 @@ fn sum_from(marks: &[u8], at: usize) -> u32
     ensures { SumOf marks.now at result }
 {
     let mut sum: u32 = 0;
-    let mut k: usize = 0;
-    while k < 64 {
-        sum += marks[at + k] as u32;
-        k += 1;
+    for &mark in &marks[at..at + 64] {
+        sum += u32::from(mark);
     }
     sum
 }
@@ -25,10 +23,8 @@ pub fn far_marked(marks: &[u8], from: usize) -> usize
     ensures { NextMarked marks.now from result }
 {
     let cells = marks.len();
-    if from < cells {
-        if marks[from] != 0 {
-            return next_marked(marks, from);
-        }
+    if from < cells && marks[from] != 0 {
+        return from;
     }
     let mut at = from;
     while 64 <= cells - at {

@@ -15,11 +15,13 @@ use mir.Facts.{to_z-of_z}
 use borrow.Author.Tests.{not-true, not-false, ne_eqb, le-ltb, lt-ltb}
 use Rattle.value.specs.Limits.{name_words}
 use Rattle.value.proofs.Theorems.Laws.{never}
+use Rattle.std.specs.Prelude.{Result, Ok, Err}
 use Rattle.program.specs.Refusal.{Refusal, refusal}
 use Rattle.program.specs.declared.Rule.{Rule}
 use Rattle.grammar.specs.Checking as checking
 use Rattle.grammar.specs.Checking.{SourceRead, turned_away, accepted, rooms_fit, read_source, check}
 use Rattle.cell_meaning.specs.Written.{relatives_in}
+use Rattle.run_meaning.specs.declared.Reach.{Reach}
 use Rattle.run_meaning.specs.Admission.{admission}
 use Rattle.run_meaning.specs.Report.{Manner, refused}
 use Rattle.program.specs.Promises.Fitting.{Sized}
@@ -40,8 +42,7 @@ use Rattle.move_profile.proofs.StandingLaws.{sized}
 use Rattle.run_loading.specs.Promises.Loaded.{Accepts}
 use Rattle.run_loading.proofs.Theorems.SourceLoaded.{accepts}
 use Rattle.run_admission.proofs.RequestLaws.{cast_in}
-use Rattle.run_admission.specs.declared.admitting.Admitted.{Admitted}
-use Rattle.run_admission.specs.Promises.Admitting.{request_of, Admits}
+use Rattle.run_admission.specs.Promises.Admitting.{refusal_told, request_of, Admitted, Admits}
 use Rattle.run_source.specs.declared.opening.Opening.{Opening}
 use Rattle.run_source.specs.Promises.Sourcewise.{counts_right, RunOpens}
 
@@ -67,15 +68,18 @@ module _ (fit : Bool) (source : List ℕ) (q : Asked) {n place : ℕ} (reply : r
 
 -- ---- the times as unsigned numbers
 
-module _ {words : List ℕ} {rule : Rule} {sizes : List ℕ} {grid : List ℤ} {scratch marks : ℕ} {start steps : ℤ} {a : Admitted} (admits : Admits words rule sizes grid scratch marks start steps a) (z : a.number ≡ 0) where
+module _ {words : List ℕ} {rule : Rule} {sizes : List ℕ} {grid : List ℤ} {scratch marks : ℕ} {start steps : ℤ} {a : Result Reach Refusal} (admits : Admits words rule sizes grid scratch marks start steps a) {reach : Reach} (z : a ≡ Ok reach) where
+  ok : Admitted words rule sizes (length grid) scratch marks start steps reach
+  ok = admits.admitted reach z
+
   pub cast_first : T (non_neg start) × Fits w32 (nat_abs start)
-  cast_first = cast_in start (admits.start_is z) (omega (arith, admits.times z))
+  cast_first = cast_in start (ok.start_is) (omega (arith, ok.times))
 
   pub cast_last : T (non_neg steps) × Fits w32 (nat_abs steps)
-  cast_last = cast_in steps (admits.steps_is z) (omega (arith, admits.times z))
+  cast_last = cast_in steps (ok.steps_is) (omega (arith, ok.times))
 
   pub add_last : Fits w32 (nat_abs start + nat_abs steps)
-  add_last = record { fits = omega (arith, admits.times z) }
+  add_last = record { fits = omega (arith, ok.times) }
 
 -- ---- the row counts
 
@@ -109,7 +113,7 @@ module _ {source ws ns sizes : List ℕ} {grid : List ℤ} {scratch marks : ℕ}
         opened = λ y. never (sym e.0 ∙ y);
       }
 
-  module _ (sure : not known ≡ false) {a : Admitted} (admits : Admits ws' rule sizes grid scratch marks start steps a) where
+  module _ (sure : not known ≡ false) {a : Result Reach Refusal} (admits : Admits ws' rule sizes grid scratch marks start steps a) where
     is : Accepts (rooms_fit (length ws) (length ns)) source ws' ns' rule
     is = accepts checked loaded (not-false known sure)
 
@@ -117,7 +121,7 @@ module _ {source ws ns sizes : List ℕ} {grid : List ℤ} {scratch marks : ℕ}
     abbrev flag : Option ℕ
     flag = profile_flag source is.read
 
-    says : refusal a.number a.place ≡ admission is.read.program (request_of sizes grid scratch marks start steps)
+    says : refusal_told a ≡ admission is.read.program (request_of sizes grid scratch marks start steps)
     says = admits.says is.read.program is.stood.holds is.lists
 
     turned_down : {values : List ℕ} {counts : Option CountsAsked} {number where_at line : ℕ} → admitted is.read.program flag (ask (request_of sizes grid scratch marks start steps) values counts) ≡ turned number where_at line → (number ≡ 0 → ⊥) → {r : Opening} → Closed r number where_at line
@@ -137,14 +141,18 @@ module _ {source ws ns sizes : List ℕ} {grid : List ℤ} {scratch marks : ℕ}
         refused_by : (admitted is.read.program flag (ask (request_of sizes grid scratch marks start steps) values counts)).number ≡ 0 → ⊥
         refused_by k = z (ap (λ (x : Turned). x.number) (sym t) ∙ k)
 
-    pub not_admitted : (a.number ≡ 0 → ⊥) → {values : List ℕ} {counts : Option CountsAsked} {r : Opening} → Closed r a.number a.place 0 → RunOpens (rooms_fit (length ws) (length ns)) source ws ns (ask (request_of sizes grid scratch marks start steps) values counts) r ws' ns'
-    not_admitted z {values} {counts} {r} e =
+    pub not_admitted : {f : Refusal} → a ≡ Err f → {values : List ℕ} {counts : Option CountsAsked} {r : Opening} → Closed r f.number f.place 0 → RunOpens (rooms_fit (length ws) (length ns)) source ws ns (ask (request_of sizes grid scratch marks start steps) values counts) r ws' ns'
+    not_admitted {f} i {values} {counts} {r} e =
+        let told = sym (ap refusal_told i) ∙ says in
         turned_down
-        (refused_first is.read.program flag (ask (request_of sizes grid scratch marks start steps) values counts) (λ k. z (ap (λ (x : Refusal). x.number) says ∙ k)) ∙ ap (λ (x : Refusal). turned x.number x.place 0) (sym says)) z e
+        (refused_first is.read.program flag (ask (request_of sizes grid scratch marks start steps) values counts) (λ k. admits.refused f i (ap (λ (x : Refusal). x.number) told ∙ k)) ∙ ap (λ (x : Refusal). turned x.number x.place 0) (sym told)) (admits.refused f i) e
 
-    module _ (z : a.number ≡ 0) where
+    module _ {reach : Reach} (z : a ≡ Ok reach) where
+      entered : Admitted ws' rule sizes (length grid) scratch marks start steps reach
+      entered = admits.admitted reach z
+
       admission_is : (admission is.read.program (request_of sizes grid scratch marks start steps)).number ≡ 0
-      admission_is = ap (λ (x : Refusal). x.number) (sym says) ∙ z
+      admission_is = ap (λ (x : Refusal). x.number) (sym says ∙ ap refusal_told z)
 
       -- the list can be checked
       pub dimensions_of : Dimensions sizes
@@ -152,7 +160,7 @@ module _ {source ws ns sizes : List ℕ} {grid : List ℤ} {scratch marks : ℕ}
 
       -- there is a first dimension
       pub some_sizes : 0 < length sizes
-      some_sizes = subst (λ (d : ℕ). 0 < d) (sym (admits.shaped z).dims) is.some_dims
+      some_sizes = subst (λ (d : ℕ). 0 < d) (sym entered.shaped.dims) is.some_dims
 
       pub list_ready : (Sized (length ws') rule) × Dimensions sizes
       list_ready = (is.sized, dimensions_of)
@@ -181,7 +189,7 @@ module _ {source ws ns sizes : List ℕ} {grid : List ℤ} {scratch marks : ℕ}
         not_listed d e = turned_down list_says d e
 
         pub begun : v.number ≡ 0
-            → RunOpens (rooms_fit (length ws) (length ns)) source ws ns (ask (request_of sizes grid scratch marks start steps) values (counts_of counted field rows)) (record { begun = true; number = 0; place = 0; line = 0; rule = rule; reach = a.reach }) ws' ns'
+            → RunOpens (rooms_fit (length ws) (length ns)) source ws ns (ask (request_of sizes grid scratch marks start steps) values (counts_of counted field rows)) (record { begun = true; number = 0; place = 0; line = 0; rule = rule; reach = reach }) ws' ns'
         begun l =
             let passed : (admitted is.read.program flag (ask (request_of sizes grid scratch marks start steps) values (counts_of counted field rows))).number ≡ 0 = ap (λ (x : Turned). x.number) list_says ∙ l in
             record {
@@ -194,16 +202,16 @@ module _ {source ws ns sizes : List ℕ} {grid : List ℤ} {scratch marks : ℕ}
                     read = is.read;
                     is = is.is;
                     admits = passed;
-                    runs = record { holds = is.stood.holds; reaches = admits.reaches z is.read.program is.stood.holds is.lists; lists = admits.lists z is.read.program is.stood.holds is.lists; timed = is.timed; flagged = is.flagged };
+                    runs = record { holds = is.stood.holds; reaches = entered.reaches is.read.program is.stood.holds is.lists; lists = entered.lists is.read.program is.stood.holds is.lists; timed = is.timed; flagged = is.flagged };
                     rule_fits = is.sized;
                     some_dims = is.some_dims;
-                    shaped = admits.shaped z;
-                    scratch_fits = admits.scratch_fits z;
-                    marks_fit = admits.marks_fit z;
-                    near = admits.near z (relatives_in is.read.program) is.lists;
-                    start_is = admits.start_is z;
-                    steps_is = admits.steps_is z;
-                    times = admits.times z;
+                    shaped = entered.shaped;
+                    scratch_fits = entered.scratch_fits;
+                    marks_fit = entered.marks_fit;
+                    near = entered.near (relatives_in is.read.program) is.lists;
+                    start_is = entered.start_is;
+                    steps_is = entered.steps_is;
+                    times = entered.times;
                     dimensions = dimensions_of;
                     listed = record {
                       limits = limits_of is.read.program flag (request_of sizes grid scratch marks start steps);

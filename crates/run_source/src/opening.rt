@@ -82,10 +82,10 @@ pub fn open_run(
         return closed(loaded.number, loaded.place, 0);
     }
     let rule = loaded.rule;
-    let admitted = admit(words, rule, sizes, grid, scratch, marks, start, steps);
-    if admitted.number != 0 {
-        return closed(admitted.number, admitted.place, 0);
-    }
+    let reach = match admit(words, rule, sizes, grid, scratch, marks, start, steps) {
+        Ok(reach) => reach,
+        Err(refusal) => return closed(refusal.number, refusal.place, 0),
+    };
     if !counts_fit(counted, field, rows, rule.fields, sizes) {
         return closed(61, 0, 0);
     }
@@ -96,7 +96,6 @@ pub fn open_run(
     if verdict.number != 0 {
         return closed(verdict.number, 0, verdict.line);
     }
-    let reach = admitted.reach;
     Opening {
         begun: true,
         number: 0,

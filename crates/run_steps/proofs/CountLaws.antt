@@ -19,8 +19,7 @@ use Rattle.run_step.specs.declared.Step.{Step}
 use Rattle.run_step.specs.declared.Step.TheVariants as Gives
 use Rattle.run_step.specs.Promises.Stepping.{SteppedFor}
 use Rattle.run_row_counts.specs.Promises.Counting.{Countable, Movable}
-use Rattle.run_steps.specs.declared.blocks.Next.{Next}
-use Rattle.run_steps.specs.Promises.Blockwise.{is_due, DueSet}
+use Rattle.run_steps.specs.Promises.Blockwise.{Next, is_due, DueSet}
 use Rattle.run_steps.specs.Promises.Stepwise.{Begins, Runs}
 use Rattle.run_steps.specs.Promises.Countwise.{CountsFit, CountsFilled, Tallied}
 

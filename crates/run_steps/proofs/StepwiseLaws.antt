@@ -46,12 +46,10 @@ use Rattle.run_step.proofs.StepLaws.{stepped_of}
 use Rattle.run_marking.specs.Promises.Opened as marking
 use Rattle.run_marking.specs.Promises.Opened.{opened, pending_is, indices_of, Ways, Marks, Sound, WayOf}
 use Rattle.run_marking.specs.Promises.Noting.{Prepared}
-use Rattle.token.specs.Promises.Promises.{Sorts}
 use Rattle.list_meaning.specs.Setting.{set_block}
 use Rattle.run_steps.specs.declared.Report.{Report}
 use Rattle.run_steps.specs.declared.Bands.{Bands}
-use Rattle.run_steps.specs.declared.blocks.Next.{Next}
-use Rattle.run_steps.specs.Promises.Blockwise.{NextOf, is_due, Settable, DueSet}
+use Rattle.run_steps.specs.Promises.Blockwise.{Next, is_due, Settable, DueSet}
 use Rattle.run_steps.specs.Promises.Stepwise.{Copying, from_lent, pending_in, Started, Begins, blocks_in, Runs, Renewed, Standing, Halfway, Begun, Underway, BlockPlaced, without_fault, steps_give, report_in, RanMarked}
 use Rattle.run_steps.specs.Told.{told}
 use Rattle.run_steps.specs.Promises.OneStep.{border_in, ToldBy, Steppable, Making}
@@ -295,11 +293,10 @@ module _ {words : List ℕ} {rule : Rule} {sizes : List ℕ} {r : Reach} {all_op
   -- ---- the block is set
 
   module _ {done count : ℕ} {grid scratch : List ℤ} {marks : List ℕ} (now : Underway words rule sizes r all_open text grid₀ marks₀ start steps done count grid scratch marks) where
-    pub settable : {kinds backs : List ℕ} {listed : ℕ} {next : Next} → Sorts kinds → WayOf sizes r backs listed → Follows sizes rule.fields text (start + done) next
-        → Settable text kinds sizes r.bounds backs listed rule.fields grid scratch marks next
-    settable sorts way f =
+    pub settable : {backs : List ℕ} {listed : ℕ} {next : Next} → WayOf sizes r backs listed → Follows sizes rule.fields text (start + done) next
+        → Settable text sizes r.bounds backs listed rule.fields grid scratch marks next
+    settable way f =
         record {
-          sorts = sorts;
           within = follows_within f;
           dimensions = begins.dimensions;
           scratch_fits = now.so_far.scratch_size ∙ sym now.so_far.grid_size;
@@ -629,33 +626,31 @@ told_by {words} {rule} {sizes} {shape} {bands} by p runs = each bands.banded ref
 
 -- what holds at the head of the loop
 pub record Looping (words : List ℕ) (rule : Rule) (sizes : List ℕ) (r : Reach) (all_open : Bool) (text : List ℕ) (grid₀ scratch₀ : List ℤ) (marks₀ : List ℕ) (start steps : ℕ) (leaves backs : List ℕ)
-    (listed : ℕ) (kinds shape : List ℕ) (bands : Bands) (plan : List ℕ) (lent : ℕ) (next : Next) (done count : ℕ) (grid scratch : List ℤ) (marks : List ℕ) : Type 0 where
+    (listed : ℕ) (shape : List ℕ) (bands : Bands) (plan : List ℕ) (lent : ℕ) (next : Next) (done count : ℕ) (grid scratch : List ℤ) (marks : List ℕ) : Type 0 where
   pub begins : Begins words rule sizes r grid₀ scratch₀ marks₀ text start steps
   pub underway : Underway words rule sizes r all_open text grid₀ marks₀ start steps done count grid scratch marks
   pub follows : Follows sizes rule.fields text (start + done) next
   pub noted : Leaves leaves words shape rule.tokens rule.fields rule.slots
   pub by : Making words rule sizes shape bands plan r all_open lent
   pub way : WayOf sizes r backs listed
-  pub sorts : Sorts kinds
 
-module _ {words : List ℕ} {rule : Rule} {sizes : List ℕ} {r : Reach} {all_open : Bool} {grid₀ scratch₀ : List ℤ} {marks₀ text : List ℕ} {start steps : ℕ} {leaves backs : List ℕ} {listed : ℕ} {kinds shape : List ℕ} {bands : Bands} {plan : List ℕ} {lent : ℕ} where
+module _ {words : List ℕ} {rule : Rule} {sizes : List ℕ} {r : Reach} {all_open : Bool} {grid₀ scratch₀ : List ℤ} {marks₀ text : List ℕ} {start steps : ℕ} {leaves backs : List ℕ} {listed : ℕ} {shape : List ℕ} {bands : Bands} {plan : List ℕ} {lent : ℕ} where
   pub loop_start : Begins words rule sizes r grid₀ scratch₀ marks₀ text start steps → Standing rule sizes all_open grid₀ scratch₀ marks₀ → Leaves leaves words shape rule.tokens rule.fields rule.slots
-      → WayOf sizes r backs listed → Making words rule sizes shape bands plan r all_open lent → Sorts kinds → {next : Next} → NextOf text 0 next
-      → Looping words rule sizes r all_open text grid₀ scratch₀ marks₀ start steps leaves backs listed kinds shape bands plan lent next 0 0 grid₀ scratch₀ marks₀
-  loop_start b s l w m k {next} n = record {
+      → WayOf sizes r backs listed → Making words rule sizes shape bands plan r all_open lent → {next : Next} → NextTime text 0 next
+      → Looping words rule sizes r all_open text grid₀ scratch₀ marks₀ start steps leaves backs listed shape bands plan lent next 0 0 grid₀ scratch₀ marks₀
+  loop_start b s l w m {next} n = record {
     begins = b;
     underway = start_underway b s;
     follows = subst (λ (t : ℕ). Follows sizes rule.fields text t next) (sym (add-zero start)) (follows_start rule.fields b.listed n);
     noted = l;
     by = m;
     way = w;
-    sorts = k;
   }
 
   module _ {next : Next} {done count : ℕ} {grid scratch : List ℤ} {marks : List ℕ}
-      (now : Looping words rule sizes r all_open text grid₀ scratch₀ marks₀ start steps leaves backs listed kinds shape bands plan lent next done count grid scratch marks) where
-    pub loop_settable : Settable text kinds sizes r.bounds backs listed rule.fields grid scratch marks next
-    loop_settable = settable now.begins now.underway now.sorts now.way now.follows
+      (now : Looping words rule sizes r all_open text grid₀ scratch₀ marks₀ start steps leaves backs listed shape bands plan lent next done count grid scratch marks) where
+    pub loop_settable : Settable text sizes r.bounds backs listed rule.fields grid scratch marks next
+    loop_settable = settable now.begins now.underway now.way now.follows
 
     module _ {next' : Next} {grid' scratch' : List ℤ} {marks' : List ℕ}
         (set : DueSet text sizes r.bounds backs listed all_open rule.fields grid scratch marks (start + done) next next' grid' scratch' marks') (kept : length grid' ≡ length grid) where
@@ -697,7 +692,7 @@ module _ {words : List ℕ} {rule : Rule} {sizes : List ℕ} {r : Reach} {all_op
             loop_mark = mark_ready now.begins after.placed more stepped e now.way
 
             pub loop_again : {marks'' : List ℕ} → Renewed sizes r.bounds backs listed all_open rule.fields scratch'' grid'' marks' marks''
-                → Looping words rule sizes r all_open text grid₀ scratch₀ marks₀ start steps leaves backs listed kinds shape bands plan lent next' (done + 1) counted grid'' scratch'' marks''
+                → Looping words rule sizes r all_open text grid₀ scratch₀ marks₀ start steps leaves backs listed shape bands plan lent next' (done + 1) counted grid'' scratch'' marks''
             loop_again renewed = record {
               begins = now.begins;
               underway = again now.begins after.placed more stepped e now.way renewed;
@@ -705,5 +700,4 @@ module _ {words : List ℕ} {rule : Rule} {sizes : List ℕ} {r : Reach} {all_op
               noted = now.noted;
               by = now.by;
               way = now.way;
-              sorts = now.sorts;
             }

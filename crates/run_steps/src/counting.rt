@@ -4,17 +4,15 @@ ghost use Rattle.run_row_counts.specs.Promises.Counting.{Countable, Movable};
 ghost use Rattle.run_steps.specs.Promises.Blockwise.{is_due};
 ghost use Rattle.run_steps.specs.Promises.Countwise.{CountsFilled};
 
-use crate::blocks::{Next, due_at};
+use crate::blocks::due_at;
+use list_reader::setting::Block;
 use run_row_counts::counting::{fill_counts, move_counts};
 
 // Whether the counts are filled anew after the block of a time: where they are kept, and a block is due.
-pub fn recounts(next: Next, time: u32, counted: bool) -> bool
+pub fn recounts(next: Option<Block>, time: u32, counted: bool) -> bool
     ensures { result ≡ (counted && is_due next time) }
 {
-    if counted {
-        return due_at(next, time);
-    }
-    false
+    counted && due_at(next, time)
 }
 
 // Fills the counts from a grid, where they are kept.

@@ -10,7 +10,7 @@ mod steps;
 pub use steps::{run_by, run_steps};
 
 // The manner of a run: all cells in each step; the open ones; the open ones, with the marks left standing; or the same, begun from the caller's marks.
-#[derive(Clone, Copy)]
+#[derive(Clone, Copy, Debug, PartialEq, Eq, Hash)]
 pub enum Manner {
     Full,
     Quiet,
@@ -20,7 +20,7 @@ pub enum Manner {
 
 // How a run makes its steps: of the whole grid; or, `banded`, of bands of rows, each with so many border rows before and behind it. `row` is the number of
 // cells of a row.
-#[derive(Clone, Copy)]
+#[derive(Clone, Copy, Debug, PartialEq, Eq, Hash)]
 pub struct Bands {
     pub banded: bool,
     pub row: usize,
@@ -30,7 +30,7 @@ pub struct Bands {
 
 // The report of a run: the reply's number and place, the line of the value list, the faulting cell, the steps done, and the count of the cells
 // evaluated.
-#[derive(Clone, Copy)]
+#[derive(Clone, Copy, Debug, PartialEq, Eq, Hash)]
 pub struct Report {
     pub number: u32,
     pub place: u32,

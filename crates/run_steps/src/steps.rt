@@ -7,18 +7,18 @@ ghost use Rattle.run_steps.specs.Promises.Countwise.{CountsFit, CountsFilled, Ta
 ghost use Rattle.run_steps.specs.Promises.OneStep.{Making};
 ghost use Rattle.run_steps.specs.Promises.Stepwise.{without_fault, Copying, from_lent, pending_in, Started, Begins, Standing, Renewed, RanMarked, Ran};
 
-use crate::blocks::{next_block, set_due};
+use crate::blocks::set_due;
 use crate::counting::{fill_asked, move_asked, recounts};
 use crate::single::one_step;
 use crate::{Bands, Report};
 use cell_leaves::fill_leaves;
+use list_reader::setting::next_time;
 use program::Rule;
-use run_marked_cells::rooms::{copy_numbers, flag_marks, set_marks};
+use run_marked_cells::rooms::flag_marks;
 use run_marking::mark_open;
 use run_marking::ways::set_ways;
 use run_meaning::{Bounds, Reach};
 use run_step::Step;
-use token::bytes::kind_table;
 use value::limits::{LEAF_WORDS, PLACE_WORDS};
 
 // The report of a run without a fault.
@@ -39,10 +39,7 @@ fn ended(steps: u32, count: u64) -> Report
 fn lent_marks(resumed: bool, all_open: bool) -> bool
     ensures { result ≡ from_lent resumed all_open }
 {
-    if resumed {
-        return !all_open;
-    }
-    false
+    resumed && !all_open
 }
 
 // The marks with which a run begins: those of all cells, or 1 for each of the caller's marks that is not 0. Then `scratch` takes the grid, so that a cell without a
@@ -52,11 +49,11 @@ fn begin_marks(resumed: bool, all_open: bool, grid: &[i32], scratch: &mut [i32],
     ensures { Started (from_lent resumed all_open) grid.now marks.old scratch.new marks.new }
 {
     if lent_marks(resumed, all_open) {
-        copy_numbers(grid, scratch);
+        scratch.copy_from_slice(grid);
         flag_marks(marks);
         return;
     }
-    set_marks(marks, 1);
+    marks.fill(1);
 }
 
 // The marks for the next step: all cells stay open, or those are marked that the last step opened. `old` holds the fields before it.
@@ -110,8 +107,7 @@ fn run_marked(
     ensures ran_marked { RanMarked words.now rule sizes.now reach all_open values.now start steps grid.old marks.old result grid.new marks.new }
     ensures counts { Tallied words.now rule sizes.now reach all_open counted field grid.new counts.old counts.new }
 {
-    let kinds = kind_table();
-    let mut next = next_block(values, &kinds, 0);
+    let mut next = next_time(values, 0);
     let mut done: u32 = 0;
     let mut count: u64 = 0;
     while done <= steps {
@@ -119,7 +115,6 @@ fn run_marked(
         let anew = recounts(next, start + done, counted);
         next = set_due(
             values,
-            &kinds,
             sizes,
             bounds,
             backs,
@@ -155,7 +150,7 @@ fn run_marked(
                 count = counted;
             }
             Step::Fault(cell, number, place, counted) => {
-                set_marks(marks, 0);
+                marks.fill(0);
                 return Report {
                     number,
                     place,

@@ -4,6 +4,7 @@ ghost use Rattle.value.specs.Limits.{table_words};
 ghost use Rattle.io.specs.Counts.{IsPrefixLen};
 
 use crate::line::write_front;
+use move_profile::{Profile, check_one_move};
 use tool_text::read_full;
 use value::limits::{NAME_WORDS, TABLE_WORDS};
 
@@ -91,7 +92,12 @@ pub fn answer_check(rt: &HostRuntime, length: u32) -> bool {
     let list = spelling::BUILT_IN;
     let reply = read_source::check(&source[..n], &list, &mut words, &mut names);
     let part = spelling::told_part(&source[..n], reply.number, reply.place);
-    let fit = move_profile::check_one_move(&source[..n], &list, &mut words, &mut names);
+    let fit = Profile::from(check_one_move(
+        &source[..n],
+        &list,
+        &mut words,
+        &mut names,
+    ));
     let mut lines = [0u8; 146];
     let a = tool_reply_line::write_spelled(
         reply.number,

@@ -4,8 +4,7 @@ use mathlib.Core.List.{List, [], ◌∷◌, map}
 use Prim.Native.Nat.{ℕ}
 use lib.IntN.{ℤ, pos}
 use Rattle.value.specs.Number.{least, greatest}
-use Rattle.api_comparison.specs.declared.Comparison.{Comparison}
-use Rattle.api_comparison.specs.Differences.{differences, comparable, compared, compared_room}
+use Rattle.api_comparison.specs.Differences.{Comparison, differences, comparable, compared, compared_room}
 
 -- what a comparison returns and leaves
 record Compared : Type 0 where

@@ -10,8 +10,7 @@ use borrow.Author.Tests.{eqb-true, eqb-false, eq-eqb, ne_eqb}
 use lib.IntN.{ℤ, pos, negsuc}
 use Rattle.std.specs.Prelude.{if◌then◌else◌}
 use Rattle.value.specs.Number.{eq_z}
-use Rattle.api_comparison.specs.declared.Comparison.{Comparison}
-use Rattle.api_comparison.specs.Differences.{Difference, difference, differences, triples, most_entries, comparable, compared, first_written, compared_room}
+use Rattle.api_comparison.specs.Differences.{Comparison, Difference, difference, differences, triples, most_entries, comparable, compared, first_written, compared_room}
 
 -- ---- the theorem
 

@@ -1,4 +1,4 @@
-use Rattle.std.proofs.Common.{◌≡◌, length, ◌+◌, ◌-◌, ◌*◌, ◌≤◌}
+use Rattle.std.proofs.Common.{◌≡◌, length, ◌+◌, ◌*◌, ◌≤◌}
 use Rattle.api_comparison.specs.Differences.{differences, first_written}
 use Rattle.api_comparison.proofs.DifferenceLaws.{room_to_be, differences_from}
 use Rattle.api_comparison.proofs.compare.Given as goal
@@ -13,6 +13,3 @@ invariant-loop-i l =
       all_counted : l.total + length (differences_from l.i l.left l.right) ≡ length (differences 0 l.left l.right);
       room_is : room_to_be l.k l.total (differences_from l.i l.left l.right) l.room ≡ first_written l.k (differences 0 l.left l.right) l.fn.room;
     }
-
-abbrev pub decreases-loop-i : goal.decreases-loop-i
-decreases-loop-i l = length l.left - l.i

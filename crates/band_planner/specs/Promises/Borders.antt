@@ -20,7 +20,7 @@ pub record WidensBorder (b : Border) (word : ℕ) (r : Border) : Type 0 where
   pub is : border_of r ≡ widen (border_of b) (range (decode_of word) (decode_of word))
 
 -- `listed_border`: those of so many places, in any number of dimensions
-pub record ListedBorder (places : List ℕ) (count : ℕ) (r : Border) : Type 0 where
+pub record ListedBorder (places : List (List ℕ)) (count : ℕ) (r : Border) : Type 0 where
   pub is : (dims : ℕ) → 0 < dims → border_of r ≡ edge_of (list_of (place_at places dims) count)
 
 -- `border_rows`: those of a reach, in any number of dimensions

@@ -10,8 +10,7 @@ use Rattle.band_meaning.specs.Plans.{Planned}
 use Rattle.band_run.specs.BandedRun.{BandedLent, banded_left}
 use Rattle.api_entries.specs.Over.{over}
 use Rattle.run_row_counts.specs.RowQueries.{RowReply}
-use Rattle.api_comparison.specs.declared.Comparison.{Comparison}
-use Rattle.api_comparison.specs.Differences.{compared, compared_room}
+use Rattle.api_comparison.specs.Differences.{Comparison, compared, compared_room}
 
 -- ---- every call
 

@@ -3,6 +3,7 @@ ghost use Rattle.cellang.specs.Promises.Told.{TellsComparison};
 
 use api_comparison::compare;
 use api_entries::put_comparison;
+use program::reply::Reason;
 
 // Lists the entries in which two grids differ, as `compare` does, and returns the reply's number. Writes number and total to `reply`.
 pub fn cellang_compare(
@@ -14,7 +15,10 @@ pub fn cellang_compare(
 ) -> u32
     ensures { TellsComparison left.now right.now k room.old reply.old result room.new reply.new }
 {
-    let told = compare(left, right, k, room);
-    put_comparison(reply, told.number, told.total);
-    told.number
+    let (number, total) = match compare(left, right, k, room) {
+        Ok(total) => (0, total),
+        Err(_) => (Reason::GridLength.number(), 0),
+    };
+    put_comparison(reply, number, total);
+    number
 }

@@ -4,7 +4,7 @@ ghost use Rattle.run_calls.specs.Calls.{flat_names, source_lent, source_left};
 ghost use Rattle.cellang.specs.Promises.Told.{TellsSource, profile_entries};
 
 use api_entries::put_profile;
-use move_profile::check_one_move;
+use move_profile::{Profile, check_one_move};
 
 // Whether a source moves a pixel once: returns the number of the first rule of the profile that it misses, 0 for none. `reply` gets that rule, and number
 // and place of the reply where the source is refused.
@@ -17,7 +17,7 @@ pub fn cellang_check_one_move(
 ) -> u32
     ensures { TellsSource (source_left flat_names (source_lent source.now list.now words.old names.old) one_move) profile_entries reply.old result words.new names.new reply.new }
 {
-    let told = check_one_move(source, list, words, names);
+    let told = Profile::from(check_one_move(source, list, words, names));
     put_profile(reply, told.rule, told.number, told.place);
     told.rule
 }

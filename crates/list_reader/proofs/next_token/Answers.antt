@@ -1,12 +1,8 @@
-use borrow.Author.Rules.{rules}
-use Rattle.list_reader.proofs.Walks.{Tokens}
+use mathlib.Core.Path.{refl}
+use Rattle.list_reader.proofs.Walks.{some_left, token_sign}
 use Rattle.list_reader.proofs.next_token.Goals as goal
 
-pub returns-then-line-here : goal.returns-then-line-here
-returns-then-line-here c = search Tokens
-
-pub read_literal-requires : goal.read_literal-requires
-read_literal-requires c = search (rules, Tokens)
-
-pub returns : goal.returns
-returns c = search Tokens
+pub returns-in_default : goal.returns-in_default
+returns-in_default c =
+    token_sign c.args.line.now c.past_blanks-rest.result.now c.past_blanks-rest.ensures (some_left c.args.line.now c.past_blanks-rest.result.now c.past_blanks-rest.ensures c.is_empty.ensures c.if-is_empty.false)
+    c.kind_at.result c.kind_at.ensures c.in_default.not-Digit refl

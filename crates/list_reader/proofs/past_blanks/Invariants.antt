@@ -1,11 +1,7 @@
-use Prim.Native.Nat.{◌-◌}
-use lib.ListN.{length}
-use Rattle.token.specs.Promises.Promises.{Sorts}
-use Rattle.list_reader.proofs.Walks.{Opening}
+use mathlib.Core.Path.{◌≡◌}
+use lib.ListN.{drop}
+use Rattle.list_meaning.specs.Text.{pieces}
 use Rattle.list_reader.proofs.past_blanks.Given as goal
 
-abbrev pub invariant-loop-here : goal.invariant-loop-here
-invariant-loop-here l = Opening l.line l.at l.here × Sorts l.kinds
-
-abbrev pub decreases-loop-here : goal.decreases-loop-here
-decreases-loop-here l = length l.line - l.here
+abbrev pub invariant-loop-k : goal.invariant-loop-k
+invariant-loop-k l = pieces 0 l.line ≡ pieces 0 (drop l.k l.line)

@@ -1,5 +1,5 @@
 -- What the functions that read an index promise.
-use Rattle.std.specs.Prelude.{◌≡◌, Bool, true, false, List, ℕ, ◌≤◌, ◌<◌, length, drop}
+use Rattle.std.specs.Prelude.{◌≡◌, Bool, true, false, List, ℕ, ◌≤◌, ◌<◌, length, Option as Optional, Some, None}
 use Rattle.std.proofs.Math.Option.{Option, some, none}
 use Rattle.value.specs.Limits.{most_dims, most_along}
 use Rattle.run_meaning.specs.Admission.{all_between}
@@ -7,9 +7,7 @@ use Rattle.token.specs.Promises.Promises.{too_large}
 use Rattle.list_meaning.specs.Text.{Piece, literal, sign, with_piece, pieces}
 use Rattle.list_meaning.specs.Promises.Walking.{Placed, wrong, placed, place_from}
 use Rattle.list_reader.specs.declared.points.Coordinate.{Coordinate}
-use Rattle.list_reader.specs.declared.points.Coordinate.TheVariants as coordinate
 use Rattle.list_reader.specs.declared.points.Point.{Point}
-use Rattle.list_reader.specs.declared.points.Point.TheVariants as point
 
 -- the sizes of a grid, as 20 leaves them
 pub record Dimensions (sizes : List ℕ) : Type 0 where
@@ -28,31 +26,31 @@ point_with outside cell (some ps) = placed outside cell ps
 
 -- ---- one coordinate
 
--- a literal and a byte lead the tokens from `at` on; or no index is read there
-abbrev pub Coordinates : List ℕ → ℕ → Coordinate → Type 0
-Coordinates line at coordinate.Wrong = (sizes : List ℕ) (outside : Bool) (cell : ℕ) → point_in sizes outside cell (pieces 0 (drop at line)) ≡ wrong
-Coordinates line at (coordinate.Read i b next) = pieces 0 (drop at line) ≡ with_piece (literal i) (with_piece (sign b) (pieces 0 (drop next line)))
+-- a literal and a byte lead the tokens of a line; or no index is read there
+abbrev pub Coordinates : List ℕ → Optional Coordinate → Type 0
+Coordinates line None = (sizes : List ℕ) (outside : Bool) (cell : ℕ) → point_in sizes outside cell (pieces 0 line) ≡ wrong
+Coordinates line (Some c) = pieces 0 line ≡ with_piece (literal c.index) (with_piece (sign c.sign) (pieces 0 c.rest.now))
 
-abbrev pub CoordinateOnward : List ℕ → ℕ → Coordinate → Type 0
-CoordinateOnward line at coordinate.Wrong = Unit {0}
-CoordinateOnward line at (coordinate.Read i b next) = (at < next) × (next ≤ length line) × (i < too_large)
+abbrev pub CoordinateOnward : List ℕ → Optional Coordinate → Type 0
+CoordinateOnward line None = Unit {0}
+CoordinateOnward line (Some c) = (length c.rest.now < length line) × (c.index < too_large)
 
-pub record ReadsCoordinate (line : List ℕ) (at : ℕ) (r : Coordinate) : Type 0 where
-  pub is : Coordinates line at r
-  pub onward : CoordinateOnward line at r
+pub record ReadsCoordinate (line : List ℕ) (r : Optional Coordinate) : Type 0 where
+  pub is : Coordinates line r
+  pub onward : CoordinateOnward line r
 
 -- ---- the index
 
 -- what the walk over an index gives
-abbrev pub point_of : List ℕ → Point → Placed
-point_of line point.Wrong = wrong
-point_of line (point.At outside cell next) = point_with outside cell (pieces 0 (drop next line))
+abbrev pub point_of : Optional Point → Placed
+point_of None = wrong
+point_of (Some p) = point_with p.outside p.cell (pieces 0 p.rest.now)
 
-abbrev pub PointOnward : List ℕ → ℕ → Point → Type 0
-PointOnward line at point.Wrong = Unit {0}
-PointOnward line at (point.At outside cell next) = (at ≤ next) × (next ≤ length line) × (cell ≤ 72057594037927936)
+abbrev pub PointOnward : List ℕ → Optional Point → Type 0
+PointOnward line None = Unit {0}
+PointOnward line (Some p) = (length p.rest.now ≤ length line) × (p.cell ≤ 72057594037927936)
 
--- r is the index from `at` on
-pub record ReadsPoint (sizes line : List ℕ) (at : ℕ) (r : Point) : Type 0 where
-  pub is : point_in sizes false 0 (pieces 0 (drop at line)) ≡ point_of line r
-  pub onward : PointOnward line at r
+-- r is the index at the head of a line
+pub record ReadsPoint (sizes line : List ℕ) (r : Optional Point) : Type 0 where
+  pub is : point_in sizes false 0 (pieces 0 line) ≡ point_of r
+  pub onward : PointOnward line r

@@ -1,5 +1,5 @@
 -- What the functions that set a block promise.
-use Rattle.std.specs.Prelude.{◌≡◌, Bool, true, false, List, [], ◌∷◌, ℕ, ◌*◌, ◌≤◌, length, drop, ℤ}
+use Rattle.std.specs.Prelude.{◌≡◌, Bool, true, false, List, [], ◌∷◌, ℕ, ◌*◌, ◌≤◌, length, drop, ℤ, Option as Optional, Some, None}
 use Rattle.std.proofs.Math.Option.{Option, some}
 use Rattle.automaton.specs.Shape as shape
 use Rattle.list_meaning.specs.Text.{pieces}
@@ -9,16 +9,15 @@ use Rattle.list_meaning.specs.Setting.{store_values, set_lines}
 use Rattle.list_meaning.specs.Promises.Passing.{LinePasses}
 use Rattle.list_reader.specs.Promises.Values.{line_values}
 use Rattle.list_reader.specs.Promises.Checks.{cell_said}
-use Rattle.list_reader.specs.declared.setting.Due.{Due}
-use Rattle.list_reader.specs.declared.setting.Due.TheVariants.{Nothing, At}
+use Rattle.list_reader.specs.declared.setting.Block.{Block}
 
--- the values from `at` on are stored from entry e on
-pub record StoresValues (line : List ℕ) (at e : ℕ) (g h : List ℤ) : Type 0 where
-  pub is : (vs : List (Option ℤ)) → line_values (pieces 0 (drop at line)) ≡ some vs → h ≡ store_values g e vs
+-- the values of a line are stored from entry e on
+pub record StoresValues (line : List ℕ) (e : ℕ) (g h : List ℤ) : Type 0 where
+  pub is : (vs : List (Option ℤ)) → line_values (pieces 0 line) ≡ some vs → h ≡ store_values g e vs
 
--- the values of a cell's line are stored, from behind its `[` on
-pub record StoresCell (sizes : List ℕ) (fields : ℕ) (line : List ℕ) (at : ℕ) (g h : List ℤ) : Type 0 where
-  pub is : (is : List ℕ) (vs : List (Option ℤ)) → cell_said (pieces 0 (drop at line)) ≡ cell is vs → length is ≡ length sizes
+-- the values of a cell's line are stored, which stands in `line` from behind its `[` on
+pub record StoresCell (sizes : List ℕ) (fields : ℕ) (line : List ℕ) (g h : List ℤ) : Type 0 where
+  pub is : (is : List ℕ) (vs : List (Option ℤ)) → cell_said (pieces 0 line) ≡ cell is vs → length is ≡ length sizes
       → h ≡ store_values g (shape.cell_number sizes is * fields) vs
 
 -- the values of a cell's line are stored
@@ -53,13 +52,13 @@ pub record SetsLines (sizes : List ℕ) (fields : ℕ) (text : List ℕ) (at r :
   pub within : r ≤ length text
 
 -- the block that begins at `at`: its time, and where its cells begin
-pub record BlockBegins (text : List ℕ) (t : ℕ) (ss : List Said) (r : Due) : Type 0 where
+pub record BlockBegins (text : List ℕ) (t : ℕ) (ss : List Said) (r : Optional Block) : Type 0 where
   pub behind : ℕ
-  pub is : r ≡ At t behind
+  pub is : r ≡ Some (record { time = t; behind = behind })
   pub rest : said (drop behind text) ≡ ss
   pub within : behind ≤ length text
 
 -- r is the block that begins at `at`, if the text does not end there
-pub record NextTime (text : List ℕ) (at : ℕ) (r : Due) : Type 0 where
-  pub ends : said (drop at text) ≡ [] → r ≡ Nothing
+pub record NextTime (text : List ℕ) (at : ℕ) (r : Optional Block) : Type 0 where
+  pub ends : said (drop at text) ≡ [] → r ≡ None
   pub begins : (t : ℕ) (ss : List Said) → said (drop at text) ≡ time t ∷ ss → BlockBegins text t ss r

@@ -6,10 +6,9 @@ use Rattle.automaton.specs.Promises.ShapeLaws.{Shaped}
 use Rattle.program.specs.Syntax.{Program}
 use Rattle.cell_meaning.specs.Promises.Stands.{Holds}
 use Rattle.cell_meaning.specs.Written.{relatives_in}
-use Rattle.program.specs.Refusal.{refusal}
+use Rattle.program.specs.Refusal.{Refusal, refusal}
 use Rattle.program.specs.declared.Rule.{Rule}
 use Rattle.run_meaning.specs.Admission.{all_between, admission}
-use Rattle.run_admission.specs.declared.Refusal.{Refusal}
 use Rattle.run_admission.specs.Promises.Admitting.{request_of, Lists}
 use Rattle.list_meaning.specs.Writing.{Wanted, writing_admission}
 use Rattle.list_writer.specs.Promises.Lines.{Grids}

@@ -1,14 +1,10 @@
-use Rattle.names.proofs.Spelling.{Spellings}
+use mathlib.Core.Path.{◌≡◌}
+use lib.ListN.{get_or}
+use borrow.Author.Rules.{rules}
+use Rattle.names.proofs.Spelling.{lower_fold}
 use Rattle.names.proofs.folded.Goals as goal
 
-pub returns-then-b-le90 : goal.returns-then-b-le90
-returns-then-b-le90 c = search Spellings
-
-pub returns-else-b-le90 : goal.returns-else-b-le90
-returns-else-b-le90 c = search Spellings
-
-pub returns-else-b-ge65 : goal.returns-else-b-ge65
-returns-else-b-ge65 c = search Spellings
-
-pub returns : goal.returns
-returns c = search Spellings
+pub returns-in-Some : goal.returns-in-Some
+returns-in-Some c =
+    let b : c.in-Some.b.now ≡ get_or c.args.source.now c.args.i 0 = search rules in
+    search lower_fold

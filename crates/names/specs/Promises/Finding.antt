@@ -1,10 +1,9 @@
 -- What the search for a name promises.
-use Rattle.std.specs.Prelude.{◌≡◌, Bool, ◌&&◌, List, ℕ, ◌<◌}
+use Rattle.std.specs.Prelude.{◌≡◌, Bool, ◌&&◌, List, ℕ, ◌<◌, Some, None}
+use Rattle.std.specs.Prelude as rust
 use Rattle.std.proofs.Math.Option.{Option, none, some}
 use Rattle.token.specs.Bytes.{same}
 use Rattle.names.specs.declared.Entry.{Entry}
-use Rattle.names.specs.declared.Found.{Found}
-use Rattle.names.specs.declared.Found.TheVariants.{At, Missing}
 use Rattle.names.specs.Names.{entry_at, in_space, letters, find_name}
 
 -- a name is of the name space and spelled as the n bytes from a place on
@@ -15,13 +14,17 @@ match_of source fields start n e = in_space fields e && same (letters source sta
 pub record Matches (source names : List ℕ) (slot : ℕ) (fields : Bool) (start n : ℕ) (r : Bool) : Type 0 where
   pub is : r ≡ match_of source fields start n (entry_at names slot)
 
+-- the slot of a name, or that there is none
+abbrev pub Found : Type 0
+Found = rust.Option ℕ
+
 abbrev pub found_of : Option ℕ → Found
-found_of (some slot) = At slot
-found_of none = Missing
+found_of (some slot) = Some slot
+found_of none = None
 
 abbrev pub Below : ℕ → Found → Type 0
-Below n (At slot) = slot < n
-Below n Missing = Unit {0}
+Below n (Some slot) = slot < n
+Below n None = Unit {0}
 
 -- the slot of the name, which is one of the list's, or that there is none
 pub record Finds (source names : List ℕ) (count : ℕ) (fields : Bool) (start n : ℕ) (r : Found) : Type 0 where

@@ -1,3 +1,4 @@
+use Rattle.read_state.proofs.Going.{passed}
 use Rattle.grammar.specs.Reader.{unit}
 use Rattle.grammar.specs.Constants.{read_constants, constants_turn}
 use Rattle.read_state.proofs.Steps.{on, off, so, other, token, returned}
@@ -36,8 +37,8 @@ returns-then-t-ne-CONST_WORD c =
       onward = goes_on loop.invariant.5 loop.invariant.3 loop.invariant.4;
     }
 
-pub read_declaration-r-requires : goal.read_declaration-r-requires
-read_declaration-r-requires c =
+pub read_declaration-requires : goal.read_declaration-requires
+read_declaration-requires c =
     let pre = c.requires in
     let loop = c.loop-scan in
     let token_at = c.token_at-t in
@@ -46,15 +47,16 @@ read_declaration-r-requires c =
       omega (arith, token_at.ensures.inside, if1.false),
     )
 
-pub returns-in_default : goal.returns-in_default
+pub returns-in_err-a : goal.returns-in_err-a
 unfolding constants_turn
-returns-in_default c =
+returns-in_err-a c =
     let pre = c.requires in
     let loop = c.loop-scan in
     let token_at = c.token_at-t in
     let if1 = c.if-t-ne-CONST_WORD in
-    let read_declaration = c.read_declaration-r in
-    let y = c.in_default.is in
+    let read_declaration = c.read_declaration in
+    let y = c.in_err-a.was in
+    rw (passed c.from_residual.ensures.1 y)
     record {
       gives =
           turn_refused loop.invariant.0 (omega (arith, loop.invariant.3, pre.tokens))
@@ -69,8 +71,8 @@ pub loop-scan-smaller : goal.loop-scan-smaller
 loop-scan-smaller c =
     let pre = c.requires in
     let loop = c.loop-scan in
-    let read_declaration = c.read_declaration-r in
-    omega (arith, (went read_declaration.ensures.onward c.in-Next.is).past, loop.invariant.3, pre.tokens)
+    let read_declaration = c.read_declaration in
+    omega (arith, (went read_declaration.ensures.onward c.in_ok-a.was).past, loop.invariant.3, pre.tokens)
 
 pub loop-scan-preserved : goal.loop-scan-preserved
 unfolding constants_turn
@@ -79,12 +81,12 @@ loop-scan-preserved c =
     let loop = c.loop-scan in
     let token_at = c.token_at-t in
     let if1 = c.if-t-ne-CONST_WORD in
-    let read_declaration = c.read_declaration-r in
-    let w = went read_declaration.ensures.onward c.in-Next.is in (
+    let read_declaration = c.read_declaration in
+    let w = went read_declaration.ensures.onward c.in_ok-a.was in (
       turn_again loop.invariant.0 (omega (arith, loop.invariant.3, pre.tokens))
           (λ _ _. token _ token_at.ensures
           (so _ _ (eq-eqb _ _ if1.false)
-          (on _ read_declaration.ensures.gives c.in-Next.is
+          (on _ read_declaration.ensures.gives c.in_ok-a.was
           (λ _ _. returned _ tt))))
           (omega (arith, w.past)),
       read_declaration.auto.words ∙ loop.invariant.1,

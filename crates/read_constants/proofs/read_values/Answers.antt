@@ -1,3 +1,4 @@
+use Rattle.read_state.proofs.Going.{passed}
 use Rattle.grammar.specs.Constants.{read_values, value_turn}
 use Rattle.read_state.proofs.Steps.{on, off, so, other, token, refused, returned, advanced, put_in, noted}
 use Rattle.read_state.proofs.Turns.{turn_first, turn_again, turn_done, turn_refused, with_this}
@@ -14,26 +15,27 @@ loop-a-init c =
     let pre = c.requires in
     (turn_first 0 refl, pre.table, pre.here, omega arith, omega arith)
 
-pub read_signed-r-requires : goal.read_signed-r-requires
-read_signed-r-requires c =
+pub read_signed-requires : goal.read_signed-requires
+read_signed-requires c =
     let pre = c.requires in
     let loop = c.loop-a in
     record { tokens = pre.tokens; table = loop.invariant.1; list = pre.list; here = loop.invariant.2; few = omega (arith, loop.invariant.3, pre.few) }
 
-pub returns-in_default : goal.returns-in_default
+pub returns-in_err-a : goal.returns-in_err-a
 unfolding value_turn
-returns-in_default c =
+returns-in_err-a c =
     let pre = c.requires in
     let loop = c.loop-a in
-    let read_signed = c.read_signed-r in
-    let y = c.in_default.is in
+    let read_signed = c.read_signed in
+    let y = c.in_err-a.was in
+    rw (passed c.from_residual.ensures.1 y)
     record {
       gives = turn_refused loop.invariant.0 (omega (arith, loop.invariant.2, pre.tokens)) (with_this _ _ (off _ read_signed.ensures.gives y)) y;
       onward = nowhere y;
     }
 
-pub overflow_add-first : goal.overflow_add-first
-overflow_add-first c =
+pub overflow_add-s : goal.overflow_add-s
+overflow_add-s c =
     let pre = c.requires in
     let loop = c.loop-a in
     omega (arith, loop.invariant.4, loop.invariant.2, pre.tokens)
@@ -41,14 +43,14 @@ overflow_add-first c =
 pub put_word-requires : goal.put_word-requires
 put_word-requires c =
     let loop = c.loop-a in
-    let read_signed = c.read_signed-r in
+    let read_signed = c.read_signed in
     (omega arith, read_signed.auto.words ∙ loop.invariant.1)
 
 pub token_at-t-requires : goal.token_at-t-requires
 token_at-t-requires c =
     let pre = c.requires in
     let loop = c.loop-a in
-    let read_signed = c.read_signed-r in
+    let read_signed = c.read_signed in
     let put_word = c.put_word in
     (pre.tokens, put_word.auto.words ∙ read_signed.auto.words ∙ loop.invariant.1)
 
@@ -63,18 +65,18 @@ unfolding value_turn
 returns-then-most-next c =
     let pre = c.requires in
     let loop = c.loop-a in
-    let read_signed = c.read_signed-r in
-    let known-told = c.in-Next.known_told-1-own in
+    let read_signed = c.read_signed in
+    let known-told = c.in_ok-a.known_told-1-own in
     let put_word = c.put_word in
     let token_at = c.token_at-t in
     let if1 = c.if-t-ne-COMMA in
     let if2 = c.if-most-next in
-    let w = went read_signed.ensures.onward c.in-Next.is in
+    let w = went read_signed.ensures.onward c.in_ok-a.was in
     record {
       gives =
           turn_done loop.invariant.0 (omega (arith, loop.invariant.2, pre.tokens))
-          (with_this _ _ (on _ read_signed.ensures.gives c.in-Next.is
-          (λ z e. rw (word_of c.in-Next.a.value e (omega (arith, known-told.given)))
+          (with_this _ _ (on _ read_signed.ensures.gives c.in_ok-a.was
+          (λ z e. rw (word_of c.in_ok-a.a.value e (omega (arith, known-told.given)))
           (on _ (put_in _ _ _ put_word.ensures) refl
           (λ _ _. token _ token_at.ensures
           (other _ _ (ne_eqb _ _ if1.true)
@@ -87,7 +89,7 @@ pub noting-requires : goal.noting-requires
 noting-requires c =
     let pre = c.requires in
     let loop = c.loop-a in
-    let read_signed = c.read_signed-r in
+    let read_signed = c.read_signed in
     let put_word = c.put_word in
     (pre.tokens, put_word.auto.words ∙ read_signed.auto.words ∙ loop.invariant.1)
 
@@ -96,20 +98,20 @@ unfolding value_turn
 returns-then-t-ne-COMMA c =
     let pre = c.requires in
     let loop = c.loop-a in
-    let read_signed = c.read_signed-r in
-    let known-told = c.in-Next.known_told-1-own in
+    let read_signed = c.read_signed in
+    let known-told = c.in_ok-a.known_told-1-own in
     let put_word = c.put_word in
     let token_at = c.token_at-t in
     let if1 = c.if-t-ne-COMMA in
     let if2 = c.if-most-next in
     let noting = c.noting in
-    let w = went read_signed.ensures.onward c.in-Next.is in
+    let w = went read_signed.ensures.onward c.in_ok-a.was in
     let n = noting.ensures in
     record {
       gives =
           turn_done loop.invariant.0 (omega (arith, loop.invariant.2, pre.tokens))
-          (with_this _ _ (on _ read_signed.ensures.gives c.in-Next.is
-          (λ z e. rw (word_of c.in-Next.a.value e (omega (arith, known-told.given)))
+          (with_this _ _ (on _ read_signed.ensures.gives c.in_ok-a.was
+          (λ z e. rw (word_of c.in_ok-a.a.value e (omega (arith, known-told.given)))
           (on _ (put_in _ _ _ put_word.ensures) refl
           (λ _ _. token _ token_at.ensures
           (other _ _ (ne_eqb _ _ if1.true)
@@ -127,7 +129,7 @@ pub refuse-requires : goal.refuse-requires
 refuse-requires c =
     let pre = c.requires in
     let loop = c.loop-a in
-    let read_signed = c.read_signed-r in
+    let read_signed = c.read_signed in
     let put_word = c.put_word in
     (pre.tokens, put_word.auto.words ∙ read_signed.auto.words ∙ loop.invariant.1)
 
@@ -136,8 +138,8 @@ unfolding value_turn
 returns-then-most-next-2 c =
     let pre = c.requires in
     let loop = c.loop-a in
-    let read_signed = c.read_signed-r in
-    let known-told = c.in-Next.known_told-1-own in
+    let read_signed = c.read_signed in
+    let known-told = c.in_ok-a.known_told-1-own in
     let put_word = c.put_word in
     let token_at = c.token_at-t in
     let if1 = c.if-t-ne-COMMA in
@@ -147,8 +149,8 @@ returns-then-most-next-2 c =
     record {
       gives =
           turn_refused loop.invariant.0 (omega (arith, loop.invariant.2, pre.tokens))
-          (with_this _ _ (on _ read_signed.ensures.gives c.in-Next.is
-          (λ z e. rw (word_of c.in-Next.a.value e (omega (arith, known-told.given)))
+          (with_this _ _ (on _ read_signed.ensures.gives c.in_ok-a.was
+          (λ z e. rw (word_of c.in_ok-a.a.value e (omega (arith, known-told.given)))
           (on _ (put_in _ _ _ put_word.ensures) refl
           (λ _ _. token _ token_at.ensures
           (so _ _ (eq-eqb _ _ if1.false)
@@ -169,27 +171,27 @@ pub loop-a-smaller : goal.loop-a-smaller
 loop-a-smaller c =
     let pre = c.requires in
     let loop = c.loop-a in
-    let read_signed = c.read_signed-r in
+    let read_signed = c.read_signed in
     let moved = c.moved-here in
-    let w = went read_signed.ensures.onward c.in-Next.is in omega (arith, w.past, moved.ensures.at, loop.invariant.2, pre.tokens)
+    let w = went read_signed.ensures.onward c.in_ok-a.was in omega (arith, w.past, moved.ensures.at, loop.invariant.2, pre.tokens)
 
 pub loop-a-preserved : goal.loop-a-preserved
 unfolding value_turn
 loop-a-preserved c =
     let pre = c.requires in
     let loop = c.loop-a in
-    let read_signed = c.read_signed-r in
-    let known-told = c.in-Next.known_told-1-own in
+    let read_signed = c.read_signed in
+    let known-told = c.in_ok-a.known_told-1-own in
     let put_word = c.put_word in
     let token_at = c.token_at-t in
     let if1 = c.if-t-ne-COMMA in
     let if3 = c.if-most-next-2 in
     let moved = c.moved-here in
-    let w = went read_signed.ensures.onward c.in-Next.is in
+    let w = went read_signed.ensures.onward c.in_ok-a.was in
     let m = moved.ensures in (
       turn_again loop.invariant.0 (omega (arith, loop.invariant.2, pre.tokens))
-          (with_this _ _ (on _ read_signed.ensures.gives c.in-Next.is
-          (λ z e. rw (word_of c.in-Next.a.value e (omega (arith, known-told.given)))
+          (with_this _ _ (on _ read_signed.ensures.gives c.in_ok-a.was
+          (λ z e. rw (word_of c.in_ok-a.a.value e (omega (arith, known-told.given)))
           (on _ (put_in _ _ _ put_word.ensures) refl
           (λ _ _. token _ token_at.ensures
           (so _ _ (eq-eqb _ _ if1.false)

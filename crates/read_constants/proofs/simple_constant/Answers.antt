@@ -1,3 +1,4 @@
+use Rattle.read_state.proofs.Going.{passed}
 use Rattle.grammar.specs.Constants.{simple_constant}
 use Rattle.read_state.proofs.Steps.{on, off, returned, advanced, declared}
 use Rattle.read_state.proofs.Going.{nowhere, went, goes_on}
@@ -6,22 +7,23 @@ use mathlib.Core.Path.{◌∙◌, refl}
 use Rattle.read_constants.proofs.Values.{word_of}
 use Rattle.read_constants.proofs.simple_constant.Goals as goal
 
-pub returns-in_default : goal.returns-in_default
+pub returns-in_err-a : goal.returns-in_err-a
 unfolding simple_constant
-returns-in_default c =
+returns-in_err-a c =
     let moved = c.moved in
-    let read_signed = c.read_signed-r in
+    let read_signed = c.read_signed in
     let m = moved.ensures in
-    let y = c.in_default.is in
+    let y = c.in_err-a.was in
+    rw (passed c.from_residual.ensures.1 y)
     record { gives = on _ (advanced m) refl (λ _ _. off _ read_signed.ensures.gives y); onward = nowhere y }
 
 pub declare-requires : goal.declare-requires
 declare-requires c =
     let pre = c.requires in
     let moved = c.moved in
-    let read_signed = c.read_signed-r in
+    let read_signed = c.read_signed in
     let m = moved.ensures in
-    let w = went read_signed.ensures.onward c.in-Next.is in
+    let w = went read_signed.ensures.onward c.in_ok-a.was in
     (pre.0.tokens, read_signed.auto.words ∙ pre.0.table, omega (arith, w.few, m.count, pre.2), pre.0.list)
 
 pub returns : goal.returns
@@ -29,17 +31,17 @@ unfolding simple_constant
 returns c =
     let pre = c.requires in
     let moved = c.moved in
-    let read_signed = c.read_signed-r in
-    let known-told = c.in-Next.known_told-1-own in
+    let read_signed = c.read_signed in
+    let known-told = c.in_ok-a.known_told-1-own in
     let declare = c.declare in
     let m = moved.ensures in
-    let w = went read_signed.ensures.onward c.in-Next.is in
+    let w = went read_signed.ensures.onward c.in_ok-a.was in
     let d = declare.ensures in
     record {
       gives =
           on _ (advanced m) refl
-          (λ _ _. on _ read_signed.ensures.gives c.in-Next.is
-          (λ z e. rw (word_of c.in-Next.a.value e (omega (arith, known-told.given)))
+          (λ _ _. on _ read_signed.ensures.gives c.in_ok-a.was
+          (λ z e. rw (word_of c.in_ok-a.a.value e (omega (arith, known-told.given)))
           (on _ (declared _ _ _ d) refl
           (λ _ _. returned _ tt))));
       onward =

@@ -1,3 +1,4 @@
+use Rattle.read_state.proofs.Going.{passed}
 use native.Mathlib.Omega.{arith}
 use mathlib.Core.Path.{◌∙◌, sym, refl}
 use mathlib.Core.Bool.{true, false}
@@ -9,16 +10,17 @@ use Rattle.read_declaration.proofs.Grouping.{unnamed_put}
 use Rattle.read_declaration.proofs.Cells.{with_fields}
 use Rattle.read_declaration.proofs.read_fields.Goals as goal
 
-pub returns-in_default : goal.returns-in_default
+pub returns-in_err-a : goal.returns-in_err-a
 unfolding read_fields
-returns-in_default c =
+returns-in_err-a c =
     let token_at = c.token_at-t in
     let kind_at = c.kind_at-k in
     let is_unnamed = c.is_unnamed in
     let if1 = c.if-is_unnamed in
-    let read_range = c.read_range-r in
+    let read_range = c.read_range in
     λ dims.
-    let y = c.in_default.is in
+    let y = c.in_err-a.was in
+    rw (passed c.from_residual.ensures.1 y)
     record {
       gives =
           token _ token_at.ensures (kind_behind _ kind_at.ensures (so _ _ (sym is_unnamed.ensures ∙ if1.true) (off _
@@ -29,7 +31,7 @@ returns-in_default c =
 pub write_ranges-requires : goal.write_ranges-requires
 write_ranges-requires c =
     let pre = c.requires in
-    let read_range = c.read_range-r in
+    let read_range = c.read_range in
     (read_range.auto.words ∙ pre.0.table, omega (arith, pre.1, pre.0.here, pre.0.tokens))
 
 pub returns-then-is_unnamed : goal.returns-then-is_unnamed
@@ -40,16 +42,15 @@ returns-then-is_unnamed c =
     let kind_at = c.kind_at-k in
     let is_unnamed = c.is_unnamed in
     let if1 = c.if-is_unnamed in
-    let read_range = c.read_range-r in
+    let read_range = c.read_range in
     let write-ranges = c.write_ranges in
-    let carrying_fields = c.carrying_fields in
     λ dims.
-    let w = went read_range.ensures.onward c.in-Next.is in
-    let m = carrying_fields.ensures in
+    let w = went read_range.ensures.onward c.in_ok-a.was in
+    let m = c.with_fields.ensures in
     record {
       gives =
           token _ token_at.ensures (kind_behind _ kind_at.ensures (so _ _ (sym is_unnamed.ensures ∙ if1.true) (made
-          (declared dims false) (on_told _ read_range.ensures.gives c.in-Next.is (unnamed_put _ write-ranges.ensures
+          (declared dims false) (on_told _ read_range.ensures.gives c.in_ok-a.was (unnamed_put _ write-ranges.ensures
           (omega (arith, pre.1, w.past)) m)) (λ rs t p. with_fields dims false refl p))));
       onward = goes_on (omega (arith, m.at, w.past)) (omega (arith, m.at, w.within)) (omega (arith, m.count, w.few, pre.0.few));
     }

@@ -1,3 +1,4 @@
+use Rattle.read_state.proofs.Going.{passed}
 use native.Mathlib.Omega.{arith}
 use mathlib.Core.Path.{refl}
 use mathlib.Core.List.{[]}
@@ -36,10 +37,10 @@ returns-then-is_end c =
     let is-end = c.is_end in
     let if1 = c.if-is_end in
     let moved = c.moved in
-    let carrying_fields = c.carrying_fields in
+    let with_fields = c.with_fields in
     let i = loop.invariant.1 in
     let m = moved.ensures in
-    let d = carrying_fields.ensures in
+    let d = with_fields.ensures in
     record {
       gives =
           turn_done loop.invariant.0 (omega (arith, i.here, i.tokens)) (λ rs p. token _ token_at.ensures
@@ -57,8 +58,8 @@ group_start-b-requires c =
     let token_at = c.token_at-t in
     omega (arith, loop.invariant.1.here, loop.invariant.1.tokens, token_at.ensures.inside)
 
-pub read_group-r-requires : goal.read_group-r-requires
-read_group-r-requires c =
+pub read_group-requires : goal.read_group-requires
+read_group-requires c =
     let loop = c.loop-scan in
     let token_at = c.token_at-t in
     let group-start = c.group_start-b in
@@ -66,16 +67,17 @@ read_group-r-requires c =
     let g = group-start.ensures in
     (record { tokens = i.tokens; table = i.table; list = i.list; here = omega (arith, g.near, i.here, token_at.ensures.inside); few = omega (arith, g.count, i.few) }, omega (arith, g.past, loop.invariant.2), loop.invariant.3)
 
-pub returns-in_default : goal.returns-in_default
-returns-in_default c =
+pub returns-in_err-a : goal.returns-in_err-a
+returns-in_err-a c =
     let loop = c.loop-scan in
     let token_at = c.token_at-t in
     let is-end = c.is_end in
     let if1 = c.if-is_end in
     let group-start = c.group_start-b in
-    let read_group = c.read_group-r in
+    let read_group = c.read_group in
     let i = loop.invariant.1 in
-    let y = c.in_default.is in
+    let y = c.in_err-a.was in
+    rw (passed c.from_residual.ensures.1 y)
     record {
       gives =
           turn_refused loop.invariant.0 (omega (arith, i.here, i.tokens)) (λ rs p. turn_group _ rs
@@ -88,9 +90,9 @@ pub loop-scan-smaller : goal.loop-scan-smaller
 loop-scan-smaller c =
     let loop = c.loop-scan in
     let group-start = c.group_start-b in
-    let read_group = c.read_group-r in
+    let read_group = c.read_group in
     let x = loop.invariant.0 in
-    let w = went (read_group.ensures x.x x.holds).onward c.in-Next.is in
+    let w = went (read_group.ensures x.x x.holds).onward c.in_ok-a.was in
     omega (arith, w.past, w.within, group-start.ensures.past, loop.invariant.1.tokens)
 
 pub loop-scan-preserved : goal.loop-scan-preserved
@@ -100,15 +102,15 @@ loop-scan-preserved c =
     let is-end = c.is_end in
     let if1 = c.if-is_end in
     let group-start = c.group_start-b in
-    let read_group = c.read_group-r in
+    let read_group = c.read_group in
     let x = loop.invariant.0 in
     let i = loop.invariant.1 in
     let g = read_group.ensures x.x x.holds in
-    let w = went g.onward c.in-Next.is in
-    let f = (went_on g.gives c.in-Next.is).is.1 in (
+    let w = went g.onward c.in_ok-a.was in
+    let f = (went_on g.gives c.in_ok-a.was).is.1 in (
       turn_again x (omega (arith, i.here, i.tokens)) (λ rs p. turn_group _ rs
           token_at.ensures (end_test is-end.ensures rs p.many if1.false) group-start.ensures
-          (on _ (read_group.ensures rs p).gives c.in-Next.is (λ rs' q. returned (again rs') q.ranges)))
+          (on _ (read_group.ensures rs p).gives c.in_ok-a.was (λ rs' q. returned (again rs') q.ranges)))
           (omega (arith, w.past, group-start.ensures.past)),
       still i read_group.auto.names read_group.auto.words w
           (omega arith),

@@ -1,3 +1,4 @@
+use Rattle.read_state.proofs.Going.{passed}
 use borrow.Author.Tests.{eq-eqb, ne_eqb}
 use native.Mathlib.Omega.{arith}
 use mathlib.Core.Path.{◌∙◌, refl, sym}
@@ -14,18 +15,19 @@ loop-a-init c =
     let pre = c.requires in
     (naming_start _ _ pre.1, pre.0)
 
-pub fresh-r-requires : goal.fresh-r-requires
-fresh-r-requires c =
+pub fresh-requires : goal.fresh-requires
+fresh-requires c =
     let loop = c.loop-a in
     loop.invariant.1
 
-pub returns-in_default : goal.returns-in_default
+pub returns-in_err-a : goal.returns-in_err-a
 unfolding field_turn
-returns-in_default c =
+returns-in_err-a c =
     let loop = c.loop-a in
     let full = c.full in
-    let fresh = c.fresh-r in
-    let y = c.in_default.is in
+    let fresh = c.fresh in
+    let y = c.in_err-a.was in
+    rw (passed c.from_residual.ensures.1 y)
     let i = loop.invariant.1 in
     record {
       gives =
@@ -36,38 +38,39 @@ returns-in_default c =
 
 pub overflow_sub-a : goal.overflow_sub-a
 overflow_sub-a c =
-    let fresh = c.fresh-r in
-    omega (arith, (went fresh.ensures.onward c.in-Next.is).past)
+    let fresh = c.fresh in
+    omega (arith, (went fresh.ensures.onward c.in_ok-a.was).past)
 
 pub declare-b-requires : goal.declare-b-requires
 declare-b-requires c =
     let loop = c.loop-a in
-    let fresh = c.fresh-r in
+    let fresh = c.fresh in
     let i = loop.invariant.1 in
-    (i.tokens, i.table, omega (arith, (went fresh.ensures.onward c.in-Next.is).few), i.list)
+    (i.tokens, i.table, omega (arith, (went fresh.ensures.onward c.in_ok-a.was).few), i.list)
 
-pub forbid-q-requires : goal.forbid-q-requires
-forbid-q-requires c =
+pub forbid-requires : goal.forbid-requires
+forbid-requires c =
     let loop = c.loop-a in
-    let fresh = c.fresh-r in
+    let fresh = c.fresh in
     let declare = c.declare-b in
     let i = loop.invariant.1 in
-    (i.tokens, i.table, omega (arith, (went fresh.ensures.onward c.in-Next.is).within, declare.ensures.at))
+    (i.tokens, i.table, omega (arith, (went fresh.ensures.onward c.in_ok-a.was).within, declare.ensures.at))
 
-pub returns-in_default-q : goal.returns-in_default-q
+pub returns-in_err-f : goal.returns-in_err-f
 unfolding field_turn
-returns-in_default-q c =
+returns-in_err-f c =
     let loop = c.loop-a in
     let full = c.full in
-    let fresh = c.fresh-r in
+    let fresh = c.fresh in
     let declare = c.declare-b in
-    let forbid = c.forbid-q in
-    let y = c.in_default-q.is in
+    let forbid = c.forbid in
+    let y = c.in_err-f.was in
+    rw (passed c.from_residual-in_err-f.ensures.1 y)
     let i = loop.invariant.1 in
     record {
       gives =
           turn_refused loop.invariant.0.turning (omega (arith, i.here, i.tokens)) (with_this _ _
-          (on_told _ (field_name loop.n full.ensures fresh.ensures.gives) c.in-Next.is (on _
+          (on_told _ (field_name loop.n full.ensures fresh.ensures.gives) c.in_ok-a.was (on _
           (declared _ _ _ declare.ensures) refl (λ _ _. off _ (forbid.ensures.gives _ _) y)))) y;
       onward = nowhere y;
     }
@@ -82,29 +85,30 @@ token_at-t-requires c =
     let loop = c.loop-a in
     let i = loop.invariant.1 in (i.tokens, i.table)
 
-pub expect-p-requires : goal.expect-p-requires
-expect-p-requires c =
+pub expect-requires : goal.expect-requires
+expect-requires c =
     let loop = c.loop-a in
     let i = loop.invariant.1 in (i.tokens, i.table, omega arith)
 
-pub returns-in_default-p : goal.returns-in_default-p
+pub returns-in_err-d : goal.returns-in_err-d
 unfolding field_turn
-returns-in_default-p c =
+returns-in_err-d c =
     let loop = c.loop-a in
     let full = c.full in
-    let fresh = c.fresh-r in
+    let fresh = c.fresh in
     let declare = c.declare-b in
-    let forbid = c.forbid-q in
+    let forbid = c.forbid in
     let token_at = c.token_at-t in
     let if1 = c.if-t-ne-COMMA in
-    let expect = c.expect-p in
-    let y = c.in_default-p.is in
+    let expect = c.expect in
+    let y = c.in_err-d.was in
+    rw (passed c.from_residual-in_err-d.ensures.1 y)
     let i = loop.invariant.1 in
     record {
       gives =
           turn_refused loop.invariant.0.turning (omega (arith, i.here, i.tokens)) (with_this _ _
-          (on_told _ (field_name loop.n full.ensures fresh.ensures.gives) c.in-Next.is (on _
-          (declared _ _ _ declare.ensures) refl (λ _ _. on _ (forbid.ensures.gives _ _) c.in-Next-q.is (λ _ _. token _
+          (on_told _ (field_name loop.n full.ensures fresh.ensures.gives) c.in_ok-a.was (on _
+          (declared _ _ _ declare.ensures) refl (λ _ _. on _ (forbid.ensures.gives _ _) c.in_ok-f.was (λ _ _. token _
           token_at.ensures (other _ _ (ne_eqb _ _ if1.true) (off _ (expect.ensures.gives _ _) y))))))) y;
       onward = nowhere y;
     }
@@ -114,27 +118,27 @@ unfolding field_turn
 returns-then-t-ne-COMMA c =
     let loop = c.loop-a in
     let full = c.full in
-    let fresh = c.fresh-r in
+    let fresh = c.fresh in
     let declare = c.declare-b in
-    let forbid = c.forbid-q in
+    let forbid = c.forbid in
     let token_at = c.token_at-t in
     let if1 = c.if-t-ne-COMMA in
-    let expect = c.expect-p in
-    let carrying_fields = c.carrying_fields in
+    let expect = c.expect in
+    let with_fields = c.with_fields in
     let i = loop.invariant.1 in
     let w = loop.invariant.0 in
-    let m = carrying_fields.ensures in
-    let a = went fresh.ensures.onward c.in-Next.is in
+    let m = with_fields.ensures in
+    let a = went fresh.ensures.onward c.in_ok-a.was in
     let d = declare.ensures in
-    let b = went forbid.ensures.onward c.in-Next-q.is in
-    let e = went expect.ensures.onward c.in-Next-p.is in
-    let l = taken loop.n full.ensures fresh.ensures.gives c.in-Next.is in
+    let b = went forbid.ensures.onward c.in_ok-f.was in
+    let e = went expect.ensures.onward c.in_ok-d.was in
+    let l = taken loop.n full.ensures fresh.ensures.gives c.in_ok-a.was in
     record {
       gives =
           turn_done w.turning (omega (arith, i.here, i.tokens)) (with_this _ _
-          (on_told _ (field_name loop.n full.ensures fresh.ensures.gives) c.in-Next.is (on _ (declared _ _ _ d) refl
-          (λ _ _. on _ (forbid.ensures.gives _ _) c.in-Next-q.is (λ _ _. token _ token_at.ensures (other _ _ (ne_eqb _ _ if1.true)
-          (on _ (expect.ensures.gives _ _) c.in-Next-p.is (λ _ _. carried (done _) m
+          (on_told _ (field_name loop.n full.ensures fresh.ensures.gives) c.in_ok-a.was (on _ (declared _ _ _ d) refl
+          (λ _ _. on _ (forbid.ensures.gives _ _) c.in_ok-f.was (λ _ _. token _ token_at.ensures (other _ _ (ne_eqb _ _ if1.true)
+          (on _ (expect.ensures.gives _ _) c.in_ok-d.was (λ _ _. carried (done _) m
           (record { is = sym m.fields; more = omega (arith, w.more, m.fields); few = omega (arith, l, m.fields); far = omega (arith, w.far, m.fields, m.at, a.past, d.at, b.past, e.past) })))))))));
       onward =
           goes_on (omega (arith, w.far, w.more, m.at, a.past, d.at, b.past, e.past)) (omega (arith, m.at, e.within))
@@ -151,37 +155,37 @@ moved-here-requires c =
 pub loop-a-smaller : goal.loop-a-smaller
 loop-a-smaller c =
     let loop = c.loop-a in
-    let fresh = c.fresh-r in
+    let fresh = c.fresh in
     let declare = c.declare-b in
-    let forbid = c.forbid-q in
+    let forbid = c.forbid in
     let token_at = c.token_at-t in
     let if1 = c.if-t-ne-COMMA in
     let moved = c.moved-here in
-    omega (arith, moved.ensures.at, (went fresh.ensures.onward c.in-Next.is).past, declare.ensures.at, (went forbid.ensures.onward c.in-Next-q.is).past, loop.invariant.1.tokens, token_at.ensures.inside, if1.false)
+    omega (arith, moved.ensures.at, (went fresh.ensures.onward c.in_ok-a.was).past, declare.ensures.at, (went forbid.ensures.onward c.in_ok-f.was).past, loop.invariant.1.tokens, token_at.ensures.inside, if1.false)
 
 pub loop-a-preserved : goal.loop-a-preserved
 unfolding field_turn
 loop-a-preserved c =
     let loop = c.loop-a in
     let full = c.full in
-    let fresh = c.fresh-r in
+    let fresh = c.fresh in
     let declare = c.declare-b in
-    let forbid = c.forbid-q in
+    let forbid = c.forbid in
     let token_at = c.token_at-t in
     let if1 = c.if-t-ne-COMMA in
     let moved = c.moved-here in
     let i = loop.invariant.1 in
     let w = loop.invariant.0 in
     let m = moved.ensures in
-    let a = went fresh.ensures.onward c.in-Next.is in
+    let a = went fresh.ensures.onward c.in_ok-a.was in
     let d = declare.ensures in
-    let b = went forbid.ensures.onward c.in-Next-q.is in
-    let l = taken loop.n full.ensures fresh.ensures.gives c.in-Next.is in (
+    let b = went forbid.ensures.onward c.in_ok-f.was in
+    let l = taken loop.n full.ensures fresh.ensures.gives c.in_ok-a.was in (
       record {
         turning =
             turn_again w.turning (omega (arith, i.here, i.tokens)) (with_this _ _
-            (on_told _ (field_name loop.n full.ensures fresh.ensures.gives) c.in-Next.is (on _ (declared _ _ _ d) refl
-            (λ _ _. on _ (forbid.ensures.gives _ _) c.in-Next-q.is (λ _ _. token _ token_at.ensures (so _ _ (eq-eqb _ _ if1.false)
+            (on_told _ (field_name loop.n full.ensures fresh.ensures.gives) c.in_ok-a.was (on _ (declared _ _ _ d) refl
+            (λ _ _. on _ (forbid.ensures.gives _ _) c.in_ok-f.was (λ _ _. token _ token_at.ensures (so _ _ (eq-eqb _ _ if1.false)
             (on _ (advanced m) refl (λ _ _. returned (again _) refl)))))))) (omega (arith, m.at, a.past, d.at, b.past));
         more = omega (arith, w.more);
         few = omega (arith, l);

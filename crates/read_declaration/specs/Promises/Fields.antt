@@ -1,15 +1,16 @@
 -- What reading the cell declaration promises: how the fields follow from the code's place of reading and the word table.
-use Rattle.std.specs.Prelude.{◌≡◌, Bool, true, ◌&&◌, List, ℕ, ◌+◌, ◌*◌, ◌≤◌, ◌<◌, min, length, get_or, eqb, leb, ltb, ℤ, if◌then◌else◌}
+use Rattle.std.specs.Prelude.{◌≡◌, Bool, true, ◌&&◌, List, ℕ, ◌+◌, ◌*◌, ◌≤◌, ◌<◌, min, length, get_or, eqb, leb, ltb, ℤ, if◌then◌else◌, Result, Ok, Err}
 use Rattle.value.specs.Limits.{most_dims, most_fields}
 use Rattle.value.specs.Worked.{decode_of, encode_of}
 use Rattle.token.specs.declared.Token.{Token}
 use Rattle.token.specs.Kind.{keyword}
 use Rattle.names.specs.Names.{name_kind}
 use Rattle.program.specs.Syntax.{Range, no_range}
+use Rattle.program.specs.Refusal.{Refusal}
 use Rattle.program.specs.Promises.Ranges.{range_at}
 use Rattle.grammar.specs.Reader.{is_kind}
 use Rattle.grammar.specs.Source.{Declared, with_ranges}
-use Rattle.read_state.specs.Promises.Reading.{moved_of, carrying_number}
+use Rattle.read_state.specs.Promises.Reading.{Read, moved_of, carrying_number}
 use Rattle.read_state.specs.declared.Reading.{Reading}
 use Rattle.read_declaration.specs.declared.CellRead.{CellRead}
 
@@ -30,9 +31,9 @@ pub record Ranges (words : List ℕ) (base : ℕ) (ranges : List Range) (n : ℕ
   pub many : length ranges ≡ n
   pub stand : (k : ℕ) → k < n → range_at words (base + k) ≡ get_or ranges k no_range
 
--- the fields read so far: their number, one at least and eight at most, in `fields`, and whether they are named (1) or not (0) in `named`;
+-- the fields read so far: their number, one at least and eight at most, in `fields`, and whether they are named in `named`;
 -- there is a token for each behind position `base`
-pub record Fields (words : List ℕ) (base flag : ℕ) (got : List Range) (t : Reading) : Type 0 where
+pub record Fields (words : List ℕ) (base : ℕ) (flag : Bool) (got : List Range) (t : Reading) : Type 0 where
   pub ranges : Ranges words base got t.fields
   pub some : 1 ≤ t.fields
   pub few : t.fields ≤ most_fields
@@ -64,7 +65,7 @@ pub record Dims (z : ℤ) (t : Reading) : Type 0 where
 -- what is declared of a cell, with the number of fields and whether they are named beside the place of reading
 pub record Fielded (words : List ℕ) (base : ℕ) (z : ℤ) (d : Declared) (t : Reading) : Type 0 where
   pub dims : d.cell.dims ≡ encode_of z
-  pub named : d.cell.named ≡ eqb t.named 1
+  pub named : d.cell.named ≡ t.named
   pub ranges : Ranges words base d.fields t.fields
   pub some : 1 ≤ t.fields
   pub few : t.fields ≤ most_fields
@@ -80,6 +81,16 @@ pub record DeclaresField (words : List ℕ) (c : CellRead) (d : Declared) (t : R
   pub some : 1 ≤ c.fields
   pub few : c.fields ≤ most_fields
   pub room : c.base + c.fields < t.at
+
+-- how the reading of the cell declaration ends
+abbrev pub next_in : Result CellRead Refusal → Read
+next_in (Ok c) = Ok c.next
+next_in (Err e) = Err e
+
+-- what is declared, of a cell declaration that was read
+abbrev pub DeclaresCell : List ℕ → Result CellRead Refusal → Declared → Reading → Type 0
+DeclaresCell words (Ok c) d t = DeclaresField words c d t
+DeclaresCell words (Err e) d t = ⊥
 
 -- so many words of the table, from position i on, have the range in place of what `old` had, and those before it stay
 pub record Ranged (old : List ℕ) (i n : ℕ) (r : Range) (new : List ℕ) : Type 0 where

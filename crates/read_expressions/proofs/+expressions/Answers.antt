@@ -1,27 +1,18 @@
+use Rattle.read_state.proofs.Going.{passed}
 use mathlib.Core.Path.{refl, sym, ◌∙◌}
 use native.Mathlib.Omega.{arith}
 use lib.Dec.{eqb}
 use borrow.Author.Tests.{eq-eqb, ne_eqb}
 use Rattle.grammar.specs.Expressions.{left_part, climb}
 use Rattle.grammar.specs.Expressions as grammar
-use Rattle.read_state.proofs.Steps.{went_on, no_further, on, on_told, off, made, so, other, token, stated, found_it, missed_it, below_slot, refused, advanced, noted, used}
+use Rattle.read_state.proofs.Steps.{went_on, no_further, on, on_told, off, made, so, other, token, stated, found_it, missed_it, refused, advanced, noted, used}
 use Rattle.read_state.proofs.Turns.{turn_first, turn_again, turn_done, turn_refused}
 use Rattle.read_state.proofs.Going.{nowhere, went, goes_on, further}
 use Rattle.token.proofs.Levels.{level_few}
-use Rattle.read_expressions.proofs.Levels.{operator_inside}
+use Rattle.read_expressions.proofs.Levels.{operator_inside, unary_token}
 use Rattle.read_expressions.proofs.Operands.{looked, either, operand_by, closed, entered}
 use Rattle.read_expressions.proofs.Operators.{climbed, turn_ends, turn_clashes, turn_right}
 use Rattle.read_expressions.proofs.+expressions.Goals as goal
-
-pub array_use-token_at-t-requires : goal.array_use-token_at-t-requires
-array_use-token_at-t-requires t c =
-    (c.requires.tokens, c.requires.table)
-
-pub array_use-read_element-requires : goal.array_use-read_element-requires
-array_use-read_element-requires t c =
-    let token_at = c.token_at-t in
-    let if1 = c.if-t-eq-BRACKET in
-    (omega (arith, c.decreases), (c.requires, omega (arith, token_at.ensures.inside, if1.true)))
 
 pub array_use-returns-then-t-eq-BRACKET : goal.array_use-returns-then-t-eq-BRACKET
 unfolding grammar.array_use
@@ -30,15 +21,6 @@ array_use-returns-then-t-eq-BRACKET t c =
     let if1 = c.if-t-eq-BRACKET in
     let read_element = c.read_element in
     λ e. record { gives = token _ token_at.ensures (so _ _ (eq-eqb _ _ if1.true) (read_element.ensures e).gives); onward = further (read_element.ensures e).onward (omega arith) (omega arith) }
-
-pub array_use-noting-requires : goal.array_use-noting-requires
-array_use-noting-requires t c =
-    (c.requires.tokens, c.requires.table)
-
-pub array_use-plain-requires : goal.array_use-plain-requires
-array_use-plain-requires t c =
-    let noting = c.noting in
-    (c.requires.tokens, c.requires.table, omega (arith, noting.ensures.at, c.requires.here))
 
 pub array_use-returns : goal.array_use-returns
 unfolding grammar.array_use
@@ -49,20 +31,6 @@ array_use-returns t c =
     let plain = c.plain in
     let n = noting.ensures in
     λ e. record { gives = token _ token_at.ensures (other _ _ (ne_eqb _ _ if1.false) (made _ (on _ (noted _ n) refl (λ _ _. plain.ensures.gives _ _)) (λ _ _ _. tt))); onward = further plain.ensures.onward (omega (arith, n.at)) (omega (arith, n.count)) }
-
-pub name_use-entry_in-e-requires : goal.name_use-entry_in-e-requires
-name_use-entry_in-e-requires t c =
-    (omega (arith, c.requires.2, c.requires.0.few), c.requires.0.list)
-
-pub name_use-use_name-a-requires : goal.name_use-use_name-a-requires
-name_use-use_name-a-requires t c =
-    (c.requires.0.table, omega (arith, c.requires.1, c.requires.0.tokens))
-
-pub name_use-array_use-requires : goal.name_use-array_use-requires
-name_use-array_use-requires t c =
-    let use_name = c.use_name-a in
-    let u = use_name.ensures in
-    (omega (arith, c.decreases, u.at, c.requires.1), record { tokens = c.requires.0.tokens; table = use_name.auto.words ∙ c.requires.0.table; list = c.requires.0.list; here = omega (arith, u.at, c.requires.1); few = omega (arith, u.count, c.requires.0.few) })
 
 pub name_use-returns-then-e-eq-ARRAY : goal.name_use-returns-then-e-eq-ARRAY
 unfolding grammar.name_use
@@ -78,11 +46,6 @@ name_use-returns-then-e-eq-ARRAY t c =
       onward = further (array_use.ensures e).onward (omega (arith, u.at)) (omega (arith, u.count));
     }
 
-pub name_use-plain-requires : goal.name_use-plain-requires
-name_use-plain-requires t c =
-    let use_name = c.use_name-a in
-    let u = use_name.ensures in (c.requires.0.tokens, use_name.auto.words ∙ c.requires.0.table, omega (arith, u.at, c.requires.1))
-
 pub name_use-returns : goal.name_use-returns
 unfolding grammar.name_use
 name_use-returns t c =
@@ -97,125 +60,75 @@ name_use-returns t c =
       onward = further plain.ensures.onward (omega (arith, u.at)) (omega (arith, u.count));
     }
 
-pub read_bracket-refuse-requires : goal.read_bracket-refuse-requires
-read_bracket-refuse-requires t c =
-    (c.requires.0.tokens, c.requires.0.table)
-
-pub read_bracket-returns-then-free-eq0 : goal.read_bracket-returns-then-free-eq0
-read_bracket-returns-then-free-eq0 t c =
-    let if1 = c.if-free-eq0 in
-    let refuse = c.refuse in
-    let y = refuse.ensures in record { gives = closed _ _ _ if1.true y; onward = nowhere y }
-
-pub read_bracket-moved-requires : goal.read_bracket-moved-requires
-read_bracket-moved-requires t c =
-    omega (arith, c.requires.1, c.requires.0.tokens)
-
-pub read_bracket-overflow_sub-free : goal.read_bracket-overflow_sub-free
-read_bracket-overflow_sub-free t c =
-    let if1 = c.if-free-eq0 in
-    omega (arith, if1.false)
-
-pub read_bracket-read_expression-r-requires : goal.read_bracket-read_expression-r-requires
-read_bracket-read_expression-r-requires t c =
-    let moved = c.moved in
-    let m = moved.ensures in
-    (omega (arith, c.decreases, m.at, c.requires.1), (record { tokens = c.requires.0.tokens; table = c.requires.0.table; list = c.requires.0.list; here = omega (arith, m.at, c.requires.1); few = omega (arith, m.count, c.requires.0.few) }, omega arith))
-
 pub read_bracket-returns-in_default : goal.read_bracket-returns-in_default
-unfolding grammar.read_bracket
 read_bracket-returns-in_default t c =
-    let if1 = c.if-free-eq0 in
-    let moved = c.moved in
-    let read_expression = c.read_expression-r in
-    let e = c.in_default.is in record { gives = off _ (entered _ _ if1.false moved.ensures (read_expression.ensures.gives 4 (omega arith))) e; onward = nowhere e }
+    let y = c.refuse.ensures in record { gives = closed c.args.inside c.opened.ensures _ c.in_default.is y; onward = nowhere y }
 
-pub read_bracket-expect-requires : goal.read_bracket-expect-requires
-read_bracket-expect-requires t c =
-    let read_expression = c.read_expression-r in
-    (c.requires.0.tokens, read_expression.auto.words ∙ c.requires.0.table, c.requires.2)
+pub read_bracket-returns-in_err-a : goal.read_bracket-returns-in_err-a
+unfolding grammar.read_bracket
+read_bracket-returns-in_err-a t c =
+    let e = c.in_err-a.was in
+    rw (passed c.from_residual.ensures.1 e)
+    record { gives = off _ (entered c.args.inside c.opened.ensures c.in-Some.is c.moved.ensures (c.read_expression.ensures.gives 4 (omega arith))) e; onward = nowhere e }
 
 pub read_bracket-returns : goal.read_bracket-returns
 unfolding grammar.read_bracket
 read_bracket-returns t c =
-    let if1 = c.if-free-eq0 in
-    let moved = c.moved in
-    let read_expression = c.read_expression-r in
-    let expect = c.expect in
-    let m = moved.ensures in
-    let w = went read_expression.ensures.onward c.in-Next.is in
+    let m = c.moved.ensures in
+    let w = went c.read_expression.ensures.onward c.in_ok-a.was in
     record {
-      gives = on _ (entered _ _ if1.false m (read_expression.ensures.gives 4 (omega arith))) c.in-Next.is (λ _ _. made _ (expect.ensures.gives _ _) (λ _ _ _. tt));
-      onward = further expect.ensures.onward (omega (arith, m.at, w.past)) (omega (arith, m.count, w.few));
+      gives = on _ (entered c.args.inside c.opened.ensures c.in-Some.is m (c.read_expression.ensures.gives 4 (omega arith))) c.in_ok-a.was (λ _ _. made _ (c.expect.ensures.gives _ _) (λ _ _ _. tt));
+      onward = further c.expect.ensures.onward (omega (arith, m.at, w.past)) (omega (arith, m.count, w.few));
     }
 
-pub read_element-read_bracket-r-requires : goal.read_element-read_bracket-r-requires
-read_element-read_bracket-r-requires t c =
-    (omega (arith, c.decreases), (c.requires.0, c.requires.1, omega arith))
-
-pub read_element-returns-in_default : goal.read_element-returns-in_default
+pub read_element-returns-in_err-a : goal.read_element-returns-in_err-a
 unfolding grammar.read_element
-read_element-returns-in_default t c =
-    let read_bracket = c.read_bracket-r in
-    let d = c.in_default.is in λ e. record { gives = looked _ (stated _ (off _ read_bracket.ensures.gives d)); onward = nowhere d }
-
-pub read_element-forbid-requires : goal.read_element-forbid-requires
-read_element-forbid-requires t c =
-    let read_bracket = c.read_bracket-r in
-    let w = went read_bracket.ensures.onward c.in-Next.is in (c.requires.0.tokens, read_bracket.auto.words ∙ c.requires.0.table, w.within)
+read_element-returns-in_err-a t c =
+    let read_bracket = c.read_bracket in
+    let d = c.in_err-a.was in
+    rw (passed c.from_residual.ensures.1 c.in_err-a.was)
+    λ e. record { gives = looked _ (stated _ (off _ read_bracket.ensures.gives d)); onward = nowhere d }
 
 pub read_element-returns : goal.read_element-returns
 unfolding grammar.read_element
 read_element-returns t c =
-    let read_bracket = c.read_bracket-r in
+    let read_bracket = c.read_bracket in
     let forbid = c.forbid in
-    let w = went read_bracket.ensures.onward c.in-Next.is in
-    λ e. record { gives = looked _ (stated _ (on _ read_bracket.ensures.gives c.in-Next.is (λ _ _. made _ (forbid.ensures.gives _ _) (λ _ _ _. tt)))); onward = further forbid.ensures.onward (omega (arith, w.past)) w.few }
+    let w = went read_bracket.ensures.onward c.in_ok-a.was in
+    λ e. record { gives = looked _ (stated _ (on _ read_bracket.ensures.gives c.in_ok-a.was (λ _ _. made _ (forbid.ensures.gives _ _) (λ _ _ _. tt)))); onward = further forbid.ensures.onward (omega (arith, w.past)) w.few }
 
-pub read_expression-read_operand-first-requires : goal.read_expression-read_operand-first-requires
-read_expression-read_operand-first-requires t c =
-    (omega (arith, c.decreases), c.requires.0)
-
-pub read_expression-returns-in_default : goal.read_expression-returns-in_default
+pub read_expression-returns-in_err-a : goal.read_expression-returns-in_err-a
 unfolding climb
-read_expression-returns-in_default t c =
-    let read_operand = c.read_operand-first in
-    let e = c.in_default.is in record { gives = climbed _ _ (λ more h. off _ read_operand.ensures.gives e); onward = nowhere e }
+read_expression-returns-in_err-a t c =
+    let read_operand = c.read_operand in
+    let e = c.in_err-a.was in
+    rw (passed c.from_residual.ensures.1 c.in_err-a.was)
+    record { gives = climbed _ _ (λ more h. off _ read_operand.ensures.gives e); onward = nowhere e }
 
 pub read_expression-loop-scan-init : goal.read_expression-loop-scan-init
 read_expression-loop-scan-init t c =
-    let read_operand = c.read_operand-first in
-    let w = went read_operand.ensures.onward c.in-Next.is in
+    let read_operand = c.read_operand in
+    let w = went read_operand.ensures.onward c.in_ok-a.was in
     (λ more h e. turn_first (left_part e 0) refl, read_operand.auto.words ∙ c.requires.0.table, omega arith, w.within, omega arith)
-
-pub read_expression-token_at-t-requires : goal.read_expression-token_at-t-requires
-read_expression-token_at-t-requires t c =
-    let loop = c.loop-scan in
-    (c.requires.0.tokens, loop.invariant.1)
 
 pub read_expression-returns-then-own-level : goal.read_expression-returns-then-own-level
 unfolding climb
 read_expression-returns-then-own-level t c =
-    let read_operand = c.read_operand-first in
+    let read_operand = c.read_operand in
     let loop = c.loop-scan in
     let token_at = c.token_at-t in
     let level_of = c.level_of-own in
     let if1 = c.if-own-level in
-    let w = went read_operand.ensures.onward c.in-Next.is in
+    let w = went read_operand.ensures.onward c.in_ok-a.was in
     record {
-      gives = climbed _ _ (λ more h. on _ read_operand.ensures.gives c.in-Next.is (λ e _. turn_done (loop.invariant.0 more h e) (omega (arith, loop.invariant.3, c.requires.0.tokens)) (λ l p. turn_ends _ _ token_at.ensures level_of.ensures l p if1.true)));
+      gives = climbed _ _ (λ more h. on _ read_operand.ensures.gives c.in_ok-a.was (λ e _. turn_done (loop.invariant.0 more h e) (omega (arith, loop.invariant.3, c.requires.0.tokens)) (λ l p. turn_ends _ _ token_at.ensures level_of.ensures l p if1.true)));
       onward = goes_on (omega (arith, w.past, loop.invariant.2)) loop.invariant.3 (omega (arith, w.few, loop.invariant.4));
     }
-
-pub read_expression-refuse-requires : goal.read_expression-refuse-requires
-read_expression-refuse-requires t c =
-    let loop = c.loop-scan in
-    (c.requires.0.tokens, loop.invariant.1)
 
 pub read_expression-returns-then-are_relations : goal.read_expression-returns-then-are_relations
 unfolding climb
 read_expression-returns-then-are_relations t c =
-    let read_operand = c.read_operand-first in
+    let read_operand = c.read_operand in
     let loop = c.loop-scan in
     let token_at = c.token_at-t in
     let level_of = c.level_of-own in
@@ -225,7 +138,7 @@ read_expression-returns-then-are_relations t c =
     let refuse = c.refuse in
     let y = refuse.ensures in
     record {
-      gives = climbed _ _ (λ more h. on _ read_operand.ensures.gives c.in-Next.is (λ e _. turn_refused (loop.invariant.0 more h e) (omega (arith, loop.invariant.3, c.requires.0.tokens)) (λ l p. turn_clashes _ _ token_at.ensures level_of.ensures l p if1.false are_relations.ensures if2.true y) y));
+      gives = climbed _ _ (λ more h. on _ read_operand.ensures.gives c.in_ok-a.was (λ e _. turn_refused (loop.invariant.0 more h e) (omega (arith, loop.invariant.3, c.requires.0.tokens)) (λ l p. turn_clashes _ _ token_at.ensures level_of.ensures l p if1.false are_relations.ensures if2.true y) y));
       onward = nowhere y;
     }
 
@@ -242,23 +155,23 @@ read_expression-overflow_add-own t c =
     let level_of = c.level_of-own in
     omega (arith, level_few token_at.result.kind, level_of.ensures)
 
-pub read_expression-read_expression-right-requires : goal.read_expression-read_expression-right-requires
-read_expression-read_expression-right-requires t c =
-    let read_operand = c.read_operand-first in
+pub read_expression-read_expression-requires : goal.read_expression-read_expression-requires
+read_expression-read_expression-requires t c =
+    let read_operand = c.read_operand in
     let loop = c.loop-scan in
     let token_at = c.token_at-t in
     let level_of = c.level_of-own in
     let if1 = c.if-own-level in
     let moved = c.moved in
     let i = operator_inside token_at.ensures level_of.ensures (omega (arith, if1.false, c.requires.1)) in
-    let w = went read_operand.ensures.onward c.in-Next.is in
+    let w = went read_operand.ensures.onward c.in_ok-a.was in
     let m = moved.ensures in
     (omega (arith, c.decreases, w.past, loop.invariant.2, m.at, i), (record { tokens = c.requires.0.tokens; table = loop.invariant.1; list = c.requires.0.list; here = omega (arith, m.at, i); few = omega (arith, m.count, loop.invariant.4, w.few, c.requires.0.few) }, omega arith))
 
-pub read_expression-returns-in_default-right : goal.read_expression-returns-in_default-right
+pub read_expression-returns-in_err-b : goal.read_expression-returns-in_err-b
 unfolding climb
-read_expression-returns-in_default-right t c =
-    let read_operand = c.read_operand-first in
+read_expression-returns-in_err-b t c =
+    let read_operand = c.read_operand in
     let loop = c.loop-scan in
     let token_at = c.token_at-t in
     let level_of = c.level_of-own in
@@ -266,18 +179,13 @@ read_expression-returns-in_default-right t c =
     let are_relations = c.are_relations in
     let if2 = c.if-are_relations in
     let moved = c.moved in
-    let read_expression = c.read_expression-right in
-    let d = c.in_default-right.is in
+    let read_expression = c.read_expression in
+    let d = c.in_err-b.was in
+    rw (passed c.from_residual-in_err-b.ensures.1 c.in_err-b.was)
     record {
-      gives = climbed _ _ (λ more h. on _ read_operand.ensures.gives c.in-Next.is (λ e _. turn_refused (loop.invariant.0 more h e) (omega (arith, loop.invariant.3, c.requires.0.tokens)) (λ l p. no_further (turn_right _ _ token_at.ensures level_of.ensures l p if1.false are_relations.ensures if2.false moved.ensures (read_expression.ensures.gives more (omega (arith, h, if1.false)))) d) d));
+      gives = climbed _ _ (λ more h. on _ read_operand.ensures.gives c.in_ok-a.was (λ e _. turn_refused (loop.invariant.0 more h e) (omega (arith, loop.invariant.3, c.requires.0.tokens)) (λ l p. no_further (turn_right _ _ token_at.ensures level_of.ensures l p if1.false are_relations.ensures if2.false moved.ensures (read_expression.ensures.gives more (omega (arith, h, if1.false)))) d) d));
       onward = nowhere d;
     }
-
-pub read_expression-loop-scan-smaller : goal.read_expression-loop-scan-smaller
-read_expression-loop-scan-smaller t c =
-    let moved = c.moved in
-    let read_expression = c.read_expression-right in
-    let w = went read_expression.ensures.onward c.in-Next-right.is in omega (arith, w.past, w.within, moved.ensures.at, c.requires.0.tokens)
 
 pub read_expression-loop-scan-preserved : goal.read_expression-loop-scan-preserved
 unfolding climb
@@ -289,237 +197,88 @@ read_expression-loop-scan-preserved t c =
     let are_relations = c.are_relations in
     let if2 = c.if-are_relations in
     let moved = c.moved in
-    let read_expression = c.read_expression-right in
-    let w = went read_expression.ensures.onward c.in-Next-right.is in
+    let read_expression = c.read_expression in
+    let w = went read_expression.ensures.onward c.in_ok-b.was in
     let m = moved.ensures in
-    (λ more h e. turn_again (loop.invariant.0 more h e) (omega (arith, loop.invariant.3, c.requires.0.tokens)) (λ l p. went_on (turn_right _ _ token_at.ensures level_of.ensures l p if1.false are_relations.ensures if2.false m (read_expression.ensures.gives more (omega (arith, h, if1.false)))) c.in-Next-right.is) (omega (arith, w.past, m.at)), read_expression.auto.words ∙ loop.invariant.1, omega (arith, w.past, m.at, loop.invariant.2), w.within, omega (arith, w.few, m.count, loop.invariant.4))
-
-pub read_operand-token_at-requires : goal.read_operand-token_at-requires
-read_operand-token_at-requires t c =
-    (c.requires.tokens, c.requires.table)
-
-pub read_operand-moved-requires : goal.read_operand-moved-requires
-read_operand-moved-requires t c =
-    let token_at = c.token_at in
-    let is_unary = c.is_unary in
-    let if1 = c.if-is_unary in
-    omega (arith, token_at.ensures.inside, is_unary.ensures.kind if1.true, c.requires.tokens)
-
-pub read_operand-read_primary-requires : goal.read_operand-read_primary-requires
-read_operand-read_primary-requires t c =
-    let token_at = c.token_at in
-    let is_unary = c.is_unary in
-    let if1 = c.if-is_unary in
-    let moved = c.moved in
-    let m = moved.ensures in
-    (omega (arith, c.decreases, m.at), record { tokens = c.requires.tokens; table = c.requires.table; list = c.requires.list; here = omega (arith, m.at, token_at.ensures.inside, is_unary.ensures.kind if1.true); few = omega (arith, m.count, c.requires.few) })
+    (λ more h e. turn_again (loop.invariant.0 more h e) (omega (arith, loop.invariant.3, c.requires.0.tokens)) (λ l p. went_on (turn_right _ _ token_at.ensures level_of.ensures l p if1.false are_relations.ensures if2.false m (read_expression.ensures.gives more (omega (arith, h, if1.false)))) c.in_ok-b.was) (omega (arith, w.past, m.at)), read_expression.auto.words ∙ loop.invariant.1, omega (arith, w.past, m.at, loop.invariant.2), w.within, omega (arith, w.few, m.count, loop.invariant.4))
 
 pub read_operand-returns-then-is_unary : goal.read_operand-returns-then-is_unary
 unfolding grammar.read_operand
 read_operand-returns-then-is_unary t c =
-    let token_at = c.token_at in
+    let token_at = c.token_at-t in
     let is_unary = c.is_unary in
     let if1 = c.if-is_unary in
     let moved = c.moved in
     let read_primary = c.read_primary in
     let m = moved.ensures in
     record {
-      gives = operand_by _ _ (token _ token_at.ensures (so _ _ (sym is_unary.ensures.is ∙ if1.true) (made _ (on _ (advanced m) refl (λ _ _. read_primary.ensures.gives)) (λ _ _ _. tt))));
+      gives = operand_by _ _ (token _ token_at.ensures (so _ _ (unary_token _ ∙ sym is_unary.ensures ∙ if1.true) (made _ (on _ (advanced m) refl (λ _ _. read_primary.ensures.gives)) (λ _ _ _. tt))));
       onward = further read_primary.ensures.onward (omega (arith, m.at)) (omega (arith, m.count));
     }
-
-pub read_operand-read_primary-requires-2 : goal.read_operand-read_primary-requires-2
-read_operand-read_primary-requires-2 t c =
-    (omega (arith, c.decreases), c.requires)
 
 pub read_operand-returns : goal.read_operand-returns
 unfolding grammar.read_operand
 read_operand-returns t c =
-    let token_at = c.token_at in
+    let token_at = c.token_at-t in
     let is_unary = c.is_unary in
     let if1 = c.if-is_unary in
     let read-primary2 = c.read_primary-2 in
     record {
-      gives = operand_by _ _ (token _ token_at.ensures (other _ _ (sym is_unary.ensures.is ∙ if1.false) read-primary2.ensures.gives));
+      gives = operand_by _ _ (token _ token_at.ensures (other _ _ (unary_token _ ∙ sym is_unary.ensures ∙ if1.false) read-primary2.ensures.gives));
       onward = read-primary2.ensures.onward;
     }
 
-pub read_primary-token_at-t-requires : goal.read_primary-token_at-t-requires
-read_primary-token_at-t-requires t c =
-    (c.requires.tokens, c.requires.table)
-
-pub read_primary-moved-requires : goal.read_primary-moved-requires
-read_primary-moved-requires t c =
-    let token_at = c.token_at-t in
-    let if1 = c.if-t-eq-LITERAL in
-    omega (arith, token_at.ensures.inside, if1.true, c.requires.tokens)
-
-pub read_primary-returns-then-t-eq-LITERAL : goal.read_primary-returns-then-t-eq-LITERAL
+pub read_primary-returns-in-2 : goal.read_primary-returns-in-2
 unfolding grammar.read_primary
-read_primary-returns-then-t-eq-LITERAL t c =
-    let token_at = c.token_at-t in
-    let if1 = c.if-t-eq-LITERAL in
-    let moved = c.moved in
-    let m = moved.ensures in
+read_primary-returns-in-2 t c =
+    let m = c.moved.ensures in
     record {
-      gives = token _ token_at.ensures (so _ _ (eq-eqb _ _ if1.true) (made _ (advanced m) (λ _ _ _. tt)));
-      onward = goes_on (omega (arith, m.at)) (omega (arith, m.at, token_at.ensures.inside, if1.true)) (omega (arith, m.count));
+      gives = token _ c.token_at-t.ensures (rw c.in-2.is (made _ (advanced m) (λ _ _ _. tt)));
+      onward = goes_on (omega (arith, m.at)) (omega (arith, m.at, c.token_at-t.ensures.inside, c.in-2.is)) (omega (arith, m.count));
     }
 
-pub read_primary-read_bracket-requires : goal.read_primary-read_bracket-requires
-read_primary-read_bracket-requires t c =
-    let token_at = c.token_at-t in
-    let if2 = c.if-t-eq-PAREN in
-    (omega (arith, c.decreases), (c.requires, omega (arith, token_at.ensures.inside, if2.true), omega arith))
-
-pub read_primary-returns-then-t-eq-PAREN : goal.read_primary-returns-then-t-eq-PAREN
+pub read_primary-returns-in-40 : goal.read_primary-returns-in-40
 unfolding grammar.read_primary
-read_primary-returns-then-t-eq-PAREN t c =
-    let token_at = c.token_at-t in
-    let if1 = c.if-t-eq-LITERAL in
-    let if2 = c.if-t-eq-PAREN in
-    let read_bracket = c.read_bracket in
+read_primary-returns-in-40 t c =
+    let x = c.read_bracket.ensures in record { gives = token _ c.token_at-t.ensures (rw c.in-40.is x.gives); onward = x.onward }
+
+pub read_primary-returns-in-91 : goal.read_primary-returns-in-91
+unfolding grammar.read_primary
+read_primary-returns-in-91 t c =
+    let x = c.read_neighbour.ensures in record { gives = token _ c.token_at-t.ensures (rw c.in-91.is x.gives); onward = x.onward }
+
+pub read_primary-returns-in-3 : goal.read_primary-returns-in-3
+unfolding grammar.read_primary
+read_primary-returns-in-3 t c =
+    let x = c.read_own.ensures in record { gives = token _ c.token_at-t.ensures (rw c.in-3.is x.gives); onward = x.onward }
+
+pub read_primary-returns-in-4 : goal.read_primary-returns-in-4
+unfolding grammar.read_primary
+read_primary-returns-in-4 t c =
+    let m = c.moved-in-4.ensures in
+    let x = c.plain.ensures in
     record {
-      gives = token _ token_at.ensures (other _ _ (ne_eqb _ _ if1.false) (so _ _ (eq-eqb _ _ if2.true) read_bracket.ensures.gives));
-      onward = read_bracket.ensures.onward;
+      gives = token _ c.token_at-t.ensures (rw c.in-4.is (made _ (on _ (advanced m) refl (λ _ _. x.gives _ _)) (λ _ _ _. tt)));
+      onward = further x.onward (omega (arith, m.at)) (omega (arith, m.count));
     }
 
-pub read_primary-read_neighbour-requires : goal.read_primary-read_neighbour-requires
-read_primary-read_neighbour-requires t c =
-    let token_at = c.token_at-t in
-    let if3 = c.if-t-eq-BRACKET in
-    (c.requires, omega (arith, token_at.ensures.inside, if3.true))
-
-pub read_primary-returns-then-t-eq-BRACKET : goal.read_primary-returns-then-t-eq-BRACKET
+pub read_primary-returns-in_default-find_name : goal.read_primary-returns-in_default-find_name
 unfolding grammar.read_primary
-read_primary-returns-then-t-eq-BRACKET t c =
-    let token_at = c.token_at-t in
-    let if1 = c.if-t-eq-LITERAL in
-    let if2 = c.if-t-eq-PAREN in
-    let if3 = c.if-t-eq-BRACKET in
-    let read_neighbour = c.read_neighbour in
-    record {
-      gives = token _ token_at.ensures (other _ _ (ne_eqb _ _ if1.false) (other _ _ (ne_eqb _ _ if2.false) (so _ _ (eq-eqb _ _ if3.true) read_neighbour.ensures.gives)));
-      onward = read_neighbour.ensures.onward;
-    }
+read_primary-returns-in_default-find_name t c =
+    let y = c.refuse.ensures in
+    record { gives = token _ c.token_at-t.ensures (rw c.in-1.is (missed_it _ _ _ c.find_name.ensures c.in_default-find_name.is (refused _ y))); onward = nowhere y }
 
-pub read_primary-read_own-requires : goal.read_primary-read_own-requires
-read_primary-read_own-requires t c =
-    let token_at = c.token_at-t in
-    let if4 = c.if-t-eq-CELL in
-    (c.requires, omega (arith, token_at.ensures.inside, if4.true))
-
-pub read_primary-returns-then-t-eq-CELL : goal.read_primary-returns-then-t-eq-CELL
+pub read_primary-returns-in-Some : goal.read_primary-returns-in-Some
 unfolding grammar.read_primary
-read_primary-returns-then-t-eq-CELL t c =
-    let token_at = c.token_at-t in
-    let if1 = c.if-t-eq-LITERAL in
-    let if2 = c.if-t-eq-PAREN in
-    let if3 = c.if-t-eq-BRACKET in
-    let if4 = c.if-t-eq-CELL in
-    let read_own = c.read_own in
-    record {
-      gives = token _ token_at.ensures (other _ _ (ne_eqb _ _ if1.false) (other _ _ (ne_eqb _ _ if2.false) (other _ _ (ne_eqb _ _ if3.false) (so _ _ (eq-eqb _ _ if4.true) read_own.ensures.gives))));
-      onward = read_own.ensures.onward;
-    }
-
-pub read_primary-moved-requires-then-t-eq-TIME : goal.read_primary-moved-requires-then-t-eq-TIME
-read_primary-moved-requires-then-t-eq-TIME t c =
-    let token_at = c.token_at-t in
-    let if5 = c.if-t-eq-TIME in
-    omega (arith, token_at.ensures.inside, if5.true, c.requires.tokens)
-
-pub read_primary-plain-requires : goal.read_primary-plain-requires
-read_primary-plain-requires t c =
-    let token_at = c.token_at-t in
-    let if5 = c.if-t-eq-TIME in
-    let moved2 = c.moved-then-t-eq-TIME in
-    (c.requires.tokens, c.requires.table, omega (arith, moved2.ensures.at, token_at.ensures.inside, if5.true))
-
-pub read_primary-returns-then-t-eq-TIME : goal.read_primary-returns-then-t-eq-TIME
-unfolding grammar.read_primary
-read_primary-returns-then-t-eq-TIME t c =
-    let token_at = c.token_at-t in
-    let if1 = c.if-t-eq-LITERAL in
-    let if2 = c.if-t-eq-PAREN in
-    let if3 = c.if-t-eq-BRACKET in
-    let if4 = c.if-t-eq-CELL in
-    let if5 = c.if-t-eq-TIME in
-    let moved2 = c.moved-then-t-eq-TIME in
-    let plain = c.plain in
-    let m = moved2.ensures in
-    record {
-      gives = token _ token_at.ensures (other _ _ (ne_eqb _ _ if1.false) (other _ _ (ne_eqb _ _ if2.false) (other _ _ (ne_eqb _ _ if3.false) (other _ _ (ne_eqb _ _ if4.false) (so _ _ (eq-eqb _ _ if5.true) (made _ (on _ (advanced m) refl (λ _ _. plain.ensures.gives _ _)) (λ _ _ _. tt)))))));
-      onward = further plain.ensures.onward (omega (arith, m.at)) (omega (arith, m.count));
-    }
-
-pub read_primary-find_name-f-requires : goal.read_primary-find_name-f-requires
-read_primary-find_name-f-requires t c =
-    (c.requires.few, c.requires.list)
-
-pub read_primary-refuse-requires : goal.read_primary-refuse-requires
-read_primary-refuse-requires t c =
-    (c.requires.tokens, c.requires.table)
+read_primary-returns-in-Some t c =
+    let x = c.name_use.ensures in
+    record { gives = token _ c.token_at-t.ensures (rw c.in-1.is (found_it _ _ _ c.find_name.ensures c.in-Some.is x.gives)); onward = x.onward }
 
 pub read_primary-returns-in_default : goal.read_primary-returns-in_default
 unfolding grammar.read_primary
 read_primary-returns-in_default t c =
-    let token_at = c.token_at-t in
-    let if1 = c.if-t-eq-LITERAL in
-    let if2 = c.if-t-eq-PAREN in
-    let if3 = c.if-t-eq-BRACKET in
-    let if4 = c.if-t-eq-CELL in
-    let if5 = c.if-t-eq-TIME in
-    let if6 = c.if-t-eq-NAME in
-    let find_name = c.find_name-f in
-    let refuse = c.refuse in
-    let y = refuse.ensures in
+    let y = c.refuse-in_default.ensures in
     record {
-      gives = token _ token_at.ensures (other _ _ (ne_eqb _ _ if1.false) (other _ _ (ne_eqb _ _ if2.false) (other _ _ (ne_eqb _ _ if3.false) (other _ _ (ne_eqb _ _ if4.false) (other _ _ (ne_eqb _ _ if5.false) (so _ _ (eq-eqb _ _ if6.true) (missed_it _ _ _ find_name.ensures c.in_default.is (refused _ y))))))));
-      onward = nowhere y;
-    }
-
-pub read_primary-name_use-requires : goal.read_primary-name_use-requires
-read_primary-name_use-requires t c =
-    let token_at = c.token_at-t in
-    let if6 = c.if-t-eq-NAME in
-    let find_name = c.find_name-f in
-    (omega (arith, c.decreases), (c.requires, omega (arith, token_at.ensures.inside, if6.true), below_slot find_name.ensures.below c.in-At.is))
-
-pub read_primary-returns-then-t-eq-NAME : goal.read_primary-returns-then-t-eq-NAME
-unfolding grammar.read_primary
-read_primary-returns-then-t-eq-NAME t c =
-    let token_at = c.token_at-t in
-    let if1 = c.if-t-eq-LITERAL in
-    let if2 = c.if-t-eq-PAREN in
-    let if3 = c.if-t-eq-BRACKET in
-    let if4 = c.if-t-eq-CELL in
-    let if5 = c.if-t-eq-TIME in
-    let if6 = c.if-t-eq-NAME in
-    let find_name = c.find_name-f in
-    let name_use = c.name_use in
-    record {
-      gives = token _ token_at.ensures (other _ _ (ne_eqb _ _ if1.false) (other _ _ (ne_eqb _ _ if2.false) (other _ _ (ne_eqb _ _ if3.false) (other _ _ (ne_eqb _ _ if4.false) (other _ _ (ne_eqb _ _ if5.false) (so _ _ (eq-eqb _ _ if6.true) (found_it _ _ _ find_name.ensures c.in-At.is name_use.ensures.gives)))))));
-      onward = name_use.ensures.onward;
-    }
-
-pub read_primary-refuse-requires-2 : goal.read_primary-refuse-requires-2
-read_primary-refuse-requires-2 t c =
-    (c.requires.tokens, c.requires.table)
-
-pub read_primary-returns : goal.read_primary-returns
-unfolding grammar.read_primary
-read_primary-returns t c =
-    let token_at = c.token_at-t in
-    let if1 = c.if-t-eq-LITERAL in
-    let if2 = c.if-t-eq-PAREN in
-    let if3 = c.if-t-eq-BRACKET in
-    let if4 = c.if-t-eq-CELL in
-    let if5 = c.if-t-eq-TIME in
-    let if6 = c.if-t-eq-NAME in
-    let refuse2 = c.refuse-2 in
-    let y = refuse2.ensures in
-    record {
-      gives = token _ token_at.ensures (other _ _ (ne_eqb _ _ if1.false) (other _ _ (ne_eqb _ _ if2.false) (other _ _ (ne_eqb _ _ if3.false) (other _ _ (ne_eqb _ _ if4.false) (other _ _ (ne_eqb _ _ if5.false) (other _ _ (ne_eqb _ _ if6.false) (refused _ y)))))));
+      gives = token _ c.token_at-t.ensures (simp (ne_eqb c.token_at-t.result.kind 2 (λ q. omega arith), ne_eqb c.token_at-t.result.kind 40 (λ q. omega arith), ne_eqb c.token_at-t.result.kind 91 (λ q. omega arith), ne_eqb c.token_at-t.result.kind 3 (λ q. omega arith), ne_eqb c.token_at-t.result.kind 4 (λ q. omega arith), ne_eqb c.token_at-t.result.kind 1 (λ q. omega arith)) (refused _ y));
       onward = nowhere y;
     }

@@ -31,7 +31,7 @@ abbrev pub decreases-read_primary : goal.decreases-read_primary
 decreases-read_primary l = 8 * (l.scan.count - l.s.at) + 5
 
 abbrev pub invariant-read_expression-loop-scan : goal.invariant-read_expression-loop-scan
-invariant-read_expression-loop-scan at_loop = ((more : ℕ) → 5 ≤ suc more + at_loop.level → (e : Expr) → Turning (repeat turns (turn_in (operand_in (cell_as at_loop.cell) at_loop.free) at_loop.level more) (left_part e 0)) (turn_in (operand_in (cell_as at_loop.cell) at_loop.free) at_loop.level more) at_loop.source at_loop.scan at_loop.initial.here at_loop.names at_loop.initial.words (λ l. l.level ≡ at_loop.last) at_loop.here at_loop.names at_loop.words) × (length at_loop.words ≡ 16384) × (at_loop.initial.here.at ≤ at_loop.here.at) × (at_loop.here.at ≤ at_loop.scan.count) × (at_loop.here.count ≤ at_loop.initial.here.count)
+invariant-read_expression-loop-scan at_loop = ((more : ℕ) → 5 ≤ suc more + at_loop.level → (e : Expr) → Turning (repeat turns (turn_in (operand_in (cell_as at_loop.inside.cell) at_loop.inside.free) at_loop.level more) (left_part e 0)) (turn_in (operand_in (cell_as at_loop.inside.cell) at_loop.inside.free) at_loop.level more) at_loop.source at_loop.scan at_loop.initial.here at_loop.names at_loop.initial.words (λ l. l.level ≡ at_loop.last) at_loop.here at_loop.names at_loop.words) × (length at_loop.words ≡ 16384) × (at_loop.initial.here.at ≤ at_loop.here.at) × (at_loop.here.at ≤ at_loop.scan.count) × (at_loop.here.count ≤ at_loop.initial.here.count)
 
 abbrev pub decreases-read_expression-loop-scan : goal.decreases-read_expression-loop-scan
 decreases-read_expression-loop-scan l = 4097 - l.here.at

@@ -11,7 +11,7 @@ returns-in_default c =
     let token_at = c.token_at-t in
     let is_name = c.is_name in
     let if1 = c.if-is_name in
-    let find_name = c.find_name-f in
+    let find_name = c.find_name in
     let refuse = c.refuse in
     let y = refuse.ensures in
     record {
@@ -19,34 +19,20 @@ returns-in_default c =
       onward = nowhere y;
     }
 
-pub moved-requires : goal.moved-requires
-moved-requires c =
-    let pre = c.requires in
-    let token_at = c.token_at-t in
-    let is_name = c.is_name in
-    let if1 = c.if-is_name in
-    omega (arith, token_at.ensures.inside, is_name.ensures.kind if1.true, pre.tokens)
-
-pub overflow_cast-slot : goal.overflow_cast-slot
-overflow_cast-slot c =
-    let pre = c.requires in
-    let find_name = c.find_name-f in
-    omega (arith, below_slot find_name.ensures.below c.in-At.is, pre.few)
-
 pub returns-then-is_name : goal.returns-then-is_name
 unfolding field_name
 returns-then-is_name c =
     let token_at = c.token_at-t in
     let is_name = c.is_name in
     let if1 = c.if-is_name in
-    let find_name = c.find_name-f in
+    let find_name = c.find_name in
     let moved = c.moved in
-    let carrying_number = c.carrying_number in
+    let carrying_number = c.with_number in
     let m = moved.ensures in
     let k = carrying_number.ensures in
-    let l = below_slot find_name.ensures.below c.in-At.is in
+    let l = below_slot find_name.ensures.below c.in-Some.is in
     record {
-      gives = token _ token_at.ensures (so _ _ (sym is_name.ensures.is ∙ if1.true) (found_it _ _ _ find_name.ensures c.in-At.is (on _ (advanced m) refl (λ _ _. carried _ k (sym k.number, omega (arith, k.number, k.count, m.count, l))))));
+      gives = token _ token_at.ensures (so _ _ (sym is_name.ensures.is ∙ if1.true) (found_it _ _ _ find_name.ensures c.in-Some.is (on _ (advanced m) refl (λ _ _. carried _ k (sym k.number, omega (arith, k.number, k.count, m.count, l))))));
       onward = goes_on (omega (arith, m.at, k.at)) (omega (arith, m.at, k.at, token_at.ensures.inside, is_name.ensures.kind if1.true)) (omega (arith, k.count, m.count));
     }
 

@@ -1,8 +1,7 @@
 use mathlib.Core.Path.{◌∙◌, sym}
 use mathlib.Core.List.{[]}
-use native.Mathlib.Omega.{arith}
 use Rattle.grammar.specs.Expressions.{read_index}
-use Rattle.read_state.proofs.Steps.{so, other, token, found_it, missed_it, below_slot, refused}
+use Rattle.read_state.proofs.Steps.{so, other, token, found_it, missed_it, refused}
 use Rattle.read_state.proofs.Going.{nowhere}
 use Rattle.read_expressions.proofs.read_index.Goals as goal
 
@@ -12,7 +11,7 @@ returns-in_default c =
     let token_at = c.token_at-t in
     let is_name = c.is_name in
     let if1 = c.if-is_name in
-    let find_name = c.find_name-f in
+    let find_name = c.find_name in
     let refuse = c.refuse in
     let y = refuse.ensures in
     record {
@@ -20,25 +19,16 @@ returns-in_default c =
       onward = nowhere y;
     }
 
-pub named_index-requires : goal.named_index-requires
-named_index-requires c =
-    let pre = c.requires in
-    let token_at = c.token_at-t in
-    let is_name = c.is_name in
-    let if1 = c.if-is_name in
-    let find_name = c.find_name-f in
-    (pre, omega (arith, token_at.ensures.inside, is_name.ensures.kind if1.true), below_slot find_name.ensures.below c.in-At.is)
-
 pub returns-then-is_name : goal.returns-then-is_name
 unfolding read_index
 returns-then-is_name c =
     let token_at = c.token_at-t in
     let is_name = c.is_name in
     let if1 = c.if-is_name in
-    let find_name = c.find_name-f in
+    let find_name = c.find_name in
     let named_index = c.named_index in
     record {
-      gives = token _ token_at.ensures (so _ _ (sym is_name.ensures.is ∙ if1.true) (found_it _ _ _ find_name.ensures c.in-At.is (named_index.ensures _ token_at.result).gives));
+      gives = token _ token_at.ensures (so _ _ (sym is_name.ensures.is ∙ if1.true) (found_it _ _ _ find_name.ensures c.in-Some.is (named_index.ensures _ token_at.result).gives));
       onward = (named_index.ensures [] token_at.result).onward;
     }
 

@@ -1,17 +1,16 @@
 -- What the readers of expressions promise.
 use Rattle.std.specs.Prelude.{◌≡◌, Bool, true, false, ◌&&◌, ◌||◌, List, ℕ, zero, suc, ◌+◌, ◌≤◌, ◌<◌, eqb}
 use Rattle.token.specs.declared.Scan.{Scan}
-use Rattle.token.specs.declared.Token.{Token}
-use Rattle.token.specs.Kind.{operation, delimiter}
+use Rattle.token.specs.Kind.{operation}
 use Rattle.program.specs.Syntax.{Expr}
-use Rattle.grammar.specs.Reader.{Reader, refuse, is_kind, forbid}
-use Rattle.grammar.specs.Constants.{is_sign}
+use Rattle.grammar.specs.Reader.{Reader, refuse}
 use Rattle.grammar.specs.Expressions as grammar
-use Rattle.grammar.specs.Expressions.{plain, climb, levels, operand_in}
+use Rattle.grammar.specs.Expressions.{climb, levels, operand_in}
 use Rattle.read_state.specs.declared.Reading.{Reading}
-use Rattle.read_state.specs.declared.Read.{Read}
+use Rattle.read_state.specs.Promises.Reading.{Read}
 use Rattle.read_state.specs.Promises.Reading.{anything, Gives, Onward}
 use Rattle.read_expressions.specs.declared.Cell.{Cell}
+use Rattle.read_expressions.specs.declared.inside.Inside.{Inside}
 
 -- what the code's Cell stands for
 abbrev pub cell_as : Cell → grammar.Cell
@@ -20,11 +19,6 @@ cell_as cell = record { dims = cell.dims; named = cell.named }
 -- a slot of the name list, in `number`
 abbrev pub SlotIn : ℕ → Reading → Type 0
 SlotIn a t = (a ≡ t.number) × (t.number < t.count)
-
--- what may not stand where fields have no names: behind the own cell, and behind a relative index
-abbrev pub unnamed_of : Bool → Reader Unit
-unnamed_of true = plain
-unnamed_of false = forbid delimiter.dot 12
 
 -- whether one more bracket may be open, and what reads the expression in it
 abbrev pub some_free : ℕ → Bool
@@ -39,12 +33,11 @@ inner_in cell (suc free) = climb levels (operand_in cell free) 1
 abbrev pub are_relations : ℕ → ℕ → Bool
 are_relations own last = eqb own 2 && eqb last 2
 
--- whether a token is a unary operator; if so, it is no stop
-pub record Unary (t : Token) (r : Bool) : Type 0 where
-  pub is : r ≡ (is_sign t || is_kind t operation.not)
-  pub kind : r ≡ true → 1 ≤ t.kind
+-- whether a token of a kind is a unary operator
+abbrev pub is_unary : ℕ → Bool
+is_unary k = eqb k operation.plus || eqb k operation.minus || eqb k operation.not
 
 -- an expression of operators of a level or tighter: `more` levels may be entered, enough for the levels from this one on
-pub record Climbs (cell : Cell) (level free : ℕ) (source : List ℕ) (scan : Scan) (s : Reading) (ns ws : List ℕ) (r : Read) (ws' : List ℕ) : Type 0 where
-  pub gives : (more : ℕ) → 5 ≤ more + level → Gives anything (climb more (operand_in (cell_as cell) free) level) source scan s ns ws r ns ws'
+pub record Climbs (inside : Inside) (level : ℕ) (source : List ℕ) (scan : Scan) (s : Reading) (ns ws : List ℕ) (r : Read) (ws' : List ℕ) : Type 0 where
+  pub gives : (more : ℕ) → 5 ≤ more + level → Gives anything (climb more (operand_in (cell_as inside.cell) inside.free) level) source scan s ns ws r ns ws'
   pub onward : Onward s.count scan (s.at + 1) r

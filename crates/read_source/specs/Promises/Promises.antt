@@ -1,26 +1,23 @@
 -- What the core call promises.
-use Rattle.std.specs.Prelude.{◌≡◌, Bool, true, false, List, ℕ, ◌+◌, ◌≤◌, length}
+use Rattle.std.specs.Prelude.{◌≡◌, Bool, true, false, List, ℕ, ◌+◌, ◌≤◌, length, Result, Ok, Err, None}
 use Rattle.value.specs.Limits.{most_bytes, table_words, most_names, name_words}
 use Rattle.token.specs.declared.Scan.{Scan}
 use Rattle.token.specs.Kind.{kind}
 use Rattle.token.specs.Scanning.{scan, scan_of, token_in}
 use Rattle.program.specs.Syntax.{Block}
-use Rattle.program.specs.Refusal.{refusal}
+use Rattle.program.specs.Refusal.{Refusal, refusal, no_refusal}
 use Rattle.program.specs.declared.Rule.{Rule}
 use Rattle.grammar.specs.Source.{Accepted, Declared, has_kind, settled, finish, read_program}
 use Rattle.grammar.specs.Checking.{rooms_fit, SourceRead, turned_away, refused, accepted, read_source, check, words_after}
 use Rattle.grammar.specs.Promises.Flat.{names_after}
 use Rattle.grammar.specs.Promises.Traces.{Traced, accepted_by, Trace}
-use Rattle.read_state.specs.Promises.Reading.{input, state, Gives}
+use Rattle.read_state.specs.Promises.Reading.{Read, noted_in, input, state, Gives}
 use Rattle.read_state.specs.declared.Reading.{Reading}
-use Rattle.read_state.specs.declared.Read.{Read}
-use Rattle.read_state.specs.declared.Read.TheVariants.{Next, Refused}
 use Rattle.read_source.specs.declared.checking.ProgramRead.{ProgramRead}
-use Rattle.read_source.specs.declared.checking.Loaded.{Loaded}
 
 -- where reading begins
 abbrev pub begun : Reading
-begun = record { at = 0; noted = 0; place = 0; count = 0; value = 0; low = 0; number = 0; fields = 0; named = 0; more = 0 }
+begun = record { at = 0; noted = None; count = 0; value = 0; low = 0; number = 0; fields = 0; named = false; more = false }
 
 -- the accepted source's word table and name list follow from the words left and the number of names
 pub record Whole (ns ws : List ℕ) (a : Accepted) (t : Reading) : Type 0 where
@@ -31,23 +28,28 @@ pub record Whole (ns ws : List ℕ) (a : Accepted) (t : Reading) : Type 0 where
 pub record Finished (ws : List ℕ) (scan : Scan) (s : Reading) : Type 0 where
   pub stop : (token_in ws scan s.at).kind ≡ kind.stop
   pub last : (token_in ws scan s.at).value ≡ 7
-  pub clear : s.noted ≡ 0
+  pub clear : (noted_in s).number ≡ 0
 
 -- the end of a source, whatever was declared and read before it
 pub record Ends (ws : List ℕ) (scan : Scan) (s : Reading) (r : Read) : Type 0 where
   pub gives : (source ns : List ℕ) (d : Declared) (b : Block) → Gives (Whole ns ws) (finish d b) source scan s ns ws r ns ws
-  pub stays : (t : Reading) → r ≡ Next t → t ≡ s
-  pub finished : (t : Reading) → r ≡ Next t → Finished ws scan s
+  pub stays : (t : Reading) → r ≡ Ok t → t ≡ s
+  pub finished : (t : Reading) → r ≡ Ok t → Finished ws scan s
 
 -- there are no more names than the list has room for
 abbrev pub Few : Read → Type 0
-Few (Next t) = t.count ≤ most_names
-Few (Refused number place) = Unit {0}
+Few (Ok t) = t.count ≤ most_names
+Few (Err e) = Unit {0}
 
 pub record Reaches (r : Read) : Type 0 where
   pub few : Few r
 
 -- ---- what reading passes
+
+-- how the reading of a program ends
+abbrev pub end_in : Result ProgramRead Refusal → Read
+end_in (Ok p) = Ok p.next
+end_in (Err e) = Err e
 
 -- reading a program went on to t: what the code knows of it
 pub record Follows (source : List ℕ) (scan : Scan) (ns ws : List ℕ) (p : ProgramRead) (t : Reading) (ns' ws' : List ℕ) : Type 0 where
@@ -59,10 +61,10 @@ pub record Follows (source : List ℕ) (scan : Scan) (ns ws : List ℕ) (p : Pro
   pub left : trace.s₃ ≡ state t ns' ws'
 
 -- what reading a program promises
-pub record Programs (source : List ℕ) (scan : Scan) (ns ws : List ℕ) (p : ProgramRead) (ns' ws' : List ℕ) : Type 0 where
-  pub gives : Gives (Whole ns' ws') read_program source scan begun ns ws p.read ns' ws'
-  pub reaches : Reaches p.read
-  pub follows : (t : Reading) → p.read ≡ Next t → Follows source scan ns ws p t ns' ws'
+pub record Programs (source : List ℕ) (scan : Scan) (ns ws : List ℕ) (r : Result ProgramRead Refusal) (ns' ws' : List ℕ) : Type 0 where
+  pub gives : Gives (Whole ns' ws') read_program source scan begun ns ws (end_in r) ns' ws'
+  pub reaches : Reaches (end_in r)
+  pub follows : (p : ProgramRead) → r ≡ Ok p → Follows source scan ns ws p p.next ns' ws'
 
 -- ---- the core call
 
@@ -102,9 +104,15 @@ pub record Loads (source ws ns : List ℕ) (known : Bool) (rule : Rule) : Type 0
   -- else there is none
   pub none : known ≡ false → rule ≡ no_rule
 
--- a source that is not accepted, with the reply
-pub record Unloaded (n p : ℕ) (r : Loaded) : Type 0 where
-  pub number : r.number ≡ n
-  pub place : r.place ≡ p
-  pub unaccepted : r.accepted ≡ false
-  pub rule : r.rule ≡ no_rule
+-- the reply of a call that refuses, whether a source is loaded, and the rule that is
+abbrev pub refusal_in : {A : Type 0} → Result A Refusal → Refusal
+refusal_in (Ok a) = no_refusal
+refusal_in (Err e) = e
+
+abbrev pub is_loaded : Result Rule Refusal → Bool
+is_loaded (Ok rule) = true
+is_loaded (Err e) = false
+
+abbrev pub rule_in : Result Rule Refusal → Rule
+rule_in (Ok rule) = rule
+rule_in (Err e) = no_rule

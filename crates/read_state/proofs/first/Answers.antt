@@ -1,17 +1,14 @@
-use Rattle.read_state.proofs.Leaves.{Leaves}
+use mathlib.Core.Path.{refl, sym, ◌∙◌}
+use Rattle.grammar.specs.Ranking.{first_of}
+use Rattle.read_state.proofs.Leaves.{first_noted, first_new}
 use Rattle.read_state.proofs.first.Goals as goal
 
-pub returns-then-noted-eq0 : goal.returns-then-noted-eq0
-returns-then-noted-eq0 c = search Leaves
+pub returns-in-Some : goal.returns-in-Some
+returns-in-Some c = c.into-in-Some.ensures ∙ rw c.in-Some.is (sym (first_noted _ _ c.into.ensures (sym c.goes_before.ensures ∙ c.if-goes_before.true)))
 
-pub returns-then-place-p : goal.returns-then-place-p
-returns-then-place-p c = search Leaves
+pub returns-in_default : goal.returns-in_default
+returns-in_default c = rw c.in-Some.is (sym (first_new _ _ c.into.ensures (sym c.goes_before.ensures ∙ c.if-goes_before.false)))
 
-pub returns-then-rank : goal.returns-then-rank
-returns-then-rank c = search Leaves
-
-pub returns-else-rank : goal.returns-else-rank
-returns-else-rank c = search Leaves
-
-pub returns-else-place-p-2 : goal.returns-else-place-p-2
-returns-else-place-p-2 c = search Leaves
+pub returns-in_default-2 : goal.returns-in_default-2
+unfolding first_of
+returns-in_default-2 c = rw c.in_default.is refl

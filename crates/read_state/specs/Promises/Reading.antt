@@ -12,20 +12,35 @@ use Rattle.names.specs.Names.{with_entry}
 use Rattle.program.specs.Syntax as syntax
 use Rattle.program.specs.Syntax.{Range}
 use Rattle.program.specs.Table.{with_word}
-use Rattle.program.specs.Refusal.{Refusal, refusal}
+use Rattle.program.specs.Reason.{reason_number}
+use Rattle.program.specs.Refusal.{Refusal, refusal, no_refusal}
+use Rattle.program.specs.declared.reply.Reason.{Reason}
 use Rattle.grammar.specs.Ranking.{first_of, broken}
 use Rattle.grammar.specs.Reader.{Input, State, Result, ok, fail, Reader, Turn, again, done, is_name}
 use Rattle.read_state.specs.declared.Reading.{Reading}
-use Rattle.read_state.specs.declared.Read.{Read}
-use Rattle.read_state.specs.declared.Read.TheVariants.{Next, Refused}
+use Rattle.read_state.specs.declared.Note.{Note}
+use Rattle.std.specs.Prelude as rust
+use Rattle.std.specs.Prelude.{Ok, Err, Some, None}
+
+-- how a reading ends: with its state then, or with the reply that refuses
+abbrev pub Read : Type 0
+Read = rust.Result Reading Refusal
 
 -- ---- what a place of reading stands for
 
 abbrev pub input : List ℕ → Scan → Input
 input source scan = record { source = source; scan = scan }
 
+-- the refusal that is noted
+abbrev pub note_refusal : Note → Refusal
+note_refusal n = refusal (reason_number n.reason) n.place
+
+abbrev pub refusal_noted : rust.Option Note → Refusal
+refusal_noted None = no_refusal
+refusal_noted (Some note) = note_refusal note
+
 abbrev pub noted_in : Reading → Refusal
-noted_in s = refusal s.noted s.place
+noted_in s = refusal_noted s.noted
 
 -- the state that a place of reading, the name words and the word table stand for
 abbrev pub state : Reading → List ℕ → List ℕ → State
@@ -71,8 +86,8 @@ AtEnd Q (done r) t = Q r t
 -- ---- the promise
 
 abbrev pub Told : {A : Type 0} → (A → Reading → Type 0) → Result (A × State) → Read → List ℕ → List ℕ → Type 0
-Told {A} R o (Next t) ns ws = (a : A) × (R a t) × (o ≡ ok (a, state t ns ws))
-Told R o (Refused k p) ns ws = o ≡ fail k p
+Told {A} R o (Ok t) ns ws = (a : A) × (R a t) × (o ≡ ok (a, state t ns ws))
+Told R o (Err e) ns ws = o ≡ fail e.number e.place
 
 -- the code's answer r, with the words at exit, is what reader m gives on the state that the entry stands for
 pub record Gives {A : Type 0} (R : A → Reading → Type 0) (m : Reader A) (source : List ℕ) (scan : Scan) (s : Reading) (ns ws : List ℕ) (r : Read) (ns' ws' : List ℕ) : Type 0 where
@@ -80,8 +95,8 @@ pub record Gives {A : Type 0} (R : A → Reading → Type 0) (m : Reader A) (sou
 
 -- where reading went on: to position `least` at least and no further than behind the last token, with at most `top` names
 abbrev pub Goes : ℕ → Scan → ℕ → Read → Type 0
-Goes top scan least (Next t) = (least ≤ t.at) × (t.at ≤ scan.count) × (t.count ≤ top)
-Goes top scan least (Refused k p) = Unit {0}
+Goes top scan least (Ok t) = (least ≤ t.at) × (t.at ≤ scan.count) × (t.count ≤ top)
+Goes top scan least (Err e) = Unit {0}
 
 pub record Onward (top : ℕ) (scan : Scan) (least : ℕ) (r : Read) : Type 0 where
   pub goes : Goes top scan least r
@@ -113,18 +128,23 @@ pub record Passes {A : Type 0} (R : A → Reading → Type 0) (m : Reader A) (sc
 
 -- the first of two refusals, as an answer
 abbrev pub first_refused : Refusal → Refusal → Read
-first_refused a b = Refused (first_of a b).number (first_of a b).place
+first_refused a b = Err (first_of a b)
 
 -- refused by rule n at the token at position i
 abbrev pub refusing : List ℕ → Scan → Reading → ℕ → ℕ → Read
 refusing ws scan s i n = first_refused (noted_in s) (broken n (token_in ws scan i))
 
+-- the number of the rule that is broken, for a reason; 0: none
+abbrev pub rule_number : rust.Option Reason → ℕ
+rule_number None = 0
+rule_number (Some reason) = reason_number reason
+
 -- one name less
 abbrev pub released_of : Reading → Reading
-released_of s = record { at = s.at; noted = s.noted; place = s.place; count = s.count - 1; value = s.value; low = s.low; number = s.number; fields = s.fields; named = s.named; more = s.more }
+released_of s = record { at = s.at; noted = s.noted; count = s.count - 1; value = s.value; low = s.low; number = s.number; fields = s.fields; named = s.named; more = s.more }
 
 abbrev pub moved_of : Reading → Reading
-moved_of s = record { at = s.at + 1; noted = s.noted; place = s.place; count = s.count; value = s.value; low = s.low; number = s.number; fields = s.fields; named = s.named; more = s.more }
+moved_of s = record { at = s.at + 1; noted = s.noted; count = s.count; value = s.value; low = s.low; number = s.number; fields = s.fields; named = s.named; more = s.more }
 
 pub record Moved (s r : Reading) : Type 0 where
   pub is : r ≡ moved_of s
@@ -133,16 +153,16 @@ pub record Moved (s r : Reading) : Type 0 where
 
 -- what was read last stands beside the place of reading
 abbrev pub carrying_value : Reading → ℕ → ℕ → Reading
-carrying_value s v l = record { at = s.at; noted = s.noted; place = s.place; count = s.count; value = v; low = l; number = s.number; fields = s.fields; named = s.named; more = s.more }
+carrying_value s v l = record { at = s.at; noted = s.noted; count = s.count; value = v; low = l; number = s.number; fields = s.fields; named = s.named; more = s.more }
 
 abbrev pub carrying_number : Reading → ℕ → Reading
-carrying_number s n = record { at = s.at; noted = s.noted; place = s.place; count = s.count; value = s.value; low = s.low; number = n; fields = s.fields; named = s.named; more = s.more }
+carrying_number s n = record { at = s.at; noted = s.noted; count = s.count; value = s.value; low = s.low; number = n; fields = s.fields; named = s.named; more = s.more }
 
-abbrev pub carrying_fields : Reading → ℕ → ℕ → Reading
-carrying_fields s n named = record { at = s.at; noted = s.noted; place = s.place; count = s.count; value = s.value; low = s.low; number = s.number; fields = n; named = named; more = s.more }
+abbrev pub carrying_fields : Reading → ℕ → Bool → Reading
+carrying_fields s n named = record { at = s.at; noted = s.noted; count = s.count; value = s.value; low = s.low; number = s.number; fields = n; named = named; more = s.more }
 
-abbrev pub carrying_more : Reading → ℕ → Reading
-carrying_more s m = record { at = s.at; noted = s.noted; place = s.place; count = s.count; value = s.value; low = s.low; number = s.number; fields = s.fields; named = s.named; more = m }
+abbrev pub carrying_more : Reading → Bool → Reading
+carrying_more s m = record { at = s.at; noted = s.noted; count = s.count; value = s.value; low = s.low; number = s.number; fields = s.fields; named = s.named; more = m }
 
 -- r is t, which stands where s does
 pub record Carries (s t r : Reading) : Type 0 where
@@ -160,11 +180,12 @@ pub record Carries (s t r : Reading) : Type 0 where
 abbrev pub note_of : List ℕ → Scan → Reading → ℕ → Refusal
 note_of ws scan s n = first_of (noted_in s) (refusal n (token_in ws scan s.at).start)
 
-abbrev pub noted_of : Reading → Refusal → Reading
-noted_of s c = record { at = s.at; noted = c.number; place = c.place; count = s.count; value = s.value; low = s.low; number = s.number; fields = s.fields; named = s.named; more = s.more }
+abbrev pub noted_of : Reading → rust.Option Note → Reading
+noted_of s n = record { at = s.at; noted = n; count = s.count; value = s.value; low = s.low; number = s.number; fields = s.fields; named = s.named; more = s.more }
 
 pub record Noted (ws : List ℕ) (scan : Scan) (s : Reading) (n : ℕ) (r : Reading) : Type 0 where
-  pub is : r ≡ noted_of s (note_of ws scan s n)
+  pub is : r ≡ noted_of s r.noted
+  pub noted : noted_in r ≡ note_of ws scan s n
   pub at : r.at ≡ s.at
   pub count : r.count ≡ s.count
 
@@ -175,7 +196,7 @@ pub record Named (t : Token) (r : Bool) : Type 0 where
 
 -- a name is declared: its entry is written behind the others, and its slot is carried on
 abbrev pub declared_of : Reading → Reading
-declared_of s = record { at = s.at; noted = s.noted; place = s.place; count = s.count + 1; value = s.value; low = s.low; number = s.count; fields = s.fields; named = s.named; more = s.more }
+declared_of s = record { at = s.at; noted = s.noted; count = s.count + 1; value = s.value; low = s.low; number = s.count; fields = s.fields; named = s.named; more = s.more }
 
 abbrev pub entry_of : Token → ℕ → ℕ → Entry
 entry_of t k v = record { start = t.start; len = t.len; kind = k; word = v }

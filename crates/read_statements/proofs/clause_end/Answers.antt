@@ -1,8 +1,9 @@
+use Rattle.read_state.proofs.Going.{passed}
 use Rattle.read_state.proofs.Steps.{on, off, so, other, token, refused, carried}
 use Rattle.read_state.proofs.Going.{nowhere, went, goes_on, further}
-use Rattle.read_statements.specs.Promises.Promises.{ends}
+use Rattle.read_statements.specs.Promises.Promises.{is_first, ends}
 use native.Mathlib.Omega.{arith}
-use mathlib.Core.Path.{◌∙◌}
+use mathlib.Core.Path.{ap, ◌∙◌}
 use borrow.Author.Tests.{eq-eqb, ne_eqb}
 use Rattle.grammar.specs.Statements.{clause_end}
 use Rattle.read_statements.proofs.clause_end.Goals as goal
@@ -28,47 +29,43 @@ returns-then-t-eq-COMMA c =
     let y = refuse.ensures in
     record { gives = λ b h. token _ token_at.ensures (other _ _ (ne_eqb _ _ if1.false) (so _ _ (eq-eqb _ _ if2.true) (refused _ y))); onward = nowhere y }
 
-pub returns-then-first : goal.returns-then-first
+pub returns-in-First : goal.returns-in-First
 unfolding clause_end
-returns-then-first c =
+returns-in-First c =
     let pre = c.requires in
     let token_at = c.token_at-t in
     let if1 = c.if-t-eq-WHEN_WORD in
     let if2 = c.if-t-eq-COMMA in
-    let if3 = c.if-first in
-    let carrying_more = c.carrying_more in
     let p = pre in
-    let k = carrying_more.ensures in
+    let k = c.with_more.ensures in
     record {
-      gives = λ b h. token _ token_at.ensures (other _ _ (ne_eqb _ _ if1.false) (other _ _ (ne_eqb _ _ if2.false) (so _ _ (h ∙ if3.true) (carried _ k (ends k.more)))));
+      gives = λ b h. token _ token_at.ensures (other _ _ (ne_eqb _ _ if1.false) (other _ _ (ne_eqb _ _ if2.false) (so _ _ (h ∙ ap is_first c.in-First.is) (carried _ k (ends k.more)))));
       onward = goes_on (omega (arith, k.at)) (omega (arith, k.at, p.here)) (omega (arith, k.count));
     }
 
-pub returns-in_default : goal.returns-in_default
+pub returns-in_err-a-in-Later : goal.returns-in_err-a-in-Later
 unfolding clause_end
-returns-in_default c =
+returns-in_err-a-in-Later c =
     let token_at = c.token_at-t in
     let if1 = c.if-t-eq-WHEN_WORD in
     let if2 = c.if-t-eq-COMMA in
-    let if3 = c.if-first in
-    let expect = c.expect-r in
+    let expect = c.expect in
+    rw (passed c.from_residual.ensures.1 c.in_err-a-in-Later.was)
     record {
-      gives = λ b h. token _ token_at.ensures (other _ _ (ne_eqb _ _ if1.false) (other _ _ (ne_eqb _ _ if2.false) (other _ _ (h ∙ if3.false) (off _ (expect.ensures.gives _ _) c.in_default.is))));
-      onward = nowhere c.in_default.is;
+      gives = λ b h. token _ token_at.ensures (other _ _ (ne_eqb _ _ if1.false) (other _ _ (ne_eqb _ _ if2.false) (other _ _ (h ∙ ap is_first c.in-Later.is) (off _ (expect.ensures.gives _ _) c.in_err-a-in-Later.was))));
+      onward = nowhere c.in_err-a-in-Later.was;
     }
 
-pub returns : goal.returns
+pub returns-in_ok-a-in-Later : goal.returns-in_ok-a-in-Later
 unfolding clause_end
-returns c =
+returns-in_ok-a-in-Later c =
     let token_at = c.token_at-t in
     let if1 = c.if-t-eq-WHEN_WORD in
     let if2 = c.if-t-eq-COMMA in
-    let if3 = c.if-first in
-    let expect = c.expect-r in
-    let carrying-more2 = c.carrying_more-2 in
-    let w = went expect.ensures.onward c.in-Next.is in
-    let k = carrying-more2.ensures in
+    let expect = c.expect in
+    let w = went expect.ensures.onward c.in_ok-a-in-Later.was in
+    let k = c.with_more-in-Later.ensures in
     record {
-      gives = λ b h. token _ token_at.ensures (other _ _ (ne_eqb _ _ if1.false) (other _ _ (ne_eqb _ _ if2.false) (other _ _ (h ∙ if3.false) (on _ (expect.ensures.gives _ _) c.in-Next.is (λ _ _. carried _ k (ends k.more))))));
+      gives = λ b h. token _ token_at.ensures (other _ _ (ne_eqb _ _ if1.false) (other _ _ (ne_eqb _ _ if2.false) (other _ _ (h ∙ ap is_first c.in-Later.is) (on _ (expect.ensures.gives _ _) c.in_ok-a-in-Later.was (λ _ _. carried _ k (ends k.more))))));
       onward = goes_on (omega (arith, w.past, k.at)) (omega (arith, w.within, k.at)) (omega (arith, w.few, k.count));
     }

@@ -1,3 +1,4 @@
+use Rattle.read_state.proofs.Going.{passed}
 use Rattle.read_state.proofs.Steps.{on, off, so, other, carried, advanced}
 use Rattle.read_state.proofs.Going.{nowhere, went, goes_on, further}
 use native.Mathlib.Omega.{arith}
@@ -17,26 +18,27 @@ returns-then-cell c =
       onward = further named_target.ensures.onward (omega (arith, m.at)) (omega (arith, m.count));
     }
 
-pub returns-in_default : goal.returns-in_default
+pub returns-in_err-b : goal.returns-in_err-b
 unfolding field_target
-returns-in_default c =
+returns-in_err-b c =
     let moved = c.moved-a in
     let if1 = c.if-cell in
-    let forbid = c.forbid-r in
+    let forbid = c.forbid in
     let m = moved.ensures in
-    record { gives = other _ _ if1.false (off _ (on _ (advanced m) refl (λ _ _. forbid.ensures.gives _ _)) c.in_default.is); onward = nowhere c.in_default.is }
+    rw (passed c.from_residual.ensures.1 c.in_err-b.was)
+    record { gives = other _ _ if1.false (off _ (on _ (advanced m) refl (λ _ _. forbid.ensures.gives _ _)) c.in_err-b.was); onward = nowhere c.in_err-b.was }
 
 pub returns : goal.returns
 unfolding field_target
 returns c =
     let moved = c.moved-a in
     let if1 = c.if-cell in
-    let forbid = c.forbid-r in
-    let carrying_number = c.carrying_number in
+    let forbid = c.forbid in
+    let carrying_number = c.with_number in
     let m = moved.ensures in
-    let w = went forbid.ensures.onward c.in-Next.is in
+    let w = went forbid.ensures.onward c.in_ok-b.was in
     let k = carrying_number.ensures in
     record {
-      gives = other _ _ if1.false (on _ (on _ (advanced m) refl (λ _ _. forbid.ensures.gives _ _)) c.in-Next.is (λ _ _. carried _ k (sym k.number)));
+      gives = other _ _ if1.false (on _ (on _ (advanced m) refl (λ _ _. forbid.ensures.gives _ _)) c.in_ok-b.was (λ _ _. carried _ k (sym k.number)));
       onward = goes_on (omega (arith, w.past, k.at, m.at)) (omega (arith, w.within, k.at)) (omega (arith, w.few, k.count, m.count));
     }

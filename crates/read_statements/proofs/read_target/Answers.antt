@@ -1,3 +1,4 @@
+use Rattle.read_state.proofs.Going.{passed}
 use Rattle.program.specs.Syntax.{to_field, to_variable}
 use Rattle.read_state.specs.Promises.Reading.{InNumber}
 use Rattle.read_state.proofs.Steps.{on, on_told, off, made, so, other, token, refused, carried}
@@ -29,35 +30,31 @@ returns-then-t-eq-CELL c =
       onward = further field_target.ensures.onward (omega arith) pre.0.few;
     }
 
-pub returns-in_default : goal.returns-in_default
+pub returns-in_err-a : goal.returns-in_err-a
 unfolding read_target
-returns-in_default c =
+returns-in_err-a c =
     let token_at = c.token_at-t in
     let if1 = c.if-t-eq-TIME in
     let if2 = c.if-t-eq-CELL in
-    let variable-target = c.variable_target-r in
+    let variable-target = c.variable_target in
+    rw (passed c.from_residual.ensures.1 c.in_err-a.was)
     record {
-      gives = token _ token_at.ensures (other _ _ (ne_eqb _ _ if1.false) (other _ _ (ne_eqb _ _ if2.false) (off {R = InNumber} _ (off _ variable-target.ensures.gives c.in_default.is) c.in_default.is)));
-      onward = nowhere c.in_default.is;
+      gives = token _ token_at.ensures (other _ _ (ne_eqb _ _ if1.false) (other _ _ (ne_eqb _ _ if2.false) (off {R = InNumber} _ (off _ variable-target.ensures.gives c.in_err-a.was) c.in_err-a.was)));
+      onward = nowhere c.in_err-a.was;
     }
 
-pub forbid-q-requires : goal.forbid-q-requires
-forbid-q-requires c =
-    let pre = c.requires in
-    let variable-target = c.variable_target-r in
-    let p = pre.0 in let w = went variable-target.ensures.onward c.in-Next.is in (p.tokens, p.table, w.within)
-
-pub returns-in_default-q : goal.returns-in_default-q
+pub returns-in_err-b : goal.returns-in_err-b
 unfolding read_target
-returns-in_default-q c =
+returns-in_err-b c =
     let token_at = c.token_at-t in
     let if1 = c.if-t-eq-TIME in
     let if2 = c.if-t-eq-CELL in
-    let variable-target = c.variable_target-r in
-    let forbid = c.forbid-q in
+    let variable-target = c.variable_target in
+    let forbid = c.forbid in
+    rw (passed c.from_residual-in_err-b.ensures.1 c.in_err-b.was)
     record {
-      gives = token _ token_at.ensures (other _ _ (ne_eqb _ _ if1.false) (other _ _ (ne_eqb _ _ if2.false) (off {R = InNumber} _ (on_told _ variable-target.ensures.gives c.in-Next.is (off _ (forbid.ensures.gives _ _) c.in_default-q.is)) c.in_default-q.is)));
-      onward = nowhere c.in_default-q.is;
+      gives = token _ token_at.ensures (other _ _ (ne_eqb _ _ if1.false) (other _ _ (ne_eqb _ _ if2.false) (off {R = InNumber} _ (on_told _ variable-target.ensures.gives c.in_ok-a.was (off _ (forbid.ensures.gives _ _) c.in_err-b.was)) c.in_err-b.was)));
+      onward = nowhere c.in_err-b.was;
     }
 
 pub returns : goal.returns
@@ -66,13 +63,13 @@ returns c =
     let token_at = c.token_at-t in
     let if1 = c.if-t-eq-TIME in
     let if2 = c.if-t-eq-CELL in
-    let variable-target = c.variable_target-r in
-    let forbid = c.forbid-q in
-    let carrying_number = c.carrying_number in
-    let v = went variable-target.ensures.onward c.in-Next.is in
-    let w = went forbid.ensures.onward c.in-Next-q.is in
+    let variable-target = c.variable_target in
+    let forbid = c.forbid in
+    let carrying_number = c.with_number in
+    let v = went variable-target.ensures.onward c.in_ok-a.was in
+    let w = went forbid.ensures.onward c.in_ok-b.was in
     let k = carrying_number.ensures in
     record {
-      gives = token _ token_at.ensures (other _ _ (ne_eqb _ _ if1.false) (other _ _ (ne_eqb _ _ if2.false) (made {R = InNumber} to_variable (on_told _ variable-target.ensures.gives c.in-Next.is (on _ (forbid.ensures.gives _ _) c.in-Next-q.is (λ _ _. carried _ k (sym k.number)))) (λ a t p. p))));
+      gives = token _ token_at.ensures (other _ _ (ne_eqb _ _ if1.false) (other _ _ (ne_eqb _ _ if2.false) (made {R = InNumber} to_variable (on_told _ variable-target.ensures.gives c.in_ok-a.was (on _ (forbid.ensures.gives _ _) c.in_ok-b.was (λ _ _. carried _ k (sym k.number)))) (λ a t p. p))));
       onward = goes_on (omega (arith, v.past, w.past, k.at)) (omega (arith, w.within, k.at)) (omega (arith, v.few, w.few, k.count));
     }

@@ -1,4 +1,5 @@
-use Rattle.read_state.proofs.Steps.{on, on_told, off, so, other, stated, named, found_it, missed_it, below_slot, refused, carried, advanced, declared}
+use Rattle.read_state.proofs.Going.{passed}
+use Rattle.read_state.proofs.Steps.{on, on_told, off, so, other, stated, named, found_it, missed_it, refused, carried, advanced, declared}
 use Rattle.read_state.proofs.Going.{nowhere, went, goes_on}
 use native.Mathlib.Omega.{arith}
 use mathlib.Core.Path.{refl, sym, ◌∙◌}
@@ -6,78 +7,56 @@ use borrow.Author.Tests.{eq-eqb, ne_eqb}
 use Rattle.grammar.specs.Statements.{old_variable, new_variable}
 use Rattle.read_statements.proofs.variable_target.Goals as goal
 
-pub returns-in_default-r : goal.returns-in_default-r
+pub returns-in_err-a : goal.returns-in_err-a
 unfolding new_variable
-returns-in_default-r c =
-    let find_name = c.find_name-f in
-    let fresh = c.fresh-r in
-    record { gives = missed_it _ _ _ find_name.ensures c.in_default.is (off _ fresh.ensures.gives c.in_default-r.is); onward = nowhere c.in_default-r.is }
-
-pub count_variables-k-requires : goal.count_variables-k-requires
-count_variables-k-requires c =
-    let pre = c.requires in
-    let fresh = c.fresh-r in
-    let w = went fresh.ensures.onward c.in-Next.is in (omega (arith, w.few, pre.0.few), pre.0.list)
-
-pub overflow_sub-a : goal.overflow_sub-a
-overflow_sub-a c =
-    let fresh = c.fresh-r in
-    let w = went fresh.ensures.onward c.in-Next.is in omega arith
-
-pub declare-b-requires : goal.declare-b-requires
-declare-b-requires c =
-    let pre = c.requires in
-    let fresh = c.fresh-r in
-    let p = pre.0 in let w = went fresh.ensures.onward c.in-Next.is in (p.tokens, p.table, omega arith, p.list)
+returns-in_err-a c =
+    let find_name = c.find_name in
+    let fresh = c.fresh in
+    rw (passed c.from_residual.ensures.1 c.in_err-a.was)
+    record { gives = missed_it _ _ _ find_name.ensures c.in_default.is (off _ fresh.ensures.gives c.in_err-a.was); onward = nowhere c.in_err-a.was }
 
 pub returns-in_default : goal.returns-in_default
 unfolding new_variable
 returns-in_default c =
-    let find_name = c.find_name-f in
-    let fresh = c.fresh-r in
+    let find_name = c.find_name in
+    let fresh = c.fresh in
     let count = c.count_variables-k.ensures in
     let declare = c.declare-b in
-    let k = c.carrying_number.ensures in
-    let w = went fresh.ensures.onward c.in-Next.is in
+    let k = c.with_number.ensures in
+    let w = went fresh.ensures.onward c.in_ok-a.was in
     let d = declare.ensures in
     record {
       gives =
           missed_it _ _ _ find_name.ensures c.in_default.is
-          (on_told _ fresh.ensures.gives c.in-Next.is
+          (on_told _ fresh.ensures.gives c.in_ok-a.was
           (stated _ (on _ (declared _ _ _ (rw count at d)) refl
           (λ _ _. carried _ k (sym (k.number ∙ count))))));
       onward = goes_on (omega (arith, w.past, d.at, k.at)) (omega (arith, w.within, d.at, k.at)) (omega (arith, w.few, d.count, k.count));
     }
 
-pub entry_in-e-requires : goal.entry_in-e-requires
-entry_in-e-requires c =
-    let pre = c.requires in
-    let find_name = c.find_name-f in
-    let p = pre.0 in let b = below_slot find_name.ensures.below c.in-At.is in (omega (arith, b, p.few), p.list)
-
 pub returns-then-e-eq-VARIABLE : goal.returns-then-e-eq-VARIABLE
 unfolding old_variable
 returns-then-e-eq-VARIABLE c =
     let pre = c.requires in
-    let find_name = c.find_name-f in
+    let find_name = c.find_name in
     let entry_in = c.entry_in-e in
     let if1 = c.if-e-eq-VARIABLE in
     let moved = c.moved in
-    let carrying_number = c.carrying_number-then-e-eq-VARIABLE in
+    let carrying_number = c.with_number-then-e-eq-VARIABLE in
     let p = pre in
     let m = moved.ensures in
     let k = carrying_number.ensures in
     record {
-      gives = found_it _ _ _ find_name.ensures c.in-At.is (named _ _ entry_in.ensures (so _ _ (eq-eqb _ _ if1.true) (on _ (advanced m) refl (λ _ _. carried _ k (sym k.number)))));
+      gives = found_it _ _ _ find_name.ensures c.in-Some.is (named _ _ entry_in.ensures (so _ _ (eq-eqb _ _ if1.true) (on _ (advanced m) refl (λ _ _. carried _ k (sym k.number)))));
       onward = goes_on (omega (arith, k.at, m.at)) (omega (arith, k.at, m.at, p.1)) (omega (arith, k.count, m.count, p.0.few));
     }
 
 pub returns : goal.returns
 unfolding old_variable
 returns c =
-    let find_name = c.find_name-f in
+    let find_name = c.find_name in
     let entry_in = c.entry_in-e in
     let if1 = c.if-e-eq-VARIABLE in
     let refuse = c.refuse in
     let y = refuse.ensures in
-    record { gives = found_it _ _ _ find_name.ensures c.in-At.is (named _ _ entry_in.ensures (other _ _ (ne_eqb _ _ if1.false) (refused _ y))); onward = nowhere y }
+    record { gives = found_it _ _ _ find_name.ensures c.in-Some.is (named _ _ entry_in.ensures (other _ _ (ne_eqb _ _ if1.false) (refused _ y))); onward = nowhere y }

@@ -14,9 +14,11 @@ use Rattle.grammar.specs.Expressions.{read_expression}
 use Rattle.grammar.specs.Statements.{target_number, when_clause, clause_end, Arm, read_if, read_forall, read_exit, Parts, read_block}
 use Rattle.read_state.specs.Promises.Reading.{anything, Gives, Onward}
 use Rattle.read_state.specs.declared.Reading.{Reading}
-use Rattle.read_state.specs.declared.Read.{Read}
-use Rattle.read_state.specs.declared.Read.TheVariants.{Next}
-use Rattle.read_expressions.specs.declared.Cell.{Cell}
+use Rattle.read_state.specs.Promises.Reading.{Read}
+use Rattle.std.specs.Prelude.{Ok}
+use Rattle.read_expressions.specs.declared.inside.Inside.{Inside}
+use Rattle.read_statements.specs.declared.Link.{Link}
+use Rattle.read_statements.specs.declared.Link.TheVariants.{First, Later}
 use Rattle.read_expressions.specs.Promises.Promises.{cell_as}
 
 -- ---- turns
@@ -40,13 +42,24 @@ whatever x = Unit {0}
 abbrev pub TargetNoted : Target → Reading → Type 0
 TargetNoted to t = target_number to ≡ t.number
 
--- whether a clause would be the first
-abbrev pub IsFirst : Bool → List Clause → Type 0
-IsFirst first got = eqb (length got) 0 ≡ first
+-- what reads an expression, and a list of statements
+abbrev pub expression_in : Inside → Reader Expr
+expression_in inside = read_expression (cell_as inside.cell) inside.free
 
--- whether a chain of clauses goes on, in `more`: 1 if it does
+abbrev pub block_in : Inside → Reader Block
+block_in inside = read_block (cell_as inside.cell) inside.free inside.loops
+
+-- whether a clause would be the first of its chain
+abbrev pub is_first : Link → Bool
+is_first First = true
+is_first Later = false
+
+abbrev pub IsLink : Link → List Clause → Type 0
+IsLink link got = eqb (length got) 0 ≡ is_first link
+
+-- whether a chain of clauses goes on, in `more`
 abbrev pub ChainIn : Turn (List Clause) (List Clause) → Reading → Type 0
-ChainIn = TurnIn (λ got t. (t.more ≡ 1) × IsFirst false got) (λ t. t.more ≡ 0)
+ChainIn = TurnIn (λ got t. (t.more ≡ true) × IsLink Later got) (λ t. t.more ≡ false)
 
 -- what comes before the end of a clause: the clauses before it, the token of its `:=` and its expression
 pub record StatementsBegun : Type 0 where
@@ -54,21 +67,21 @@ pub record StatementsBegun : Type 0 where
   pub token : Token
   pub expr : Expr
 
-abbrev pub when_behind : Cell → ℕ → ℕ → StatementsBegun → Reader (Turn (List Clause) (List Clause))
-when_behind cell free i b = when_clause (read_expression (cell_as cell) free) b.got i b.token b.expr
+abbrev pub when_behind : Inside → ℕ → StatementsBegun → Reader (Turn (List Clause) (List Clause))
+when_behind inside i b = when_clause (expression_in inside) b.got i b.token b.expr
 
-abbrev pub end_behind : Cell → ℕ → ℕ → StatementsBegun → Reader (Turn (List Clause) (List Clause))
-end_behind cell free i b = clause_end (read_expression (cell_as cell) free) b.got i b.token b.expr
+abbrev pub end_behind : Inside → ℕ → StatementsBegun → Reader (Turn (List Clause) (List Clause))
+end_behind inside i b = clause_end (expression_in inside) b.got i b.token b.expr
 
 -- ---- choices
 
--- nothing is said of what is read; `more` is 0
+-- nothing is said of what is read; `more` is false
 abbrev pub NoneFollows : {A : Type 0} → A → Reading → Type 0
-NoneFollows a t = t.more ≡ 0
+NoneFollows a t = t.more ≡ false
 
--- whether one more arm follows, in `more`: 1 if it does, and then a token stands there
+-- whether one more arm follows, in `more`; if it does, a token stands there
 abbrev pub ArmsIn : Scan → Turn (List Arm) (Block → Block) → Reading → Type 0
-ArmsIn scan = TurnIn (λ arms t. (t.more ≡ 1) × (t.at < scan.count)) (λ t. t.more ≡ 0)
+ArmsIn scan = TurnIn (λ arms t. (t.more ≡ true) × (t.at < scan.count)) (λ t. t.more ≡ false)
 
 -- ---- loops
 
@@ -105,7 +118,7 @@ loop_end i inner slot statement = do
 
 -- an `exit` is passed over
 pub record Exits (s : Reading) (ws : List ℕ) (r : Reading) (ws' : List ℕ) : Type 0 where
-  pub gives : (source : List ℕ) (scan : Scan) (ns : List ℕ) → Gives anything read_exit source scan s ns ws (Next r) ns ws'
+  pub gives : (source : List ℕ) (scan : Scan) (ns : List ℕ) → Gives anything read_exit source scan s ns ws (Ok r) ns ws'
   pub at : r.at ≡ s.at + 1
   pub count : r.count ≡ s.count
 
@@ -114,6 +127,9 @@ abbrev pub parts_of : grammar.Cell → ℕ → Parts
 parts_of cell zero = record { free = false; expr = read_expression cell 0; inner_expr = refuse 14; inner = λ _. refuse 14 }
 parts_of cell (suc free) =
     record { free = true; expr = read_expression cell (suc free); inner_expr = read_expression cell free; inner = read_block cell free }
+
+abbrev pub parts_in : Inside → Parts
+parts_in inside = parts_of (cell_as inside.cell) inside.free
 
 -- whether a list of statements goes on from s: if it ends there, nothing is read
 abbrev pub ListIn : Reading → Turn (Block → Block) Block → Reading → Type 0

@@ -1,11 +1,8 @@
 use mathlib.Core.Path.{◌≡◌}
 use Prim.Native.Nat.{◌≤◌}
-use lib.ListN.{length, drop}
+use lib.ListN.{drop}
 use Rattle.run_admission.specs.Promises.Admitting.{cells_of}
 use Rattle.run_admission.proofs.cells.Given as goal
 
 abbrev pub invariant-loop-k : goal.invariant-loop-k
-invariant-loop-k l = (l.k ≤ length l.sizes) × (l.total ≡ cells_of (drop l.k l.sizes)) × (l.total ≤ 1048576)
-
-abbrev pub decreases-loop-k : goal.decreases-loop-k
-decreases-loop-k l = l.k
+invariant-loop-k l = (l.total ≡ cells_of (drop l.k l.sizes)) × (l.total ≤ 1048576)

@@ -1,11 +1,5 @@
-use mathlib.Core.Path.{◌≡◌}
-use Prim.Native.Nat.{◌-◌}
-use lib.ListN.{length}
 use Rattle.run_admission.proofs.EntryLaws.{Passed}
 use Rattle.run_admission.proofs.out_of_field.Given as goal
 
 abbrev pub invariant-loop-e : goal.invariant-loop-e
-invariant-loop-e l = Passed l.words l.rule l.grid l.which l.e × (l.fields ≡ l.rule.fields)
-
-abbrev pub decreases-loop-e : goal.decreases-loop-e
-decreases-loop-e l = length l.grid - l.e
+invariant-loop-e l = Passed l.words l.rule l.grid l.which l.e

@@ -1,6 +1,7 @@
 -- What the written indices of a program come to, counted one after another.
-use Rattle.std.specs.Prelude.{◌≡◌, Bool, false, ◌&&◌, ◌||◌, List, [], ◌∷◌, ℕ, suc, max, ◌<◌, ◌≤◌, eqb, ltb, ℤ, nat_abs, length, get_or, set, replicate, if◌then◌else◌}
-use Rattle.std.proofs.Math.Option.{Option, some}
+use Rattle.std.specs.Prelude.{◌≡◌, Bool, false, ◌&&◌, ◌||◌, List, [], ◌∷◌, ℕ, suc, max, ◌<◌, eqb, ltb, ℤ, nat_abs, length, get_or, set, replicate, Option, Some, None, if◌then◌else◌}
+use Rattle.std.proofs.Math.Option as math
+use Rattle.std.proofs.Math.Option.{some}
 use Rattle.value.specs.Limits.{most_open, most_dims}
 use Rattle.automaton.specs.Shape.{Bound}
 use Rattle.token.specs.Kind.{keyword}
@@ -10,7 +11,7 @@ use Rattle.cell_meaning.specs.Promises.Stands.{rule_table}
 use Rattle.cell_meaning.specs.Promises.Listing.{written_at, written_from, Writes}
 use Rattle.cell_meaning.specs.Places.{own_place, add_relatives}
 use Rattle.run_meaning.specs.declared.Bounds.{Bounds}
-use Rattle.program.specs.Refusal.{Refusal, refusal}
+use Rattle.program.specs.Refusal.{Refusal, refusal, no_refusal}
 use Rattle.program.specs.declared.Rule.{Rule}
 use Rattle.run_meaning.specs.Admission.{too_far}
 use Rattle.run_meaning.specs.Reach.{own_only, widen, widened}
@@ -43,16 +44,21 @@ unfoldable pub tally : List ℕ → Tally → List Written → Tally
 tally sizes s [] = s
 tally sizes s (w ∷ ws) = tally sizes (tallied sizes s w) ws
 
+-- an index that is larger in size than its dimension is refused at its place
+abbrev pub far_of : Option ℕ → Refusal
+far_of None = no_refusal
+far_of (Some place) = refusal 23 place
+
 -- what a count says, in the first dimensions
 abbrev pub tally_of : Count → ℕ → Tally
-tally_of s dims = record { far = refusal s.number s.place; bounds = bounds_of s.bounds dims }
+tally_of s dims = record { far = far_of s.far; bounds = bounds_of s.bounds dims }
 
 -- ---- the survey
 
 -- the count of the elements, and the places
 pub record Found : Type 0 where
   pub tally : Tally
-  pub places : Option (List (List ℤ))
+  pub places : math.Option (List (List ℤ))
 
 -- with more relative indices
 abbrev pub found : List ℕ → ℕ → Found → List Relative → Found
@@ -60,15 +66,14 @@ found sizes dims f rs = record { tally = tally sizes f.tally (written_of rs); pl
 
 -- what a survey says, in the first dimensions
 abbrev pub survey_of : Survey → ℕ → Found
-survey_of s dims = record { tally = record { far = refusal s.number s.place; bounds = bounds_of s.reach.bounds dims }; places = places_of s.reach dims }
+survey_of s dims = record { tally = record { far = far_of s.far; bounds = bounds_of s.reach.bounds dims }; places = places_of s.reach dims }
 
 -- ---- what the walk has at hand
 
--- what is asked where so many loops are open
-pub record Walks (words : ℕ) (rule : Rule) (sizes depth : ℕ) : Type 0 where
+-- what is asked
+pub record Walks (words : ℕ) (rule : Rule) (sizes : ℕ) : Type 0 where
   pub sized : Sized words rule
   pub dims : sizes ≡ rule.dims
-  pub deep : depth ≤ most_open
 
 -- the indices that are written from a position up to another: each step leads forward, so that there is enough fuel
 abbrev pub listed_places : List ℕ → Rule → List Range → ℕ → ℕ → List Relative
@@ -83,14 +88,9 @@ pub record Wider (bounds : Bounds) (dim back ahead : ℕ) (r : Bounds) : Type 0 
 
 -- one written index is counted, with the values that two words stand for, in a dimension of a given size
 pub record Counts (s : Count) (size place dim low high : ℕ) (r : Count) : Type 0 where
-  pub far : refusal r.number r.place ≡ (if eqb s.number 0 && goes_past size (ends low high) then refusal 23 place else refusal s.number s.place)
+  pub far : far_of r.far ≡ (if eqb (far_of s.far).number 0 && goes_past size (ends low high) then refusal 23 place else far_of s.far)
   pub here : bound_at r.bounds dim ≡ widen (bound_at s.bounds dim) (ends low high)
   pub others : (k : ℕ) → k < most_dims → (k ≡ dim → ⊥) → bound_at r.bounds k ≡ bound_at s.bounds k
-
--- a word is put into a list, and the others stay
-pub record Opened (words : List ℕ) (depth word : ℕ) (r : List ℕ) : Type 0 where
-  pub here : get_or r depth 0 ≡ word
-  pub others : (k : ℕ) → (k ≡ depth → ⊥) → get_or r k 0 ≡ get_or words k 0
 
 -- what is written at a position where no loop opens is counted
 pub record CountsAt (words : List ℕ) (rule : Rule) (sizes : List ℕ) (loops : List Range) (at : ℕ) (s r : Survey) : Type 0 where
@@ -99,7 +99,7 @@ pub record CountsAt (words : List ℕ) (rule : Rule) (sizes : List ℕ) (loops :
 
 -- the survey of a program that stands in a table
 pub record Surveyed (words : List ℕ) (rule : Rule) (sizes : List ℕ) (r : Survey) : Type 0 where
-  pub far : (rs : List Relative) → Writes (rule_table words rule) [] rule.body rule.tokens rs → refusal r.number r.place ≡ too_far sizes (written_of rs)
+  pub far : (rs : List Relative) → Writes (rule_table words rule) [] rule.body rule.tokens rs → far_of r.far ≡ too_far sizes (written_of rs)
   pub bounds : (rs : List Relative) → Writes (rule_table words rule) [] rule.body rule.tokens rs
       → bounds_of r.reach.bounds rule.dims ≡ widened (replicate rule.dims own_only) (written_of rs)
   pub places : (rs : List Relative) → Writes (rule_table words rule) [] rule.body rule.tokens rs

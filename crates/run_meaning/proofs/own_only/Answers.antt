@@ -14,11 +14,11 @@ use Rattle.cell_meaning.specs.Places.{own_place}
 use Rattle.run_meaning.specs.declared.Bounds.{Bounds}
 use Rattle.run_meaning.specs.Reach.{own_only}
 use Rattle.run_meaning.proofs.Theorems.Covering.{offsets_length}
-use Rattle.run_meaning.specs.Promises.Fitting.{bound_at, bounds_of, place_at}
+use Rattle.run_meaning.specs.Promises.Fitting.{no_bound, bound_at, bounds_of, place_at}
 use Rattle.run_meaning.proofs.own_only.Goals as goal
 
 abbrev none : Bounds
-none = record { back0 = 0; ahead0 = 0; back1 = 0; ahead1 = 0; back2 = 0; ahead2 = 0 }
+none = record { dims = replicate 3 no_bound }
 
 own_bound : (k : ℕ) → bound_at none k ≡ own_only
 own_bound zero = refl
@@ -43,13 +43,13 @@ zero_index zero k = refl
 zero_index (suc dims) zero = refl
 zero_index (suc dims) (suc k) = zero_index dims k
 
-own_first : (dims : ℕ) → place_at (replicate 768 0) dims 0 ≡ own_place dims
+own_first : (dims : ℕ) → place_at (replicate 256 (replicate 3 0)) dims 0 ≡ own_place dims
 own_first dims =
-    let f : ℕ → ℤ = λ d. decode_of (get_or (replicate 768 0) (3 * 0 + d) 0) in
+    let f : ℕ → ℤ = λ d. decode_of (get_or (replicate 3 0) d 0) in
     ext_get_or (pos 0) _ _ (length_list_of f dims ∙ sym (offsets_length dims [] []))
     (λ k l.
     let m : k < dims = omega (arith, l, length_list_of f dims) in
-    get_or_list_of f dims k (pos 0) m ∙ ap decode_of (zero_word 768 (3 * 0 + k)) ∙ sym (zero_index dims k))
+    get_or_list_of f dims k (pos 0) m ∙ ap decode_of (zero_word 3 k) ∙ sym (zero_index dims k))
 
 pub returns : goal.returns
 unfolding list_of

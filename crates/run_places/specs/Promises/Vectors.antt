@@ -1,5 +1,5 @@
 -- What the functions over one relative index promise.
-use Rattle.std.specs.Prelude.{◌≡◌, Bool, true, false, List, ℕ, ◌*◌, ◌<◌, ◌≤◌, min, eqb, ltb, ℤ, pos, ◌+ℤ◌, length, get_or, if◌then◌else◌}
+use Rattle.std.specs.Prelude.{◌≡◌, Bool, true, false, List, ℕ, ◌<◌, ◌≤◌, min, eqb, ltb, ℤ, pos, ◌+ℤ◌, get_or, if◌then◌else◌}
 use Rattle.std.proofs.Math.Option.{Option, none, some}
 use Rattle.value.specs.Limits.{most_places}
 use Rattle.value.specs.Number.{in_range}
@@ -9,9 +9,10 @@ use Rattle.program.specs.Syntax.{Range, range, Index, fixed, moving}
 use Rattle.program.specs.declared.Rule.{Rule}
 use Rattle.cell_meaning.specs.Promises.Stands.{rule_table, indices_in}
 use Rattle.cell_meaning.specs.Written.{Relative}
-use Rattle.cell_meaning.specs.Places.{uses, used_ranges, choice_count, vectors_of}
+use Rattle.cell_meaning.specs.Places.{used_ranges, choice_count, vectors_of}
 use Rattle.run_meaning.specs.declared.Bounds.{Bounds}
 use Rattle.run_meaning.specs.declared.Reach.{Reach}
+use Rattle.run_places.specs.declared.loops.Loops.{Loops}
 use Rattle.run_meaning.specs.Promises.Fitting.{place_at, places_of}
 
 -- the values that the first words of a list stand for
@@ -26,31 +27,22 @@ ends low high = range (decode_of low) (decode_of high)
 abbrev pub loops_of : List ℕ → List ℕ → ℕ → List Range
 loops_of lows highs depth = list_of (λ k. ends (get_or lows k 0) (get_or highs k 0)) depth
 
+-- the ranges of open loops
+abbrev pub open_loops : Loops → List Range
+open_loops l = loops_of l.lows l.highs l.depth
+
 -- an element of a relative index is the variable of the loop at a depth
 abbrev pub is_variable : ℕ → Index → Bool
 is_variable depth (fixed place z) = false
 is_variable depth (moving place d) = eqb d depth
-
--- a word for a variable that stands in a relative index, 0 for one that does not
-abbrev pub used_word : List Index → ℕ → ℕ → ℕ
-used_word is depth word = if uses depth is then word else 0
-
-pub record Used (is : List Index) (words : List ℕ) (depth : ℕ) (r : List ℕ) : Type 0 where
-  pub each : (d : ℕ) → d < depth → get_or r d 0 ≡ used_word is d (get_or words d 0)
 
 -- how many values there are from one word's to another's, 257 for more than 256; so many from the first on are in range
 pub record Spanned (low high n : ℕ) : Type 0 where
   pub is : n ≡ min 257 (span_of (decode_of low) (decode_of high))
   pub inside : (k : ℕ) → k < n → in_range (decode_of low +ℤ pos k) ≡ true
 
--- place k of a list is set, and the places before it stay
-pub record SetPlace (dims k : ℕ) (place : List ℤ) (list list' : List ℕ) : Type 0 where
-  pub len : length list' ≡ length list
-  pub here : place_at list' dims k ≡ place
-  pub before : (j : ℕ) → j < 3 * k → get_or list' j 0 ≡ get_or list j 0
-
--- the first places of a list, if there are not more than 256
-pub record SetPlaces (dims count : ℕ) (place : ℕ → List ℤ) (list : List ℕ) : Type 0 where
+-- the first places of a list are given ones, if there are not more than 256
+pub record Vectors (dims count : ℕ) (place : ℕ → List ℤ) (list : List (List ℕ)) : Type 0 where
   pub each : count ≤ most_places → (e : ℕ) → e < count → place_at list dims e ≡ place e
 
 -- the index vectors that a relative index can take; none, if there are too many

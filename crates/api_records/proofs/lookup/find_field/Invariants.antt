@@ -1,10 +1,6 @@
-use Rattle.std.proofs.Common.{◌≡◌, ◌-◌, ◌≤◌}
 use Rattle.api_records.specs.Rows.{is_field_record}
-use Rattle.api_records.proofs.LookupLaws.{found_below}
+use Rattle.api_records.proofs.LookupLaws.{NoneBelow}
 use Rattle.api_records.proofs.lookup.find_field.Given as goal
 
 abbrev pub invariant-loop-k : goal.invariant-loop-k
-invariant-loop-k l = record { within : l.k ≤ 256; found : l.n ≡ found_below (is_field_record l.number) l.names l.k }
-
-abbrev pub decreases-loop-k : goal.decreases-loop-k
-decreases-loop-k l = 256 - l.k
+invariant-loop-k l = NoneBelow (is_field_record l.number) l.names l.k

@@ -6,7 +6,6 @@ use Rattle.api_records.proofs.rows.rows_of.Goals as goal
 pub loop-k-preserved : goal.loop-k-preserved
 loop-k-preserved c =
     record {
-      within = omega arith;
       made =
           next_row _ c.loop-k.rows c.args.flat.now c.loop-k.k _ c.loop-k-test.true c.loop-k.invariant.made c.row_at.ensures
           ∙ ap (filled (replicate 256 no_name) (rows_of c.args.flat.now)) (sym (add-one c.loop-k.k));

@@ -19,11 +19,11 @@ returns-then-number-ne0 c = band_refused (band_asked c.args.sizes.now c.args.fir
 pub returns-then-opened-ne0-2 : goal.returns-then-opened-ne0-2
 returns-then-opened-ne0-2 c = band_far (band_asked c.args.sizes.now c.args.first c.args.last c.args.held c.args.rows.now c.args.room.now c.args.time) c.open_rows-opened.ensures c.if-opened-ne0.false c.row_cells-row.ensures (read_refuses c.ranges.time c.refused_band-number.ensures) c.if-number-ne0.false c.if-opened-ne0-2.true c.refused-then-opened-ne0-2.ensures
 
-pub out_of_field-entries-requires : goal.out_of_field-entries-requires
-out_of_field-entries-requires c = let o = c.open_rows-opened.ensures.opened c.if-opened-ne0.false in (o.rule_fits, o.some_fields, rows_few (band_asked c.args.sizes.now c.args.first c.args.last c.args.held c.args.rows.now c.args.room.now c.args.time) c.open_rows-opened.ensures c.if-opened-ne0.false c.row_cells-row.ensures (read_refuses c.ranges.time c.refused_band-number.ensures) c.if-number-ne0.false c.if-opened-ne0-2.false)
+pub out_of_field-requires : goal.out_of_field-requires
+out_of_field-requires c = let o = c.open_rows-opened.ensures.opened c.if-opened-ne0.false in (o.rule_fits, o.some_fields, rows_few (band_asked c.args.sizes.now c.args.first c.args.last c.args.held c.args.rows.now c.args.room.now c.args.time) c.open_rows-opened.ensures c.if-opened-ne0.false c.row_cells-row.ensures (read_refuses c.ranges.time c.refused_band-number.ensures) c.if-number-ne0.false c.if-opened-ne0-2.false)
 
-pub returns-then-entries-ne0 : goal.returns-then-entries-ne0
-returns-then-entries-ne0 c = band_out (band_asked c.args.sizes.now c.args.first c.args.last c.args.held c.args.rows.now c.args.room.now c.args.time) c.open_rows-opened.ensures c.if-opened-ne0.false c.row_cells-row.ensures (read_refuses c.ranges.time c.refused_band-number.ensures) c.if-number-ne0.false c.if-opened-ne0-2.false c.out_of_field-entries.ensures c.if-entries-ne0.true c.refused-then-entries-ne0.ensures
+pub returns-in-Err : goal.returns-in-Err
+returns-in-Err c = band_out (band_asked c.args.sizes.now c.args.first c.args.last c.args.held c.args.rows.now c.args.room.now c.args.time) c.open_rows-opened.ensures c.if-opened-ne0.false c.row_cells-row.ensures (read_refuses c.ranges.time c.refused_band-number.ensures) c.if-number-ne0.false c.if-opened-ne0-2.false c.out_of_field.ensures c.in-Err.is c.refused-in-Err.ensures
 
 pub overflow_cast-time : goal.overflow_cast-time
 overflow_cast-time c = let t = band_time (band_asked c.args.sizes.now c.args.first c.args.last c.args.held c.args.rows.now c.args.room.now c.args.time) c.open_rows-opened.ensures c.if-opened-ne0.false c.row_cells-row.ensures (read_refuses c.ranges.time c.refused_band-number.ensures) c.if-number-ne0.false c.if-opened-ne0-2.false in subst (λ (z : ℤ). T (non_neg z) × Fits w32 (nat_abs z)) (sym (to_z-of_z c.ranges.time)) (cast_in c.args.time t.0 t.1)
@@ -32,4 +32,4 @@ pub step_lent-requires : goal.step_lent-requires
 step_lent-requires c = band_fits (band_asked c.args.sizes.now c.args.first c.args.last c.args.held c.args.rows.now c.args.room.now c.args.time) c.open_rows-opened.ensures c.if-opened-ne0.false c.row_cells-row.ensures (read_refuses c.ranges.time c.refused_band-number.ensures) c.if-number-ne0.false c.if-opened-ne0-2.false _ (ap nat_abs (to_z-of_z c.ranges.time))
 
 pub returns : goal.returns
-returns c = band_done (band_asked c.args.sizes.now c.args.first c.args.last c.args.held c.args.rows.now c.args.room.now c.args.time) c.open_rows-opened.ensures c.if-opened-ne0.false c.row_cells-row.ensures (read_refuses c.ranges.time c.refused_band-number.ensures) c.if-number-ne0.false c.if-opened-ne0-2.false c.out_of_field-entries.ensures c.if-entries-ne0.false _ (ap nat_abs (to_z-of_z c.ranges.time)) c.step_lent.ensures
+returns c = band_done (band_asked c.args.sizes.now c.args.first c.args.last c.args.held c.args.rows.now c.args.room.now c.args.time) c.open_rows-opened.ensures c.if-opened-ne0.false c.row_cells-row.ensures (read_refuses c.ranges.time c.refused_band-number.ensures) c.if-number-ne0.false c.if-opened-ne0-2.false c.out_of_field.ensures c.in_default.is _ (ap nat_abs (to_z-of_z c.ranges.time)) c.step_lent.ensures

@@ -24,4 +24,4 @@ bounds-sizes-0 c =
 
 pub returns : goal.returns
 returns c =
-    opens c.load-loaded.ensures.checks c.load-loaded.ensures.loads c.if-not-loaded.false c.right_sizes.ensures c.if-not-right_sizes.false-raw c.survey-indices.ensures c.border_rows-border.ensures refl
+    opens c.load-loaded.ensures.checks c.load-loaded.ensures.loads c.if-not-loaded.false c.right_sizes.ensures c.if-not-right_sizes.false-raw c.survey-indices.ensures c.border_rows-border.ensures c.far_refusal-far.ensures refl

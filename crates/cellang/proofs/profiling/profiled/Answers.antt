@@ -8,4 +8,4 @@ returns-then-not-row_fits c = no_row_profile c.args.list.now _ _ _ _ (ap not (sy
 
 pub returns : goal.returns
 returns c =
-    row_profile c.args.list.now _ _ _ _ _ c.check_one_move-answer.result _ _ (ap not (sym c.row_fits.ensures) ∙ c.if-not-row_fits.false-raw) c.stored-count.ensures c.check_one_move-answer.ensures c.rows_of-rows.ensures
+    row_profile c.args.list.now _ _ _ _ _ c.from-answer.result _ _ c.from-answer.ensures (ap not (sym c.row_fits.ensures) ∙ c.if-not-row_fits.false-raw) c.stored-count.ensures c.check_one_move.ensures c.rows_of-rows.ensures

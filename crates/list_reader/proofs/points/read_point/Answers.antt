@@ -1,21 +1,10 @@
-use borrow.Author.Rules.{rules}
-use Rattle.list_reader.proofs.PointLaws.{PlaceWays, PlaceBounds}
+use Rattle.list_reader.proofs.PointLaws.{place_again, place_found}
 use Rattle.list_reader.proofs.points.read_point.Goals as goal
 
-pub joined-cell-requires : goal.joined-cell-requires
-joined-cell-requires c = (search PlaceBounds, search PlaceBounds, search PlaceBounds)
-
 pub returns-then-k-sizes : goal.returns-then-k-sizes
-returns-then-k-sizes c = search PlaceWays
-
-pub returns-then-b-eq93 : goal.returns-then-b-eq93
-returns-then-b-eq93 c = search PlaceWays
-
-pub returns-then-b-ne44 : goal.returns-then-b-ne44
-returns-then-b-ne44 c = search PlaceWays
+returns-then-k-sizes c =
+    place_found c.args.sizes.now c.args.line.now c.loop-k.invariant c.in_ok-index.ensures c.loop-k-test.true c.requires c.joined-cell.ensures c.if-sign-eq93.true c.if-k-sizes.true
 
 pub loop-k-preserved : goal.loop-k-preserved
-loop-k-preserved c = (search rules, search PlaceWays, search rules, search rules)
-
-pub returns : goal.returns
-returns c = search PlaceWays
+loop-k-preserved c =
+    place_again c.args.sizes.now c.args.line.now c.loop-k.invariant c.in_ok-index.ensures c.loop-k-test.true c.requires c.joined-cell.ensures c.if-sign-ne44.false

@@ -1,17 +1,8 @@
-use Rattle.list_reader.proofs.ValueLaws.{ValueWays}
+use Rattle.list_reader.proofs.ValueLaws.{value_literal, value_signed}
 use Rattle.list_reader.proofs.values.read_value.Goals as goal
 
-pub returns-then-b-eq44 : goal.returns-then-b-eq44
-returns-then-b-eq44 c = search ValueWays
-
-pub returns-in_default : goal.returns-in_default
-returns-in_default c = search ValueWays
-
 pub returns-in-Literal : goal.returns-in-Literal
-returns-in-Literal c = search ValueWays
+returns-in-Literal c = value_literal c.args.line.now c.in_ok-n.ensures c.in-Literal.is c.decode.ensures c.behind.ensures
 
-pub returns-in-Number : goal.returns-in-Number
-returns-in-Number c = search ValueWays
-
-pub returns-in-End : goal.returns-in-End
-returns-in-End c = search ValueWays
+pub returns-in_ok-v-in-Sign : goal.returns-in_ok-v-in-Sign
+returns-in_ok-v-in-Sign c = value_signed c.args.line.now c.in_ok-n.ensures c.in-Sign.is c.in-Sign.b-test.1 c.in_ok-v-in-Sign.ensures c.behind-in-Sign.ensures

@@ -1,8 +1,5 @@
-use Rattle.list_reader.proofs.ValueLaws.{Stills}
+use Rattle.list_reader.proofs.ValueLaws.{still_number}
 use Rattle.list_reader.proofs.values.still_fits.Goals as goal
 
-pub returns-then-rule-k : goal.returns-then-rule-k
-returns-then-rule-k c = search Stills
-
-pub returns-in-Number : goal.returns-in-Number
-returns-in-Number c = search Stills
+pub returns-in-Some : goal.returns-in-Some
+returns-in-Some c = still_number c.args.words.now c.args.rule c.args.k c.args.fit c.if-fit.true c.in-Some.is c.if-k-rule.true c.in_field.ensures

@@ -1,5 +1,5 @@
 use Prim.Native.Nat.{◌-◌}
-use Rattle.run_places.specs.Promises.Vectors.{loops_of}
+use Rattle.run_places.specs.Promises.Vectors.{open_loops}
 use Rattle.run_indices.proofs.WalkLaws.{Going}
 use Rattle.run_indices.proofs.walk.+part.Given as goal
 
@@ -7,7 +7,7 @@ abbrev pub decreases-part : goal.decreases-part
 decreases-part l = l.rule.tokens - l.from
 
 abbrev pub invariant-loop-at : goal.invariant-loop-at
-invariant-loop-at l = Going l.words l.rule l.sizes (loops_of l.lows l.highs l.depth) l.from l.to l.initial.now l.at l.now
+invariant-loop-at l = Going l.words l.rule l.sizes (open_loops l.loops) l.from l.to l.initial.now l.at l.now
 
 abbrev pub decreases-loop-at : goal.decreases-loop-at
 decreases-loop-at l = l.to - l.at

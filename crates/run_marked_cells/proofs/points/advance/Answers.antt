@@ -13,8 +13,8 @@ overflow_add-up c =
     let s = c.type_inv.sizes (l.k - 1) in
     search rules
 
-pub returns-then-up-size : goal.returns-then-up-size
-returns-then-up-size c = carry_stop _ _ _ _ c.loop-k.invariant c.loop-k-test.true c.if-up-size.true
+pub returns-then-up-sizes : goal.returns-then-up-sizes
+returns-then-up-sizes c = carry_stop _ _ _ _ c.loop-k.invariant c.loop-k-test.true c.if-up-sizes.true
 
 pub loop-k-preserved : goal.loop-k-preserved
-loop-k-preserved c = carry_more _ _ _ _ c.loop-k.invariant c.loop-k-test.true c.if-up-size.false
+loop-k-preserved c = carry_more _ _ _ _ c.loop-k.invariant c.loop-k-test.true c.if-up-sizes.false

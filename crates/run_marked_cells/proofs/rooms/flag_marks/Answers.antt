@@ -1,14 +1,15 @@
-use native.Mathlib.Omega.{arith}
-use lib.ListN.{length-set}
-use Rattle.run_marked_cells.proofs.RoomLaws.{flag_more, flag_all}
+use Rattle.std.proofs.Common.{◌≡◌, ◌∙◌, ◌<◌, length, get_or, arith, rules}
+use Rattle.std.proofs.lemmas.List.Edits.{map_over_more}
+use Rattle.std.proofs.lemmas.List.{take_all, drop_all, get_or_default}
+use Rattle.run_marked_cells.proofs.RoomLaws.{flag_of, flags}
 use Rattle.run_marked_cells.proofs.rooms.flag_marks.Goals as goal
 
-pub loop-i-preserved : goal.loop-i-preserved
-loop-i-preserved c =
-    let l = c.loop-i in
-    (flag_more _ l.i l.marks _ l.invariant.0 (omega (arith, l.invariant.0.made.len)) c.flagged.ensures, simp length-set (omega arith))
+pub loop-mark-preserved : goal.loop-mark-preserved
+loop-mark-preserved c =
+    let l = c.loop-mark in
+    let flag : c.from.result ≡ flag_of (get_or l.marks l.mark-index 0) = search rules in
+    let within : l.mark-index < length l.marks = omega arith in
+    rw flag (map_over_more flag_of c.args.marks.now l.marks l.mark-index _ (omega arith) l.invariant (get_or_default l.marks l.mark-index 0 _ within))
 
 pub returns : goal.returns
-returns c =
-    let l = c.loop-i in
-    flag_all _ l.i l.marks l.invariant.0 (omega (arith, l.invariant.0.made.len)) (omega (arith, l.invariant.0.made.len))
+returns c = search (rules, take_all, drop_all) ∙ flags c.args.marks.now

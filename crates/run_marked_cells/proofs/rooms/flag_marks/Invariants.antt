@@ -1,10 +1,6 @@
-use Prim.Native.Nat.{◌-◌, ◌≤◌}
-use lib.ListN.{length}
-use Rattle.run_marked_cells.proofs.RoomLaws.{Flagging}
+use Rattle.std.proofs.Common.{◌≡◌, ◌++◌, map, take, drop}
+use Rattle.run_marked_cells.proofs.RoomLaws.{flag_of}
 use Rattle.run_marked_cells.proofs.rooms.flag_marks.Given as goal
 
-abbrev pub invariant-loop-i : goal.invariant-loop-i
-invariant-loop-i l = Flagging l.initial.marks l.i l.marks × (l.i ≤ length l.marks)
-
-abbrev pub decreases-loop-i : goal.decreases-loop-i
-decreases-loop-i l = length l.marks - l.i
+abbrev pub invariant-loop-mark : goal.invariant-loop-mark
+invariant-loop-mark l = l.marks ≡ map flag_of (take l.mark-index l.fn.marks) ++ drop l.mark-index l.fn.marks

@@ -1,12 +1,8 @@
-use Prim.Native.Nat.{◌≤◌}
 use mathlib.Core.List.{map}
 use Rattle.cell_meaning.specs.Places.{span}
 use Rattle.run_meaning.proofs.Theorems.Cutting.{Counting}
-use Rattle.run_places.specs.Promises.Vectors.{loops_of}
+use Rattle.run_places.specs.Promises.Vectors.{open_loops}
 use Rattle.run_places.proofs.vectors.choices.Given as goal
 
 abbrev pub invariant-loop-d : goal.invariant-loop-d
-invariant-loop-d l = (l.d ≤ l.depth) × Counting (map span (loops_of l.lows l.highs l.depth)) l.total l.d
-
-abbrev pub decreases-loop-d : goal.decreases-loop-d
-decreases-loop-d l = l.d
+invariant-loop-d l = Counting (map span (open_loops l.loops)) l.total l.d

@@ -1,10 +1,6 @@
-use Prim.Native.Nat.{◌-◌}
 use Rattle.cell_meaning.specs.Links.{table_of}
 use Rattle.run_places.proofs.ElementLaws.{Looking}
 use Rattle.run_places.proofs.vectors.uses.Given as goal
 
-abbrev pub invariant-loop-k : goal.invariant-loop-k
-invariant-loop-k l = Looking (table_of l.words l.n l.dims) l.which l.dims l.at l.here l.k
-
-abbrev pub decreases-loop-k : goal.decreases-loop-k
-decreases-loop-k l = l.dims - l.k
+abbrev pub invariant-loop : goal.invariant-loop
+invariant-loop l = Looking (table_of l.words l.n l.dims) l.which l.dims l.at l.here l.counter

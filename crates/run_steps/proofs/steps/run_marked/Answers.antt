@@ -6,7 +6,7 @@ use Rattle.run_steps.proofs.CountLaws.{counts_end, counts_stop, keep_start, keep
 use Rattle.run_steps.proofs.steps.run_marked.Goals as goal
 
 pub loop-done-init : goal.loop-done-init
-loop-done-init c = (loop_start c.requires.0 c.requires.1 c.requires.2 c.requires.3 c.requires.6 c.kind_table-kinds.ensures c.next_block-next.ensures, keep_start c.requires.4 c.requires.5, refl)
+loop-done-init c = (loop_start c.requires.0 c.requires.1 c.requires.2 c.requires.3 c.requires.6 c.next_time-next.ensures, keep_start c.requires.4 c.requires.5, refl)
 
 pub set_due-next-requires : goal.set_due-next-requires
 set_due-next-requires c = loop_settable c.loop-done.invariant.0

@@ -11,4 +11,4 @@ returns c =
     let b = c.args.b.n in
     let ha : mag a < 2 ^ 31 = search rules in
     let hb : mag b < 2 ^ 31 = search rules in
-    c.checked.ensures ∙ ap checked (quot_read a b ha hb) ∙ nonzero_no b _ (divisor_no a b ha hb c.if-y-eq0.false)
+    c.try_from.ensures ∙ ap checked (quot_read a b ha hb) ∙ nonzero_no b _ (divisor_no a b ha hb c.if-y-eq0.false)

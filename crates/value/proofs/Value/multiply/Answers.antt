@@ -11,4 +11,4 @@ returns c =
     let b = c.args.b.n in
     let ha : mag a < 2 ^ 31 = search rules in
     let hb : mag b < 2 ^ 31 = search rules in
-    c.checked.ensures ∙ ap checked (op_read ◌*ℤ◌ (wide_is a ha) (wide_is b hb) (product_fits a b ha hb))
+    c.try_from.ensures ∙ ap checked (op_read ◌*ℤ◌ (wide_is a ha) (wide_is b hb) (product_fits a b ha hb))

@@ -1,6 +1,6 @@
 use Rattle.std.proofs.Common.{◌<◌, ◌^◌, ◌∙◌, ℤ, ap, rules}
 use lib.Signed.{mag}
-use Rattle.value.specs.declared.Worked.TheVariants.{Number}
+use Rattle.std.specs.Prelude.{Ok}
 use Rattle.value.specs.Worked.{value}
 use Rattle.value.proofs.Tests.{nonzero_no}
 use Rattle.value.proofs.Division.{rest_is, divisor_no}
@@ -12,4 +12,4 @@ returns c =
     let b = c.args.b.n in
     let ha : mag a < 2 ^ 31 = search rules in
     let hb : mag b < 2 ^ 31 = search rules in
-    ap (λ (z : ℤ). Number (value z)) (rest_is a b ha hb) ∙ nonzero_no b _ (divisor_no a b ha hb c.if-y-eq0.false)
+    ap (λ (z : ℤ). Ok (value z)) (rest_is a b ha hb) ∙ nonzero_no b _ (divisor_no a b ha hb c.if-y-eq0.false)

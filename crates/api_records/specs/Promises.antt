@@ -1,2 +1,0 @@
--- What the functions that work on these definitions promise, and what that is stated with.
-pub mod Finding

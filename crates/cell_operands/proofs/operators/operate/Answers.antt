@@ -1,5 +1,0 @@
-use Rattle.cell_operands.proofs.OperatorLaws.{OperatorWays}
-use Rattle.cell_operands.proofs.operators.operate.Goals as goal
-
-pub returns : goal.returns
-returns c = search OperatorWays

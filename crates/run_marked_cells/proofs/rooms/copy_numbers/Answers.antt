@@ -1,6 +1,0 @@
-use lib.IntN.{pos}
-use Rattle.run_marked_cells.proofs.RoomLaws.{copied}
-use Rattle.run_marked_cells.proofs.rooms.copy_numbers.Goals as goal
-
-pub returns : goal.returns
-returns c = copied (pos 0) _ _ _ c.loop-i.invariant.0 c.loop-i-test.false
