@@ -14,13 +14,11 @@ use Rattle.cell_meaning.specs.Operators.{placed, apply_unary, compare, apply_bin
 use Rattle.cell_meaning.specs.Evaluation.{Env, element_at, eval}
 use Rattle.cell_meaning.specs.Promises.Stands.{array_in, is_unary, parsed, decode_expression, decode_chain, decode_operand, decode_primary, decode_bracket}
 use Rattle.cell_meaning.specs.Links.{Table}
-use Rattle.cell_operands.specs.Promises.Working.{told_of, OperandOnward, primary_from, EvalsExpression, EvalsOperand, EvalsPrimary, EvalsBracket, Leaf, Quick, Joins}
-use Rattle.cell_operands.specs.declared.Told.{Told}
-use Rattle.cell_operands.specs.declared.Told.TheVariants.{Found, Failed}
+use Rattle.cell_operands.specs.Promises.Working.{Told, Found, Failed, told_of, OperandOnward, primary_from, EvalsExpression, EvalsOperand, EvalsPrimary, EvalsBracket, Leaf, Quick, Joins}
 use Rattle.cell_operands.proofs.OperatorLaws.{level_some, told_compare}
 use Rattle.token.proofs.Levels.{level_few}
 use Rattle.cell_operands.proofs.DecodingLaws.{never, went_on, was_unary, was_paren, was_name, was_array, was_bracket, was_expression, was_end, was_more}
-use Rattle.cell_operands.proofs.PrimaryLaws.{as_value, result_of, fault_of}
+use Rattle.cell_operands.proofs.PrimaryLaws.{found_next, as_value, result_of, fault_of}
 use Rattle.cell_operands.proofs.LeafLaws.{lost, bare}
 
 -- ---- what an answer says of the outcome
@@ -370,7 +368,7 @@ module _ (t : Table) (env : Env) (vars vs : List ℤ) where
                 (j.applied (λ z. let y = level_some op ew some_level l in omega arith)) g
 
             same_next : Pending left op own last here → next ≡ m
-            same_next (first z w e) = let q : Found b next ≡ Found c m = sym (j.alone z) ∙ g in cc
+            same_next (first z w e) = found_next (sym (j.alone z) ∙ g)
             same_next (behind_operator ch s eo ew l) =
                 (result_of (placed (t.place last) (apply_binary op left.n b.n)) next (sym g ∙ j.applied (λ z. let y = level_some op ew some_level l in omega arith))).1
 

@@ -11,9 +11,8 @@ use Rattle.value.specs.declared.Value.{Value}
 use Rattle.cell_meaning.specs.Operators.{compare}
 use Rattle.cell_meaning.specs.Links.{word_in}
 use Rattle.cell_meaning.specs.Promises.Leaves.{leaf_word, Simple, Last}
-use Rattle.cell_operands.specs.Promises.Working.{site_table, env_of, SiteReady, Leaf, Quick}
+use Rattle.cell_operands.specs.Promises.Working.{Found, site_table, env_of, SiteReady, Leaf, Quick}
 use Rattle.cell_operands.specs.declared.Site.{Site}
-use Rattle.cell_operands.specs.declared.Told.TheVariants.{Found}
 use Rattle.cell_operands.proofs.NotedLaws.{leaf_within, leaf_onto, level_at, operator_at, operator_within}
 use Rattle.cell_expressions.proofs.ExpressionLaws.{simple_alone, simple_related}
 

@@ -1,48 +1,43 @@
 // Expressions of one or two operands, by the leaf table.
-ghost use Rattle.std.specs.Prelude.{◌≤◌, take};
-ghost use Rattle.cell_operands.specs.Promises.Working.{site_table, env_of, SiteReady, Quick};
+ghost use Rattle.std.specs.Prelude.{◌≤◌};
+ghost use Rattle.cell_operands.specs.Promises.Scene.{In};
+ghost use Rattle.cell_operands.specs.Promises.Working.{short, Quick};
 
-use cell_operands::noted::simple_value;
+use cell_operands::Evaluated;
 use cell_operands::operators::compare;
+use cell_operands::scene::Scene;
 use cell_operands::table::leaf_word;
-use cell_operands::{Site, Told};
-use value::limits::{LEAF_WORDS, MOST_NAMES, MOST_OPEN};
+use value::limits::{MOST_NAMES, MOST_OPEN};
 
 // The expression at a position, if it is an operand alone, or a relation or logic of two, and they are noted as numbers, variables or fields of the
-// own cell. Else a fault is returned, which says nothing.
+// own cell.
+#[inline(always)]
 pub fn simple(
-    leaves: &[u32; LEAF_WORDS],
-    words: &[u32],
-    sizes: &[u32],
-    point: &[u32],
-    grid: &[i32],
+    scene: &Scene,
     vars: &[i32; MOST_NAMES],
     index: &[i32; MOST_OPEN],
-    site: Site,
-    depth: usize,
     at: usize,
-) -> Told
-    requires { SiteReady leaves.now words.now sizes.now point.now grid.now site depth × (at ≤ site.tokens) }
-    ensures { Quick (site_table words.now sizes.now site) (env_of words.now sizes.now grid.now site) (take site.slots vars.now) (take depth index.now) site.tokens at 1 result }
+) -> Option<Evaluated>
+    requires { at ≤ scene.now.site.tokens }
+    ensures { In Quick scene.now vars.now index.now at 1 (short result) }
 {
+    let leaves = scene.leaves;
     let shape = leaf_word(leaves, at, 7);
     if shape == 0 {
-        return Told::Failed(0, 0);
+        return None;
     }
     if 2 < shape {
-        return Told::Failed(0, 0);
+        return None;
     }
-    let a = simple_value(
-        leaves, words, sizes, point, grid, vars, index, site, depth, at,
-    );
+    let a = scene.simple_value(vars, index, at);
     let next = leaf_word(leaves, at, 2) as usize;
     if shape == 1 {
-        return Told::Found(a, next);
+        return Some(Evaluated { value: a, next });
     }
     let here = next + 1;
-    let b = simple_value(
-        leaves, words, sizes, point, grid, vars, index, site, depth, here,
-    );
-    let past = leaf_word(leaves, here, 2) as usize;
-    Told::Found(compare(leaf_word(leaves, next, 1), a, b), past)
+    let b = scene.simple_value(vars, index, here);
+    Some(Evaluated {
+        value: compare(leaf_word(leaves, next, 1), a, b),
+        next: leaf_word(leaves, here, 2) as usize,
+    })
 }

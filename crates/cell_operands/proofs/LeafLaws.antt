@@ -5,18 +5,22 @@ use mathlib.Core.Path.{◌≡◌, refl, sym, ap, ◌∙◌}
 use mathlib.Core.Bool.{Bool, true, false}
 use mathlib.Core.List.{List}
 use lib.IntN.{ℤ}
+use Rattle.std.specs.Prelude.{Result, Err, IsErrAnd}
+use Rattle.std.proofs.lemmas.Result.{err_from_is_err_and}
 use Rattle.value.specs.declared.Value.{Value}
 use Rattle.cell_meaning.specs.Evaluation.{Env}
 use Rattle.cell_meaning.specs.Promises.Stands.{is_sign_kind, is_unary}
 use Rattle.cell_meaning.specs.Links.{Table}
-use Rattle.cell_operands.specs.Promises.Working.{EvalsOperand, EvalsPrimary, EvalsName, EvalsPlain, Leaf}
-use Rattle.cell_operands.specs.declared.Told.{Told}
-use Rattle.cell_operands.specs.declared.Told.TheVariants.{Found, Failed}
+use Rattle.cell_operands.specs.Promises.Working.{Told, Found, Failed, EvalsOperand, EvalsPrimary, EvalsName, EvalsPlain, Leaf}
 use Rattle.cell_operands.proofs.DecodingLaws.{was_bare, was_name, unary_none}
 
 -- a fault is no value
 pub lost : {A : Type 0} {a p next : ℕ} {v : Value} → Failed a p ≡ Found v next → A
 lost h = let z : ◌≡◌ {A = ℕ} 0 1 = cc in absurd (omega arith)
+
+-- what the exit of a `?` returns is the answer that it was used on
+pub passed : {A B E : Type 0} {q : Result A E} {r : Result B E} {f : E} → IsErrAnd q (λ g. g ≡ f) → r ≡ Err f → q ≡ Err f
+passed {q = q} h y = let p = err_from_is_err_and q h in p.1 ∙ ap Err p.2
 
 module _ (t : Table) (env : Env) (vars vs : List ℤ) (n at : ℕ) where
   -- an operand without a unary operator is its primary

@@ -24,10 +24,8 @@ use Rattle.cell_meaning.specs.Evaluation.{Env, entry, offset, offsets, eval}
 use Rattle.cell_meaning.specs.Promises.Stands.{index_in, next_index, indices_in, is_sign_kind, is_unary, parsed, decode_operand, decode_primary}
 use Rattle.cell_meaning.specs.Links.{Table, word_in}
 use Rattle.cell_meaning.specs.Promises.Leaves.{leaf_word, OperandIs, OffsetsAre}
-use Rattle.cell_operands.specs.Promises.Working.{site_table, env_of, SiteReady, told_of, Leaf, OperandNoted}
+use Rattle.cell_operands.specs.Promises.Working.{Told, Found, Failed, site_table, env_of, SiteReady, told_of, Leaf, OperandNoted}
 use Rattle.cell_operands.specs.declared.Site.{Site}
-use Rattle.cell_operands.specs.declared.Told.{Told}
-use Rattle.cell_operands.specs.declared.Told.TheVariants.{Found, Failed}
 use Rattle.cell_operands.proofs.TableLaws.{token}
 use Rattle.cell_operands.proofs.OperatorLaws.{level_some}
 use Rattle.cell_operands.proofs.NeighbourLaws.{Steps, steps_start, steps_more, steps_done, number_small, total_small, front_entry}

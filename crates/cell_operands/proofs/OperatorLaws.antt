@@ -7,15 +7,15 @@ use lib.Dec.{eqb}
 use lib.IntN.{ℤ}
 use borrow.Author.Tests.{ne_eqb}
 use Rattle.token.specs.Kind.{level_of}
-use Rattle.value.specs.Worked.{add_of, equal_of}
+use Rattle.value.specs.Worked.{Worked, add_of, equal_of}
 use Rattle.value.specs.declared.Value.{Value}
-use Rattle.value.specs.declared.Worked.{Worked}
-use Rattle.value.specs.declared.Worked.TheVariants.{Number, OutOfRange, ZeroDivisor}
+use Rattle.value.specs.declared.Fault.{Fault}
+use Rattle.value.specs.declared.Fault.TheVariants.{OutOfRange, ZeroDivisor}
+use Rattle.std.specs.Prelude.{Ok, Err}
+use Rattle.program.specs.Reason.{reason_number, fault_reason}
 use Rattle.cell_meaning.specs.Operators.{placed, compare, apply_binary}
 use Rattle.cell_meaning.specs.Promises.Stands.{is_sign_kind, is_unary}
-use Rattle.cell_operands.specs.Promises.Working.{told_of, primary_from}
-use Rattle.cell_operands.specs.declared.Told.{Told}
-use Rattle.cell_operands.specs.declared.Told.TheVariants.{Found, Failed}
+use Rattle.cell_operands.specs.Promises.Working.{Told, Found, Failed, told_of, primary_from}
 
 -- ---- kinds
 
@@ -64,27 +64,25 @@ from_within k at n from ef l m = go (is_unary k) refl
 
 -- ---- what an operation gives
 
-pub told_number : {w : Worked} {v : Value} (place next : ℕ) → w ≡ Number v → Found v next ≡ told_of (placed place w) next
+pub told_number : {w : Worked} {v : Value} (place next : ℕ) → w ≡ Ok v → Found v next ≡ told_of (placed place w) next
 told_number place next e = rw e refl
 
-pub told_range : {w : Worked} {p : ℕ} (place next : ℕ) → w ≡ OutOfRange → p ≡ place → Failed 30 p ≡ told_of (placed place w) next
-told_range place next e q = rw (e, q) refl
-
-pub told_zero : {w : Worked} {p : ℕ} (place next : ℕ) → w ≡ ZeroDivisor → p ≡ place → Failed 31 p ≡ told_of (placed place w) next
-told_zero place next e q = rw (e, q) refl
+pub told_fault : {w : Worked} {p : ℕ} (place next : ℕ) (f : Fault) → w ≡ Err f → p ≡ place → Failed (reason_number (fault_reason f)) p ≡ told_of (placed place w) next
+told_fault place next OutOfRange e q = rw (e, q) refl
+told_fault place next ZeroDivisor e q = rw (e, q) refl
 
 pub told_same : {w w' : Worked} {r : Told} (place next : ℕ) → w ≡ w' → r ≡ told_of (placed place w) next → r ≡ told_of (placed place w') next
 told_same place next e q = rw e at q
 
 -- two operators by themselves
 
-pub told_plus : (op : ℕ) (a b : ℤ) {w : Worked} {v : Value} (place next : ℕ) → op ≡ 43 → w ≡ add_of a b → w ≡ Number v → Found v next ≡ told_of (placed place (apply_binary op a b)) next
+pub told_plus : (op : ℕ) (a b : ℤ) {w : Worked} {v : Value} (place next : ℕ) → op ≡ 43 → w ≡ add_of a b → w ≡ Ok v → Found v next ≡ told_of (placed place (apply_binary op a b)) next
 unfolding apply_binary
 told_plus op a b place next h e q = rw h (told_number place next (sym e ∙ q))
 
 pub told_equal : (op : ℕ) (a b : ℤ) {v : Value} (place next : ℕ) → op ≡ 61 → v ≡ equal_of a b → Found v next ≡ told_of (placed place (apply_binary op a b)) next
 unfolding apply_binary compare
-told_equal op a b place next h e = rw h (told_number place next (ap Number (sym e)))
+told_equal op a b place next h e = rw h (told_number place next (ap Ok (sym e)))
 
 -- relations and logic
 
@@ -95,9 +93,9 @@ module _ (op : ℕ) (l : level_of op ≤ 2) where
   pub told_compare : (a b : ℤ) {v : Value} (place next : ℕ) → v ≡ compare op a b → Found v next ≡ told_of (placed place (apply_binary op a b)) next
   unfolding apply_binary level_of
   told_compare a b {v} place next e =
-      let n : apply_binary op a b ≡ Number (compare op a b) =
+      let n : apply_binary op a b ≡ Ok (compare op a b) =
       simp (ne_eqb op 43 (no_operator 43 (omega arith)), ne_eqb op 45 (no_operator 45 (omega arith)), ne_eqb op 42 (no_operator 42 (omega arith)), ne_eqb op 47 (no_operator 47 (omega arith)), ne_eqb op 37 (no_operator 37 (omega arith)))
       in
-      told_number place next (n ∙ ap Number (sym e))
+      told_number place next (n ∙ ap Ok (sym e))
 
-pub ruleset OperatorWays = (unary_not, unary_sign, told_number, told_range, told_zero, told_same)
+pub ruleset OperatorWays = (unary_not, unary_sign, told_number, told_fault, told_same)

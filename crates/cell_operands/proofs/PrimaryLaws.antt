@@ -16,13 +16,14 @@ use Rattle.automaton.specs.Shape.{cell_number, shift, neighbour}
 use Rattle.automaton.specs.Promises.ShapeLaws.{Inside, zeros}
 use Rattle.automaton.proofs.ShapeLaws.{coordinates_inside, neighbour_zeros}
 use Rattle.automaton.specs.Grid.{cell_of}
+use Rattle.program.specs.Refusal.{Refusal, refusal}
+use Rattle.cell_operands.specs.declared.Evaluated.{Evaluated}
 use Rattle.program.specs.Syntax.{Expr, number, time, variable, index, field}
 use Rattle.cell_meaning.specs.Evaluation.{Env, entry, offsets, element_at, eval}
 use Rattle.cell_meaning.specs.Promises.Stands.{indices_in, values_in, array_in, parsed, decode_primary, decode_name}
 use Rattle.cell_meaning.specs.Links.{Table}
-use Rattle.cell_operands.specs.Promises.Working.{SiteReady, told_of, EvalsName, EvalsPlain}
+use Rattle.cell_operands.specs.Promises.Working.{Found, Failed, SiteReady, told_of, EvalsName, EvalsPlain}
 use Rattle.cell_operands.specs.declared.Site.{Site}
-use Rattle.cell_operands.specs.declared.Told.TheVariants.{Found, Failed}
 use Rattle.cell_operands.proofs.NeighbourLaws.{encoded_ahead, encoded_back}
 use Rattle.cell_operands.proofs.DecodingLaws.{never}
 
@@ -93,14 +94,19 @@ module _ (t : Table) (place name : ℕ) (z : ℤ) (k next : ℕ) (ek : k ≡ enc
 pub as_value : (env : Env) (vars vs : List ℤ) (e : Expr) (at next : ℕ) {v : Value} → eval env vars vs e ≡ result v.n → next ≡ at → Found v at ≡ told_of (eval env vars vs e) next
 as_value env vars vs e at next {v} x h = ap (Found v) (sym h) ∙ sym (ap (λ (o : Outcome ℤ). told_of o next) x)
 
+-- where two values stand past the same expression
+pub found_next : {v w : Value} {a b : ℕ} → Found v a ≡ Found w b → a ≡ b
+found_next {v} {w} {a} {b} q =
+    let r : ◌≡◌ {A = Evaluated} (record { value = v; next = a }) (record { value = w; next = b }) = cc in ap (λ (x : Evaluated). x.next) r
+
 -- what is evaluated, by its answer
 pub result_of : (o : Outcome ℤ) (next : ℕ) {v : Value} {at : ℕ} → Found v at ≡ told_of o next → (o ≡ result v.n) × (next ≡ at)
-result_of (result z) next {v} q = let e : value z ≡ v = cc in (ap (λ (x : Value). result x.n) e, cc)
+result_of (result z) next {v} {at} q = let r : ◌≡◌ {A = Evaluated} (record { value = v; next = at }) (record { value = value z; next = next }) = cc in (ap (λ (x : Evaluated). result x.value.n) (sym r), ap (λ (x : Evaluated). x.next) (sym r))
 result_of (fault k p) next q = let z : ◌≡◌ {A = ℕ} 0 1 = cc in absurd (omega arith)
 
 pub fault_of : (o : Outcome ℤ) (next : ℕ) {k p : ℕ} → Failed k p ≡ told_of o next → o ≡ fault k p
 fault_of (result z) next q = let z : ◌≡◌ {A = ℕ} 0 1 = cc in absurd (omega arith)
-fault_of (fault k p) next q = cc
+fault_of (fault k p) next {k = k₁} {p = p₁} q = let r : refusal k₁ p₁ ≡ refusal k p = cc in ap (λ (f : Refusal). fault f.number f.place) (sym r)
 
 -- ---- names
 

@@ -6,6 +6,7 @@ pub mod neighbour;
 pub mod noted;
 pub mod operators;
 pub mod primary;
+pub mod scene;
 pub mod sort;
 pub mod table;
 
@@ -13,7 +14,7 @@ use value::Value;
 
 // What stays the same while a cell is evaluated: the position of the token that has the first field's range, the numbers of fields and of slots, the
 // cell's number, the number of tokens, and the time.
-#[derive(Clone, Copy)]
+#[derive(Clone, Copy, Debug, PartialEq, Eq)]
 pub struct Site {
     pub base: usize,
     pub fields: usize,
@@ -23,9 +24,9 @@ pub struct Site {
     pub time: u32,
 }
 
-// A value with the position past the expression, or a fault's number and place.
-#[derive(Clone, Copy)]
-pub enum Told {
-    Found(Value, usize),
-    Failed(u32, u32),
+// A value with the position past the expression.
+#[derive(Clone, Copy, Debug, PartialEq, Eq)]
+pub struct Evaluated {
+    pub value: Value,
+    pub next: usize,
 }

@@ -9,14 +9,14 @@ ghost use Rattle.automaton.specs.Grid.{cell_of};
 ghost use Rattle.cell_meaning.specs.Evaluation.{entry, offset, offsets};
 ghost use Rattle.cell_meaning.specs.Promises.Stands.{index_in, next_index, indices_in};
 ghost use Rattle.cell_meaning.specs.Links.{word_in, table_of};
-ghost use Rattle.cell_operands.specs.Promises.Working.{site_table, env_of, SiteReady};
+ghost use Rattle.cell_operands.specs.Promises.Scene.{neighbour_field};
 
-use crate::Site;
 use crate::operators::is_sign;
+use crate::scene::Scene;
 use crate::table::word_at;
 use token::kind;
 use value::Value;
-use value::limits::{LEAF_WORDS, MOST_OPEN};
+use value::limits::MOST_OPEN;
 
 // a modulo m. Mostly a is below m, or below twice m, and nothing is divided.
 fn reduced(a: u64, m: u64) -> u64
@@ -50,13 +50,14 @@ pub fn wrapped(own: u32, index: Value, size: u32) -> u32
     (m - 1 - reduced(back - from - 1, m)) as u32
 }
 
-// The value of the index variable of an open loop, of which there are `depth`, outermost first; 0 if there is none.
-pub fn index_value(index: &[i32; MOST_OPEN], depth: usize, which: usize) -> Value
-    requires { depth ≤ most_open }
-    ensures { result ≡ value (entry (take depth index.now) which) }
+// Entry `which` of the first `count`, as a value; 0 where there is none. So the value of a variable, by the slots that are in use, and of an index
+// variable, by the loops that are open, outermost first.
+pub fn front_value(entries: &[i32], count: usize, which: usize) -> Value
+    requires { count ≤ length entries.now }
+    ensures { result ≡ value (entry (take count entries.now) which) }
 {
-    if which < depth {
-        return Value { n: index[which] };
+    if which < count {
+        return Value { n: entries[which] };
     }
     Value { n: 0 }
 }
@@ -76,7 +77,7 @@ fn element_value(
     let word = word_at(words, n, 3, at);
     if word_at(words, n, 0, at) == kind::NAME {
         if word_at(words, n, 2, at) == 5 {
-            return index_value(index, depth, word as usize);
+            return front_value(index, depth, word as usize);
         }
         return Value::decode(word);
     }
@@ -146,22 +147,23 @@ pub fn field_of(grid: &[i32], cell: usize, fields: usize, field: usize) -> Value
     Value { n: 0 }
 }
 
-// The field that is noted at the `[` at a position, of the cell at the relative index after it.
-pub fn neighbour_field(
-    leaves: &[u32; LEAF_WORDS],
-    words: &[u32],
-    sizes: &[u32],
-    point: &[u32],
-    grid: &[i32],
-    index: &[i32; MOST_OPEN],
-    site: Site,
-    depth: usize,
-    at: usize,
-) -> Value
-    requires { SiteReady leaves.now words.now sizes.now point.now grid.now site depth × (at ≤ most_tokens) }
-    ensures { result ≡ value (entry ((env_of words.now sizes.now grid.now site).look (offsets (length sizes.now) (take depth index.now) (indices_in (site_table words.now sizes.now site) (length sizes.now) (at + 1)))) (word_in words.now site.tokens 2 at)) }
-{
-    let n = site.tokens;
-    let cell = neighbour_number(words, n, sizes, point, index, depth, at + 1);
-    field_of(grid, cell, site.fields, word_at(words, n, 2, at) as usize)
+impl Scene<'_> {
+    // The field that is noted at the `[` at a position, of the cell at the relative index after it.
+    pub fn neighbour_field(&self, index: &[i32; MOST_OPEN], at: usize) -> Value
+        requires { at ≤ most_tokens }
+        ensures { result ≡ neighbour_field self.now index.now at }
+    {
+        let n = self.site.tokens;
+        let cell = neighbour_number(
+            self.words,
+            n,
+            self.sizes,
+            self.point,
+            index,
+            self.depth,
+            at + 1,
+        );
+        let field = word_at(self.words, n, 2, at) as usize;
+        field_of(self.grid, cell, self.site.fields, field)
+    }
 }

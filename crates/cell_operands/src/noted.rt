@@ -8,12 +8,13 @@ ghost use Rattle.cell_meaning.specs.Evaluation.{offsets};
 ghost use Rattle.cell_meaning.specs.Promises.Stands.{indices_in};
 ghost use Rattle.cell_meaning.specs.Links.{table_of};
 ghost use Rattle.cell_meaning.specs.Promises.Leaves.{leaf_word, sort, OffsetsAre};
-ghost use Rattle.cell_operands.specs.Promises.Working.{site_table, env_of, SiteReady, Leaf, OperandNoted};
-ghost use Rattle.cell_operands.specs.declared.Told.TheVariants.{Found};
+ghost use Rattle.cell_operands.specs.Promises.Scene.{In};
+ghost use Rattle.cell_operands.specs.Promises.Working.{Found, short, Leaf, OperandNoted};
 
 use crate::neighbour::entry_of;
+use crate::scene::Scene;
 use crate::table::leaf_word;
-use crate::{Site, Told, sort};
+use crate::{Evaluated, sort};
 use value::Value;
 use value::limits::{LEAF_WORDS, MOST_NAMES, MOST_OPEN};
 
@@ -57,27 +58,6 @@ fn noted_number(
     number
 }
 
-// The value of the operand noted at a position, a field of the cell at a relative index.
-fn near_value(
-    leaves: &[u32; LEAF_WORDS],
-    words: &[u32],
-    sizes: &[u32],
-    point: &[u32],
-    grid: &[i32],
-    vars: &[i32; MOST_NAMES],
-    index: &[i32; MOST_OPEN],
-    site: Site,
-    depth: usize,
-    at: usize,
-) -> Value
-    requires { SiteReady leaves.now words.now sizes.now point.now grid.now site depth × (at ≤ site.tokens) × (leaf_word leaves.now at 0 ≡ sort.near) }
-    ensures { Leaf (site_table words.now sizes.now site) (env_of words.now sizes.now grid.now site) (take site.slots vars.now) (take depth index.now) site.tokens at (Found result (leaf_word leaves.now at 2)) }
-{
-    let which = leaf_word(leaves, at, 1) as usize;
-    let cell = noted_number(leaves, words, site.tokens, sizes, point, index, depth, at);
-    entry_of(grid, cell, site.fields, which)
-}
-
 // Whether what is noted is a number, a variable or a field of the own cell.
 fn is_simple(sort: u32) -> bool
     ensures { result ≡ true → (1 ≤ sort) × (sort ≤ 3) }
@@ -88,68 +68,71 @@ fn is_simple(sort: u32) -> bool
     sort < sort::NEAR
 }
 
-// The value of the operand noted at a position, a number, a variable or a field of the own cell.
-pub fn simple_value(
-    leaves: &[u32; LEAF_WORDS],
-    words: &[u32],
-    sizes: &[u32],
-    point: &[u32],
-    grid: &[i32],
-    vars: &[i32; MOST_NAMES],
-    index: &[i32; MOST_OPEN],
-    site: Site,
-    depth: usize,
-    at: usize,
-) -> Value
-    requires { SiteReady leaves.now words.now sizes.now point.now grid.now site depth × (at ≤ site.tokens) × (1 ≤ leaf_word leaves.now at 0) × (leaf_word leaves.now at 0 ≤ 3) }
-    ensures { Leaf (site_table words.now sizes.now site) (env_of words.now sizes.now grid.now site) (take site.slots vars.now) (take depth index.now) site.tokens at (Found result (leaf_word leaves.now at 2)) }
-{
-    let sort = leaf_word(leaves, at, 0);
-    let word = leaf_word(leaves, at, 1);
-    if sort == sort::NUMBER {
-        return Value::decode(word);
+impl Scene<'_> {
+    // The value of the operand noted at a position, a field of the cell at a relative index.
+    #[inline(always)]
+    fn near_value(&self, vars: &[i32; MOST_NAMES], index: &[i32; MOST_OPEN], at: usize) -> Value
+        requires { (at ≤ self.now.site.tokens) × (leaf_word self.now.leaves at 0 ≡ sort.near) }
+        ensures { In Leaf self.now vars.now index.now at (Found result (leaf_word self.now.leaves at 2)) }
+    {
+        let which = leaf_word(self.leaves, at, 1) as usize;
+        let cell = noted_number(
+            self.leaves,
+            self.words,
+            self.site.tokens,
+            self.sizes,
+            self.point,
+            index,
+            self.depth,
+            at,
+        );
+        entry_of(self.grid, cell, self.site.fields, which)
     }
-    let which = word as usize;
-    if sort == sort::VARIABLE {
-        return Value { n: vars[which] };
-    }
-    entry_of(grid, site.cell, site.fields, which)
-}
 
-// The operand that is noted at a position. Where none is, a fault is returned, which says nothing.
-#[tactic(auto, using(crate::proofs::NotedLaws::noted_found, crate::proofs::NotedLaws::noted_none))]
-pub fn noted(
-    leaves: &[u32; LEAF_WORDS],
-    words: &[u32],
-    sizes: &[u32],
-    point: &[u32],
-    grid: &[i32],
-    vars: &[i32; MOST_NAMES],
-    index: &[i32; MOST_OPEN],
-    site: Site,
-    depth: usize,
-    at: usize,
-) -> Told
-    requires { SiteReady leaves.now words.now sizes.now point.now grid.now site depth × (at ≤ site.tokens) }
-    ensures { OperandNoted (site_table words.now sizes.now site) (env_of words.now sizes.now grid.now site) (take site.slots vars.now) (take depth index.now) site.tokens at result }
-{
-    let sort = leaf_word(leaves, at, 0);
-    let next = leaf_word(leaves, at, 2) as usize;
-    if sort == sort::NEAR {
-        return Told::Found(
-            near_value(
-                leaves, words, sizes, point, grid, vars, index, site, depth, at,
-            ),
-            next,
-        );
+    // The value of the operand noted at a position, a number, a variable or a field of the own cell.
+    #[inline(always)]
+    pub fn simple_value(
+        &self,
+        vars: &[i32; MOST_NAMES],
+        index: &[i32; MOST_OPEN],
+        at: usize,
+    ) -> Value
+        requires { (at ≤ self.now.site.tokens) × (1 ≤ leaf_word self.now.leaves at 0) × (leaf_word self.now.leaves at 0 ≤ 3) }
+        ensures { In Leaf self.now vars.now index.now at (Found result (leaf_word self.now.leaves at 2)) }
+    {
+        let sort = leaf_word(self.leaves, at, 0);
+        let word = leaf_word(self.leaves, at, 1);
+        if sort == sort::NUMBER {
+            return Value::decode(word);
+        }
+        let which = word as usize;
+        if sort == sort::VARIABLE {
+            return Value { n: vars[which] };
+        }
+        entry_of(self.grid, self.site.cell, self.site.fields, which)
     }
-    if is_simple(sort) {
-        return Told::Found(
-            simple_value(
-                leaves, words, sizes, point, grid, vars, index, site, depth, at,
-            ),
-            next,
-        );
+
+    // The operand that is noted at a position, if one is.
+    #[inline(always)]
+    pub fn noted(
+        &self,
+        vars: &[i32; MOST_NAMES],
+        index: &[i32; MOST_OPEN],
+        at: usize,
+    ) -> Option<Evaluated>
+        requires { at ≤ self.now.site.tokens }
+        ensures { In OperandNoted self.now vars.now index.now at (short result) }
+    {
+        let sort = leaf_word(self.leaves, at, 0);
+        let next = leaf_word(self.leaves, at, 2) as usize;
+        if sort == sort::NEAR {
+            let value = self.near_value(vars, index, at);
+            return Some(Evaluated { value, next });
+        }
+        if is_simple(sort) {
+            let value = self.simple_value(vars, index, at);
+            return Some(Evaluated { value, next });
+        }
+        None
     }
-    Told::Failed(0, 0)
 }

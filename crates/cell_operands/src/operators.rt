@@ -1,15 +1,15 @@
 // Operators on values, by their kind of token.
-ghost use Rattle.std.specs.Prelude.{◌≡◌, ◌*◌, ◌≤◌, ◌%◌, length};
-ghost use Rattle.value.specs.Limits.{most_tokens};
+ghost use Rattle.std.specs.Prelude.{◌≡◌};
 ghost use Rattle.cell_meaning.specs.Operators.{placed, apply_unary, compare, apply_binary};
 ghost use Rattle.cell_meaning.specs.Promises.Stands.{is_sign_kind, is_unary};
-ghost use Rattle.cell_meaning.specs.Links.{word_in};
+ghost use Rattle.cell_operands.specs.Promises.Scene.{table};
 ghost use Rattle.cell_operands.specs.Promises.Working.{told_of};
 
-use crate::Told;
-use crate::table::place_at;
+use crate::Evaluated;
+use crate::scene::Scene;
+use program::reply::{Reason, Refusal};
 use token::kind;
-use value::{Value, Worked};
+use value::{Fault, Value};
 
 // Whether a token of this kind is a sign.
 #[tactic(auto, unfolding(cell_meaning::specs::Promises::Stands::is_sign_kind))]
@@ -34,16 +34,16 @@ pub fn is_unary(kind: u32) -> bool
 
 // A unary operator on a value.
 #[tactic(auto, unfolding(cell_meaning::specs::Operators::apply_unary))]
-fn apply_unary(op: u32, a: Value) -> Worked
+fn apply_unary(op: u32, a: Value) -> Result<Value, Fault>
     ensures { result ≡ apply_unary op a.n }
 {
     if op == kind::MINUS {
         return a.negate();
     }
     if op == kind::NOT {
-        return Worked::Number(a.not());
+        return Ok(a.not());
     }
-    Worked::Number(a)
+    Ok(a)
 }
 
 // A relation or logic on two values.
@@ -77,7 +77,7 @@ pub fn compare(op: u32, a: Value, b: Value) -> Value
 
 // A binary operator on two values.
 #[tactic(auto, unfolding(cell_meaning::specs::Operators::apply_binary))]
-fn apply_binary(op: u32, a: Value, b: Value) -> Worked
+fn apply_binary(op: u32, a: Value, b: Value) -> Result<Value, Fault>
     ensures { result ≡ apply_binary op a.n b.n }
 {
     if op == kind::PLUS {
@@ -95,33 +95,49 @@ fn apply_binary(op: u32, a: Value, b: Value) -> Worked
     if op == kind::PERCENT {
         return a.remainder(b);
     }
-    Worked::Number(compare(op, a, b))
+    Ok(compare(op, a, b))
 }
 
-// What an operator at a position returns, with the position past the expression.
-fn told(words: &[u32], n: usize, at: usize, worked: Worked, next: usize) -> Told
-    requires { (4 * n ≤ length words.now) × (n ≤ most_tokens) }
-    ensures { result ≡ told_of (placed (word_in words.now n 1 at % 65536) worked) next }
-{
-    match worked {
-        Worked::Number(v) => Told::Found(v, next),
-        Worked::OutOfRange => Told::Failed(30, place_at(words, n, at)),
-        Worked::ZeroDivisor => Told::Failed(31, place_at(words, n, at)),
+impl Scene<'_> {
+    // What an operator at a position returns, with the position past the expression.
+    fn told(
+        &self,
+        at: usize,
+        worked: Result<Value, Fault>,
+        next: usize,
+    ) -> Result<Evaluated, Refusal>
+        ensures { result ≡ told_of (placed ((table self.now).place at) worked) next }
+    {
+        match worked {
+            Ok(value) => Ok(Evaluated { value, next }),
+            Err(fault) => Err(Refusal::new(Reason::from(fault), self.place(at))),
+        }
     }
-}
 
-// The unary operator at a position, on a value.
-pub fn operate_unary(words: &[u32], n: usize, at: usize, op: u32, a: Value, next: usize) -> Told
-    requires { (4 * n ≤ length words.now) × (n ≤ most_tokens) }
-    ensures { result ≡ told_of (placed (word_in words.now n 1 at % 65536) (apply_unary op a.n)) next }
-{
-    told(words, n, at, apply_unary(op, a), next)
-}
+    // The unary operator at a position, on a value.
+    pub fn operate_unary(
+        &self,
+        at: usize,
+        op: u32,
+        a: Value,
+        next: usize,
+    ) -> Result<Evaluated, Refusal>
+        ensures { result ≡ told_of (placed ((table self.now).place at) (apply_unary op a.n)) next }
+    {
+        self.told(at, apply_unary(op, a), next)
+    }
 
-// The binary operator at a position, on two values.
-pub fn operate(words: &[u32], n: usize, at: usize, op: u32, a: Value, b: Value, next: usize) -> Told
-    requires { (4 * n ≤ length words.now) × (n ≤ most_tokens) }
-    ensures { result ≡ told_of (placed (word_in words.now n 1 at % 65536) (apply_binary op a.n b.n)) next }
-{
-    told(words, n, at, apply_binary(op, a, b), next)
+    // The binary operator at a position, on two values.
+    pub fn operate(
+        &self,
+        at: usize,
+        op: u32,
+        a: Value,
+        b: Value,
+        next: usize,
+    ) -> Result<Evaluated, Refusal>
+        ensures { result ≡ told_of (placed ((table self.now).place at) (apply_binary op a.n b.n)) next }
+    {
+        self.told(at, apply_binary(op, a, b), next)
+    }
 }

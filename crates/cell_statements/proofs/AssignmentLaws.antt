@@ -11,7 +11,8 @@ use lib.ListN.{get_or, set, take, length-take, get_or-eq_default}
 use lib.Seq.{set_out, take-set-lt}
 use lib.IntN.{ℤ, pos}
 use borrow.Author.Tests.{eq-eqb, ne_eqb}
-use Rattle.std.specs.Prelude.{if◌then◌else◌}
+use Rattle.std.specs.Prelude.{Ok, Err, if◌then◌else◌}
+use Rattle.program.specs.Refusal.{refusal}
 use Rattle.value.specs.Number.{within}
 use Rattle.value.specs.Worked.{value, truth, decode_of}
 use Rattle.value.specs.declared.Value.{Value}
@@ -21,15 +22,9 @@ use Rattle.program.specs.Syntax.{Range, no_range, Expr, Target, Clause}
 use Rattle.cell_meaning.specs.Evaluation.{Env, bind, eval, Frame, frame, in_field, store, met, assign_first}
 use Rattle.cell_meaning.specs.Promises.Stands.{range_in, ranges_in, ExprAt, target_in, first_clause, GuardAt, ClausesAt}
 use Rattle.cell_meaning.specs.Links.{Table}
-use Rattle.cell_operands.specs.Promises.Working.{told_of, EvalsExpression, Quick}
-use Rattle.cell_operands.specs.declared.Told.{Told}
-use Rattle.cell_operands.specs.declared.Told.TheVariants.{Found, Failed}
+use Rattle.cell_operands.specs.Promises.Working.{Told, Found, Failed, told_of, EvalsExpression, Quick}
 use Rattle.cell_operands.proofs.PrimaryLaws.{result_of, fault_of}
-use Rattle.cell_statements.specs.Promises.Running.{left_by_exit, field_range, Stores, AssignsOne, ConditionAt, guarded, Guards, Assigns}
-use Rattle.cell_statements.specs.declared.Going.{Going}
-use Rattle.cell_statements.specs.declared.Going.TheVariants.{On, Faulted}
-use Rattle.cell_statements.specs.declared.assignment.Verdict.{Verdict}
-use Rattle.cell_statements.specs.declared.assignment.Verdict.TheVariants as Said
+use Rattle.cell_statements.specs.Promises.Running.{Going, On, Faulted, Verdict, left_by_exit, field_range, Stores, AssignsOne, ConditionAt, guarded, Guards, Assigns}
 
 -- ---- expressions that stand
 
@@ -110,7 +105,7 @@ module _ (t : Table) (env : Env) (vs : List ℤ) (at here : ℕ) (vars next : Li
 -- ---- a clause's condition
 
 module _ (t : Table) (env : Env) (vs : List ℤ) (here : ℕ) (vars : List ℤ) {w : ℕ} (ew : w ≡ t.word2 here) where
-  pub guard_none : w ≡ 0 → Guards t env vs here vars Said.Holds
+  pub guard_none : w ≡ 0 → Guards t env vs here vars (Ok true)
   guard_none h = record { says = go; asked = λ e. let z : ◌≡◌ {A = ℕ} 0 1 = cc in absurd (omega arith) }
     where
       go : (o : Option Expr) → ConditionAt t o here → met env vars vs o ≡ result true
@@ -121,10 +116,10 @@ module _ (t : Table) (env : Env) (vs : List ℤ) (here : ℕ) (vars : List ℤ) 
     said : (e : Expr) (m : ℕ) → ExprAt t e (t.inner here) m → told ≡ told_of (eval env vars vs e) m
     said e m x = answer ev (subst (λ (i : ℕ). ExprAt t e i m) (sym el) x)
 
-    pub guard_fault : {k p : ℕ} → told ≡ Failed k p → Guards t env vs here vars (Said.Faulted k p)
+    pub guard_fault : {k p : ℕ} → told ≡ Failed k p → Guards t env vs here vars (Err (refusal k p))
     guard_fault {k} {p} h = record { says = go; asked = λ e. let z : ◌≡◌ {A = ℕ} 0 1 = cc in absurd (omega arith) }
       where
-        go : (o : Option Expr) → ConditionAt t o here → met env vars vs o ≡ guarded (Said.Faulted k p)
+        go : (o : Option Expr) → ConditionAt t o here → met env vars vs o ≡ guarded (Err (refusal k p))
         go none x = absurd (some_there (ew ∙ x))
         go (some e) x = rw (fault_of (eval env vars vs e) x.0 (sym h ∙ said e x.0 x.2)) refl
 
@@ -133,17 +128,8 @@ module _ (t : Table) (env : Env) (vs : List ℤ) (here : ℕ) (vars : List ℤ) 
       decided none x = absurd (some_there (ew ∙ x))
       decided (some e) x = rw ((result_of (eval env vars vs e) x.0 (sym h ∙ said e x.0 x.2)).0, ← eb) refl
 
-      pub guard_holds : b ≡ true → Guards t env vs here vars Said.Holds
-      guard_holds y = record {
-        says = λ o x. decided o x ∙ ap result y;
-        asked = λ e. let z : ◌≡◌ {A = ℕ} 0 1 = cc in absurd (omega arith);
-      }
-
-      pub guard_fails : b ≡ false → Guards t env vs here vars Said.Fails
-      guard_fails y = record {
-        says = λ o x. decided o x ∙ ap result y;
-        asked = λ e u. some_there (ew ∙ u);
-      }
+      pub guard_met : Guards t env vs here vars (Ok b)
+      guard_met = record { says = λ o x. decided o x; asked = λ e u. some_there (ew ∙ u) }
 
 -- ---- the clauses of an assignment
 
@@ -204,7 +190,7 @@ module _ (t : Table) (env : Env) (vs : List ℤ) (at : ℕ) (vars next : List �
       unfolding assign_first
       by_verdict c cs x = ap (judged c cs) (gu.says c.condition (condition_of t c.condition (λ i. ClausesAt t cs i) here x.4))
 
-      pub assigns_chosen : {vars' next' : List ℤ} {r : Going} → verdict ≡ Said.Holds → AssignsOne t env vs at here vars next vars' next' r → Assigns t env vs at vars next vars' next' r
+      pub assigns_chosen : {vars' next' : List ℤ} {r : Going} → verdict ≡ (Ok true) → AssignsOne t env vs at here vars next vars' next' r → Assigns t env vs at vars next vars' next' r
       assigns_chosen {vars'} {next'} {r} h one = record {
         says = λ cs x.
             let s = so.says cs x in
@@ -215,14 +201,14 @@ module _ (t : Table) (env : Env) (vs : List ℤ) (at : ℕ) (vars next : List �
             s.0 s.1);
       }
 
-      pub assigns_fault : {a p : ℕ} → verdict ≡ Said.Faulted a p → Assigns t env vs at vars next vars next (Faulted a p)
+      pub assigns_fault : {a p : ℕ} → verdict ≡ Err (refusal a p) → Assigns t env vs at vars next vars next (Faulted a p)
       assigns_fault {a} {p} h = record {
         says = λ cs x.
             let s = so.says cs x in
             sym (s.2 ∙ tried_now (left_by_exit (Faulted a p) vars next) (λ c cs y. by_verdict c cs y ∙ ap (λ (z : Verdict). judged c cs (guarded z)) h) s.0 s.1);
       }
 
-      pub tried_more : {l : ℕ} → verdict ≡ Said.Fails → l ≡ t.past here → Tried l
+      pub tried_more : {l : ℕ} → verdict ≡ (Ok false) → l ≡ t.past here → Tried l
       tried_more {l} h el = record { says = λ cs x. let s = so.says cs x in go cs s.0 s.1 s.2 }
         where
           go : (cs cs' : List Clause) → ClausesAt t cs' here → assign_first env vs to cs fr ≡ assign_first env vs to cs' fr

@@ -4,13 +4,14 @@ use native.Mathlib.Omega.{arith}
 use mathlib.Core.Path.{◌≡◌, refl, sym, ap, ap₂, ◌∙◌, subst}
 use mathlib.Core.Bool.{Bool, true, false, true≢false}
 use mathlib.Core.List.{List, [], ◌∷◌, ◌++◌}
-use mathlib.Core.Logic.{◌⊎◌, ⊎_elim}
 use lib.Dec.{eqb}
 use lib.ListN.{length, get_or, set, take, length-set}
 use lib.Seq.{take-suc, take-set-le, get_or-set_same}
 use lib.IntN.{ℤ, pos, ◌+ℤ◌, +ℤ_assoc, +ℤ_idr}
 use borrow.Author.Tests.{ne_eqb, eqb-true}
-use Rattle.std.specs.Prelude.{if◌then◌else◌}
+use Rattle.std.specs.Prelude.{Some, None, Ok, Err, if◌then◌else◌}
+use Rattle.program.specs.Refusal.{refusal}
+use Rattle.cell_statements.specs.declared.Flow.TheVariants as flow
 use Rattle.value.specs.Worked.{value, truth, decode_of, span_of}
 use Rattle.value.specs.declared.Value.{Value}
 use Rattle.automaton.specs.Step.{Outcome, result, fault}
@@ -18,18 +19,10 @@ use Rattle.program.specs.Syntax.{Range, Expr, Target, Block, empty, assign, sele
 use Rattle.cell_meaning.specs.Evaluation.{Env, bind, eval, Frame, frame, onward, assign_first, each, exec}
 use Rattle.cell_meaning.specs.Promises.Stands.{ExprAt, range_in, LoopAt, assigns, Stands, Elsif, Choice}
 use Rattle.cell_meaning.specs.Links.{Table, begins}
-use Rattle.cell_operands.specs.Promises.Working.{SiteReady, EvalsExpression}
+use Rattle.cell_operands.specs.Promises.Working.{Told, Found, Failed, SiteReady, EvalsExpression}
 use Rattle.cell_operands.specs.declared.Site.{Site}
-use Rattle.cell_operands.specs.declared.Told.{Told}
-use Rattle.cell_operands.specs.declared.Told.TheVariants.{Found, Failed}
 use Rattle.cell_operands.proofs.PrimaryLaws.{result_of, fault_of}
-use Rattle.cell_statements.specs.Promises.Running.{left_by_exit, Assigns, RunsBlock, rest_after, RunsStatement, LoopSettles, Forward, choice_outcome, Chooses, body_of, RunsLoop}
-use Rattle.cell_statements.specs.declared.Going.{Going}
-use Rattle.cell_statements.specs.declared.Going.TheVariants.{On, Leaving, Faulted}
-use Rattle.cell_statements.specs.declared.blocks.Chosen.{Chosen}
-use Rattle.cell_statements.specs.declared.blocks.Chosen.TheVariants as Went
-use denote.Enum.Declared.{tag_of}
-use Rattle.cell_statements.specs.contracts.Going.{the_type}
+use Rattle.cell_statements.specs.Promises.Running.{Going, On, Leaving, Faulted, Chosen, left_by_exit, Assigns, RunsBlock, rest_after, RunsStatement, LoopSettles, Forward, choice_outcome, Chooses, body_of, RunsLoop}
 use Rattle.cell_statements.proofs.PendingLaws.{Leads, leads_start, leads_done, leads_stops, leads_pops, leads_enters}
 use Rattle.cell_statements.proofs.AssignmentLaws.{answer, found_onward}
 
@@ -124,7 +117,7 @@ module _ (t : Table) (env : Env) (vs : List ℤ) (depth n at : ℕ) (vars : List
       onward = l;
     }
 
-    pub choice_fault : {a p : ℕ} → told ≡ Failed a p → Chooses t env vs depth n at vars (Went.Faulted a p)
+    pub choice_fault : {a p : ℕ} → told ≡ Failed a p → Chooses t env vs depth n at vars (Err (refusal a p))
     choice_fault h = by_arm tt (λ c d e x next. rw (fault_of (eval env vars vs c) x.then_at (sym h ∙ answer ev x.condition)) refl)
 
     module _ {v : Value} {m : ℕ} (h : told ≡ Found v m) {b : Bool} (eb : b ≡ truth v.n) where
@@ -135,14 +128,14 @@ module _ (t : Table) (env : Env) (vs : List ℤ) (depth n at : ℕ) (vars : List
           → chooses c d e next ≡ (if z then exec env vs d (frame false vars next) else exec env vs e (frame false vars next))
       decided {z} y c d e x next = rw ((found c x.then_at x.condition).0, ← eb, y) refl
 
-      pub choice_then : b ≡ true → m < n → Chooses t env vs depth n at vars (Went.List (m + 1))
+      pub choice_then : b ≡ true → m < n → Chooses t env vs depth n at vars (Ok (Some (m + 1)))
       choice_then y l =
           let f = found_onward ev h in
           let g = so.after in
           by_arm (omega arith, omega arith)
           (λ c d e x next. (d, subst (λ (i : ℕ). Stands t depth d (i + 1)) (found c x.then_at x.condition).1 x.part, decided y c d e x next))
 
-      pub choice_wrong : ((i : ℕ) → t.kind i ≡ 16 → i < n) → n ≤ m → Chooses t env vs depth n at vars Went.Nothing
+      pub choice_wrong : ((i : ℕ) → t.kind i ≡ 16 → i < n) → n ≤ m → Chooses t env vs depth n at vars (Ok None)
       choice_wrong inside l =
           by_arm tt
           (λ c d e x next. absurd (let e = (found c x.then_at x.condition).1 in let q = inside x.then_at x.is_then in omega arith))
@@ -151,13 +144,13 @@ module _ (t : Table) (env : Env) (vs : List ℤ) (depth n at : ℕ) (vars : List
         there : k ≡ t.kind (t.inner arm)
         there = ek ∙ ap (λ (i : ℕ). t.kind i) eo
 
-        pub choice_else : k ≡ 7 → arm < o → o < n → Chooses t env vs depth n at vars (Went.List (o + 1))
+        pub choice_else : k ≡ 7 → arm < o → o < n → Chooses t env vs depth n at vars (Ok (Some (o + 1)))
         choice_else is l f =
             let g = so.after in
             by_arm (omega arith, omega arith)
             (λ c d e x next. (e, subst (λ (i : ℕ). Stands t depth e (i + 1)) (sym eo) (x.rest.at_else (sym there ∙ is)), decided y c d e x next))
 
-        pub choice_end : (k ≡ 7 → ⊥) → (k ≡ 8 → ⊥) → Chooses t env vs depth n at vars Went.Nothing
+        pub choice_end : (k ≡ 7 → ⊥) → (k ≡ 8 → ⊥) → Chooses t env vs depth n at vars (Ok None)
         unfolding exec
         choice_end not_else not_elsif =
             by_arm tt
@@ -190,7 +183,7 @@ module _ (t : Table) (env : Env) (vs : List ℤ) (depth n at : ℕ) (vars : List
                 (s.0, s.1, s.2, s.3, λ next. q next ∙ decided y c₁ d₁ e₁ x next ∙ s.4 next)
 
 -- the position of a list that is chosen
-pub chosen_onward : {t : Table} {env : Env} {vs : List ℤ} {depth n at : ℕ} {vars : List ℤ} {r : Chosen} {m : ℕ} → Chooses t env vs depth n at vars r → r ≡ Went.List m → (at < m) × (m ≤ n)
+pub chosen_onward : {t : Table} {env : Env} {vs : List ℤ} {depth n at : ℕ} {vars : List ℤ} {r : Chosen} {m : ℕ} → Chooses t env vs depth n at vars r → r ≡ Ok (Some m) → (at < m) × (m ≤ n)
 chosen_onward {n = n} {at = at} x h = rw h at x.onward
 
 -- what stands at an `if`
@@ -228,15 +221,15 @@ module _ (t : Table) (env : Env) (depth at : ℕ) (vars next ix : List ℤ) {k :
       kept = k;
     }
 
-    pub if_fault : {a p : ℕ} → chosen ≡ Went.Faulted a p → RunsStatement t env depth at vars next ix vars next ix (Faulted a p)
-    if_fault {a} {p} h = by_choice (Went.Faulted a p) h refl (λ F s. sym s)
+    pub if_fault : {a p : ℕ} → chosen ≡ Err (refusal a p) → RunsStatement t env depth at vars next ix vars next ix (Faulted a p)
+    if_fault {a} {p} h = by_choice (Err (refusal a p)) h refl (λ F s. sym s)
 
-    pub if_nothing : chosen ≡ Went.Nothing → RunsStatement t env depth at vars next ix vars next ix On
-    if_nothing h = by_choice Went.Nothing h refl (λ F s. sym s)
+    pub if_nothing : chosen ≡ (Ok None) → RunsStatement t env depth at vars next ix vars next ix On
+    if_nothing h = by_choice (Ok None) h refl (λ F s. sym s)
 
-    pub if_list : {m : ℕ} {vars' next' ix' : List ℤ} {r : Going} → chosen ≡ Went.List m → RunsBlock t env depth m vars next ix vars' next' ix' r
+    pub if_list : {m : ℕ} {vars' next' ix' : List ℤ} {r : Going} → chosen ≡ Ok (Some m) → RunsBlock t env depth m vars next ix vars' next' ix' r
         → RunsStatement t env depth at vars next ix vars' next' ix' r
-    if_list {m} h run = by_choice (Went.List m) h run.kept (λ F s. run.says s.0 s.1 ∙ sym s.2)
+    if_list {m} h run = by_choice (Ok (Some m)) h run.kept (λ F s. run.says s.0 s.1 ∙ sym s.2)
 
   pub statement_forall : {vars' next' ix' : List ℤ} {r : Going} → k ≡ 12 → RunsLoop t env depth at vars next ix vars' next' ix' r → RunsStatement t env depth at vars next ix vars' next' ix' r
   unfolding Stands exec
@@ -294,9 +287,8 @@ module _ (t : Table) (env : Env) (depth at : ℕ) (vars next ix : List ℤ) {k :
 pub faulted_stops : {a p : ℕ} → Faulted a p ≡ On → ⊥
 faulted_stops e = let z : ◌≡◌ {A = ℕ} 0 1 = cc in absurd (omega arith)
 
--- a variant of `Going` but for the first
-pub other_stops : {r : Going} → (tag_of the_type r ≡ 1) ⊎ (tag_of the_type r ≡ 2) → r ≡ On → ⊥
-other_stops k e = let z : tag_of the_type On ≡ 0 = refl in let q = ap (tag_of the_type) e in ⊎_elim (λ h. omega arith) (λ h. omega arith) k
+pub leaving_stops : Leaving ≡ On → ⊥
+leaving_stops e = let z : ◌≡◌ {A = ℕ} 0 1 = cc in absurd (omega arith)
 
 -- what follows a statement stands past it
 rest_stands : (t : Table) (depth at : ℕ) → begins (t.kind at) ≡ true → (b : Block) → Stands t depth b at → Stands t depth (rest_after b) (t.past at)
@@ -393,12 +385,12 @@ module _ (t : Table) (env : Env) (depth at : ℕ) (vars₀ next₀ ix₀ : List 
         }
           where
             stopped : (x : Going) → (x ≡ On → ⊥) → (f : Frame → Outcome Frame) → onward (left_by_exit x vars' next') f ≡ left_by_exit x vars' next'
-            stopped On z f = absurd (z refl)
-            stopped Leaving z f = refl
-            stopped (Faulted a p) z f = refl
+            stopped (Ok flow.On) z f = absurd (z refl)
+            stopped (Ok flow.Leaving) z f = refl
+            stopped (Err g) z f = refl
 
     -- at an `if` the list goes on with what is chosen, and what is behind the `if` waits
-    pub block_enters : k ≡ 13 → {n : ℕ} {chosen : Chosen} → Chooses t env (take depth ix) depth n here vars chosen → {m : ℕ} → chosen ≡ Went.List m
+    pub block_enters : k ≡ 13 → {n : ℕ} {chosen : Chosen} → Chooses t env (take depth ix) depth n here vars chosen → {m : ℕ} → chosen ≡ Ok (Some m)
         → {l : ℕ} → l ≡ t.past here → top < length ends → Progress m (set ends top l) (top + 1) vars next ix
     unfolding exec
     block_enters is {n} {chosen} ch {m} h {l} el room = record {

@@ -4,17 +4,16 @@ ghost use Rattle.value.specs.Limits.{most_turns};
 ghost use Rattle.value.specs.Worked.{span_of};
 ghost use Rattle.token.specs.Kind.{keyword};
 ghost use Rattle.cell_meaning.specs.Links.{begins};
-ghost use Rattle.cell_operands.specs.Promises.Working.{site_table, env_of, SiteReady};
+ghost use Rattle.cell_operands.specs.Promises.Scene.{table, env};
 ghost use Rattle.cell_statements.specs.Promises.Running.{RunsBlock, RunsStatement, Chooses, RunsLoop};
 
-use crate::Going;
-use crate::assignment::{assignment, is_true, settled};
-use cell_expressions::simple::simple;
-use cell_operands::table::{link_at, word_at};
-use cell_operands::{Site, Told};
+use crate::Flow;
+use crate::assignment::{assignment, evaluated, is_true};
+use cell_operands::scene::Scene;
+use program::reply::Refusal;
 use token::kind;
 use value::Value;
-use value::limits::{LEAF_WORDS, MOST_NAMES, MOST_OPEN, MOST_TURNS};
+use value::limits::{MOST_NAMES, MOST_OPEN, MOST_TURNS};
 
 // Whether a token of this kind begins a statement.
 pub fn begins(kind: u32) -> bool
@@ -48,132 +47,80 @@ fn set_index(index: &mut [i32], depth: usize, low: Value, high: Value, k: u64)
     index[depth] = n;
 }
 
-// Where an `if` goes on: with a list of statements at a position; with none; or not at all, after a fault.
-#[derive(Clone, Copy)]
-pub enum Chosen {
-    List(usize),
-    Nothing,
-    Faulted(u32, u32),
-}
-
-// The choice at an `if`: its arms are tried in order.
+// The choice at an `if`: its arms are tried in order. The position of the statements with which it goes on, if there are any.
 fn choose(
-    leaves: &[u32; LEAF_WORDS],
-    words: &[u32],
-    sizes: &[u32],
-    point: &[u32],
-    grid: &[i32],
+    scene: &Scene,
     vars: &[i32; MOST_NAMES],
     index: &[i32; MOST_OPEN],
-    site: Site,
-    depth: usize,
     at: usize,
-) -> Chosen
-    requires { SiteReady leaves.now words.now sizes.now point.now grid.now site depth × (at < site.tokens) }
-    ensures { Chooses (site_table words.now sizes.now site) (env_of words.now sizes.now grid.now site) (take depth index.now) depth site.tokens at (take site.slots vars.now) result }
+) -> Result<Option<usize>, Refusal>
+    requires { at < scene.now.site.tokens }
+    ensures { Chooses (table scene.now) (env scene.now) (take scene.now.depth index.now) scene.now.depth scene.now.site.tokens at (take scene.now.site.slots vars.now) result }
 {
-    let n = site.tokens;
+    let n = scene.tokens();
     let mut arm = at;
     loop {
-        let from = arm + 1;
-        let first = simple(
-            leaves, words, sizes, point, grid, vars, index, site, depth, from,
-        );
-        let told = settled(
-            first, leaves, words, sizes, point, grid, vars, index, site, depth, from,
-        );
-        match told {
-            Told::Found(v, m) => {
-                if is_true(v) {
-                    if m < n {
-                        return Chosen::List(m + 1);
-                    }
-                    return Chosen::Nothing;
-                }
-                let other = link_at(words, n, 2, arm);
-                let kind = word_at(words, n, 0, other);
-                if kind == kind::ELSE_WORD {
-                    return Chosen::List(other + 1);
-                }
-                if kind != kind::ELSIF_WORD {
-                    return Chosen::Nothing;
-                }
-                arm = other;
+        let condition = evaluated(scene, vars, index, arm + 1)?;
+        if is_true(condition.value) {
+            if condition.next < n {
+                return Ok(Some(condition.next + 1));
             }
-            Told::Failed(k, p) => {
-                return Chosen::Faulted(k, p);
-            }
+            return Ok(None);
         }
+        let other = scene.inner(arm);
+        let kind = scene.kind(other);
+        if kind == kind::ELSE_WORD {
+            return Ok(Some(other + 1));
+        }
+        if kind != kind::ELSIF_WORD {
+            return Ok(None);
+        }
+        arm = other;
     }
 }
 
 // The statements from a position on, to the end of their list. At an `if`, the position after it is kept on a stack, and the statements that are chosen come next; where the stack is full, they are run by a call.
 #[cycle(statements)]
 pub fn block(
-    leaves: &[u32; LEAF_WORDS],
-    words: &[u32],
-    sizes: &[u32],
-    point: &[u32],
-    grid: &[i32],
+    scene: &Scene,
     vars: &mut [i32; MOST_NAMES],
     index: &mut [i32; MOST_OPEN],
     next: &mut [i32],
-    site: Site,
-    depth: usize,
     at: usize,
-) -> Going
-    requires { SiteReady leaves.now words.now sizes.now point.now grid.now site depth × (at ≤ site.tokens) }
-    ensures { RunsBlock (site_table words.now sizes.now site) (env_of words.now sizes.now grid.now site) depth at (take site.slots vars.old) next.old index.old (take site.slots vars.new) next.new index.new result }
+) -> Result<Flow, Refusal>
+    requires { at ≤ scene.now.site.tokens }
+    ensures { RunsBlock (table scene.now) (env scene.now) scene.now.depth at (take scene.now.site.slots vars.old) next.old index.old (take scene.now.site.slots vars.new) next.new index.new result }
 {
-    let n = site.tokens;
     let mut ends = [0u32; MOST_OPEN];
     let mut top: usize = 0;
     let mut here = at;
     loop {
-        let kind = word_at(words, n, 0, here);
+        let kind = scene.kind(here);
         if kind == kind::IF_WORD {
-            let past = link_at(words, n, 3, here);
-            let chosen = choose(
-                leaves, words, sizes, point, grid, vars, index, site, depth, here,
-            );
-            match chosen {
-                Chosen::List(m) => {
+            let past = scene.past(here);
+            match choose(scene, vars, index, here)? {
+                Some(m) => {
                     if top < MOST_OPEN {
                         ends[top] = past as u32;
                         top += 1;
                         here = m;
                     } else {
-                        // Copies, so that the loop's own need not be read from memory again.
-                        let same = site;
-                        let table = words;
-                        let old = grid;
-                        let inner = block(
-                            leaves, table, sizes, point, old, vars, index, next, same, depth, m,
-                        );
-                        let Going::On = inner else {
-                            return inner;
-                        };
-                        here = past;
+                        match block(scene, vars, index, next, m)? {
+                            Flow::On => here = past,
+                            Flow::Leaving => return Ok(Flow::Leaving),
+                        }
                     }
                 }
-                Chosen::Nothing => {
-                    here = past;
-                }
-                Chosen::Faulted(k, p) => {
-                    return Going::Faulted(k, p);
-                }
+                None => here = past,
             }
         } else if begins(kind) {
-            let flow = statement(
-                leaves, words, sizes, point, grid, vars, index, next, site, depth, here,
-            );
-            let Going::On = flow else {
-                return flow;
-            };
-            here = link_at(words, n, 3, here);
+            match statement(scene, vars, index, next, here)? {
+                Flow::On => here = scene.past(here),
+                Flow::Leaving => return Ok(Flow::Leaving),
+            }
         } else {
             if top == 0 {
-                return Going::On;
+                return Ok(Flow::On);
             }
             top -= 1;
             here = ends[top] as usize;
@@ -184,97 +131,59 @@ pub fn block(
 // The statement at a position, whose kind begins one, but for `if`.
 #[cycle(statements)]
 fn statement(
-    leaves: &[u32; LEAF_WORDS],
-    words: &[u32],
-    sizes: &[u32],
-    point: &[u32],
-    grid: &[i32],
+    scene: &Scene,
     vars: &mut [i32; MOST_NAMES],
     index: &mut [i32; MOST_OPEN],
     next: &mut [i32],
-    site: Site,
-    depth: usize,
     at: usize,
-) -> Going
-    requires { SiteReady leaves.now words.now sizes.now point.now grid.now site depth × (at < site.tokens) × ((site_table words.now sizes.now site).kind at ≡ keyword.if → ⊥) }
-    ensures { RunsStatement (site_table words.now sizes.now site) (env_of words.now sizes.now grid.now site) depth at (take site.slots vars.old) next.old index.old (take site.slots vars.new) next.new index.new result }
+) -> Result<Flow, Refusal>
+    requires { (at < scene.now.site.tokens) × ((table scene.now).kind at ≡ keyword.if → ⊥) }
+    ensures { RunsStatement (table scene.now) (env scene.now) scene.now.depth at (take scene.now.site.slots vars.old) next.old index.old (take scene.now.site.slots vars.new) next.new index.new result }
 {
-    let kind = word_at(words, site.tokens, 0, at);
+    let kind = scene.kind(at);
     if kind == kind::FORALL_WORD {
-        return forall(
-            leaves, words, sizes, point, grid, vars, index, next, site, depth, at,
-        );
+        return forall(scene, vars, index, next, at);
     }
     if kind == kind::EXIT_WORD {
-        return Going::Leaving;
+        return Ok(Flow::Leaving);
     }
     if kind == kind::CONST_WORD {
-        return Going::On;
+        return Ok(Flow::On);
     }
-    assignment(
-        leaves, words, sizes, point, grid, vars, index, next, site, depth, at,
-    )
+    assignment(scene, vars, index, next, at)
 }
 
 // The loop at a `forall`.
 #[cycle(statements)]
 fn forall(
-    leaves: &[u32; LEAF_WORDS],
-    words: &[u32],
-    sizes: &[u32],
-    point: &[u32],
-    grid: &[i32],
+    scene: &Scene,
     vars: &mut [i32; MOST_NAMES],
     index: &mut [i32; MOST_OPEN],
     next: &mut [i32],
-    site: Site,
-    depth: usize,
     at: usize,
-) -> Going
-    requires { SiteReady leaves.now words.now sizes.now point.now grid.now site depth × (at < site.tokens) }
-    ensures { RunsLoop (site_table words.now sizes.now site) (env_of words.now sizes.now grid.now site) depth at (take site.slots vars.old) next.old index.old (take site.slots vars.new) next.new index.new result }
+) -> Result<Flow, Refusal>
+    requires { at < scene.now.site.tokens }
+    ensures { RunsLoop (table scene.now) (env scene.now) scene.now.depth at (take scene.now.site.slots vars.old) next.old index.old (take scene.now.site.slots vars.new) next.new index.new result }
 {
+    let depth = scene.depth();
     if MOST_OPEN <= depth {
-        return Going::On;
+        return Ok(Flow::On);
     }
-    let n = site.tokens;
-    let low = Value::decode(word_at(words, n, 2, at + 1));
-    let high = Value::decode(word_at(words, n, 3, at + 1));
-    let body = link_at(words, n, 2, at);
+    let inner = scene.deeper();
+    let low = Value::decode(scene.word(2, at + 1));
+    let high = Value::decode(scene.word(3, at + 1));
+    let body = scene.inner(at);
     let count = low.span(high);
     if MOST_TURNS < count {
-        return Going::On;
+        return Ok(Flow::On);
     }
     let mut k: u64 = 0;
     while k < count {
         set_index(index, depth, low, high, k);
-        // Copies, as in `block`.
-        let same = site;
-        let table = words;
-        let old = grid;
-        let flow = block(
-            leaves,
-            table,
-            sizes,
-            point,
-            old,
-            vars,
-            index,
-            next,
-            same,
-            depth + 1,
-            body,
-        );
-        match flow {
-            Going::On => {}
-            Going::Leaving => {
-                return Going::On;
-            }
-            Going::Faulted(a, p) => {
-                return flow;
-            }
+        match block(&inner, vars, index, next, body)? {
+            Flow::On => k += 1,
+            Flow::Leaving => return Ok(Flow::On),
         }
-        k += 1;
     }
-    Going::On
+    Ok(Flow::On)
 }

@@ -4,9 +4,10 @@ ghost use Rattle.automaton.specs.Grid.{cell_of};
 ghost use Rattle.cell_statements.specs.Promises.Running.{Fit, Evaluates};
 
 use crate::blocks::block;
-use crate::{Going, Outcome};
 use cell_operands::Site;
+use cell_operands::scene::Scene;
 use program::Rule;
+use program::reply::Refusal;
 use value::limits::{LEAF_WORDS, MOST_NAMES, MOST_OPEN};
 
 // Sets the first variables to 0.
@@ -14,11 +15,7 @@ fn clear(vars: &mut [i32], slots: usize)
     requires { slots ≤ length vars.old }
     ensures { take slots vars.new ≡ replicate slots (pos 0) }
 {
-    let mut k = 0;
-    while k < slots {
-        vars[k] = 0;
-        k += 1;
-    }
+    vars[..slots].fill(0);
 }
 
 // Copies the fields of a cell.
@@ -28,12 +25,7 @@ fn copy_fields(grid: &[i32], cell: usize, next: &mut [i32])
 {
     let fields = next.len();
     let from = cell * fields;
-    let mut k = 0;
-    while k < fields {
-        let n = grid[from + k];
-        next[k] = n;
-        k += 1;
-    }
+    next.copy_from_slice(&grid[from..from + fields]);
 }
 
 // Evaluates a cell, by the rule that stands in the table: its next fields are in `next`, unless there is a fault. Variables start at 0.
@@ -50,7 +42,7 @@ pub fn evaluate_cell(
     vars: &mut [i32; MOST_NAMES],
     index: &mut [i32; MOST_OPEN],
     time: u32,
-) -> Outcome
+) -> Result<(), Refusal>
     requires { Fit leaves.now words.now rule sizes.now point.now cell grid.now (length next.old) time }
     ensures { Evaluates words.now rule sizes.now cell grid.now next.new time result }
 {
@@ -58,20 +50,23 @@ pub fn evaluate_cell(
     let fields = rule.fields as usize;
     let site = Site {
         base: rule.base,
-        fields: fields,
-        slots: slots,
-        cell: cell,
+        fields,
+        slots,
+        cell,
         tokens: rule.tokens,
-        time: time,
+        time,
+    };
+    let scene = Scene {
+        leaves,
+        words,
+        sizes,
+        point,
+        grid,
+        site,
+        depth: 0,
     };
     clear(vars, slots);
     copy_fields(grid, cell, next);
-    let flow = block(
-        leaves, words, sizes, point, grid, vars, index, next, site, 0, rule.body,
-    );
-    match flow {
-        Going::On => Outcome::Done,
-        Going::Leaving => Outcome::Done,
-        Going::Faulted(k, p) => Outcome::Fault(k, p),
-    }
+    block(&scene, vars, index, next, rule.body)?;
+    Ok(())
 }

@@ -8,17 +8,9 @@ pub mod cell;
 
 pub use blocks::begins;
 
-// How statements go on: with the next one; by leaving the innermost loop; or not at all, after a fault, by its number and place.
-#[derive(Clone, Copy)]
-pub enum Going {
+// How statements go on: with the next one, or by leaving the innermost loop.
+#[derive(Clone, Copy, Debug, PartialEq, Eq)]
+pub enum Flow {
     On,
     Leaving,
-    Faulted(u32, u32),
-}
-
-// What evaluating a cell returns: its next fields, which are in the caller's memory; or its first fault, by its number and place.
-#[derive(Clone, Copy)]
-pub enum Outcome {
-    Done,
-    Fault(u32, u32),
 }

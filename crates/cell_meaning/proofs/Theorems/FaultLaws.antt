@@ -7,7 +7,8 @@ use lib.IntN.{ℤ, pos, ◌-ℤ◌, ◌*ℤ◌}
 use lib.Signed.{quot_z}
 use Rattle.value.specs.Number.{eq_z}
 use Rattle.value.specs.Worked.{value}
-use Rattle.value.specs.declared.Worked.TheVariants.{Number, ZeroDivisor}
+use Rattle.value.specs.declared.Fault.TheVariants.{ZeroDivisor}
+use Rattle.std.specs.Prelude.{Ok, Err}
 use Rattle.automaton.specs.Step.{fault}
 use Rattle.token.specs.Kind.{operation}
 use Rattle.cell_meaning.specs.Operators.{placed, apply_binary}
@@ -17,6 +18,6 @@ pub percent_never_30 : (at place : ℕ) (a b : ℤ) → placed at (apply_binary 
 unfolding apply_binary
 percent_never_30 at place a b e = by (eq_z b (pos 0)) e
   where
-    by : (t : Bool) → placed at (cond t ZeroDivisor (Number (value (a -ℤ b *ℤ quot_z a b)))) ≡ fault 30 place → ⊥
+    by : (t : Bool) → placed at (cond t (Err ZeroDivisor) (Ok (value (a -ℤ b *ℤ quot_z a b)))) ≡ fault 30 place → ⊥
     by true e = let y : ◌≡◌ {A = ℕ} 31 30 = cc in omega arith
     by false e = let y : ◌≡◌ {A = ℕ} 0 1 = cc in omega arith

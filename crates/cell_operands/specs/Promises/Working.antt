@@ -1,5 +1,5 @@
 -- What the evaluators of expressions promise.
-use Rattle.std.specs.Prelude.{◌≡◌, List, ℕ, ◌+◌, ◌*◌, ◌<◌, ◌≤◌, length, ℤ, if◌then◌else◌}
+use Rattle.std.specs.Prelude.{◌≡◌, Option, Some, None, Result, Ok, Err, List, ℕ, ◌+◌, ◌*◌, ◌<◌, ◌≤◌, length, ℤ, if◌then◌else◌}
 use Rattle.value.specs.Limits.{most_tokens, most_names, most_open, most_dims, most_fields}
 use Rattle.value.specs.Promises.Buffers.{most_room}
 use Rattle.value.specs.Worked.{value}
@@ -10,14 +10,14 @@ use Rattle.automaton.specs.Promises.ShapeLaws.{Shaped}
 use Rattle.automaton.specs.Grid.{cell_of}
 use Rattle.token.specs.Kind.{kind, delimiter}
 use Rattle.program.specs.Syntax.{Expr}
+use Rattle.program.specs.Refusal.{Refusal, refusal}
 use Rattle.cell_meaning.specs.Operators.{placed, apply_binary}
 use Rattle.cell_meaning.specs.Evaluation.{Env, eval}
 use Rattle.cell_meaning.specs.Promises.Stands.{ranges_in, refers, is_unary, parsed, decode_expression, decode_operand, decode_primary, decode_name, decode_bracket}
 use Rattle.cell_meaning.specs.Links.{Table, table_of}
 use Rattle.cell_meaning.specs.Promises.Leaves.{Leaves}
 use Rattle.cell_operands.specs.declared.Site.{Site}
-use Rattle.cell_operands.specs.declared.Told.{Told}
-use Rattle.cell_operands.specs.declared.Told.TheVariants.{Found, Failed}
+use Rattle.cell_operands.specs.declared.Evaluated.{Evaluated}
 
 -- ---- what is read
 
@@ -52,15 +52,30 @@ pub record SiteReady (leaves words sizes point : List ℕ) (grid : List ℤ) (si
 
 -- ---- answers
 
--- an evaluator's answer: a value with the position past the expression, or a fault
+-- what an evaluator returns: a value with the position past the expression, or a fault with its place
+abbrev pub Told : Type 0
+Told = Result Evaluated Refusal
+
+abbrev pub Found : Value → ℕ → Told
+Found v next = Ok (record { value = v; next = next })
+
+abbrev pub Failed : ℕ → ℕ → Told
+Failed number place = Err (refusal number place)
+
+-- what a short way finds, which may be left: where it is, a fault that says nothing
+abbrev pub short : Option Evaluated → Told
+short (Some e) = Ok e
+short None = Failed 0 0
+
+-- an evaluator's answer, by the outcome
 abbrev pub told_of : Outcome ℤ → ℕ → Told
 told_of (result z) next = Found (value z) next
 told_of (fault number place) next = Failed number place
 
 -- an answer's position lies past `at` and not past the last token
 abbrev pub OperandOnward : ℕ → ℕ → Told → Type 0
-OperandOnward at n (Found v next) = (at < next) × (next ≤ n)
-OperandOnward at n (Failed number place) = Unit {0}
+OperandOnward at n (Ok e) = (at < e.next) × (e.next ≤ n)
+OperandOnward at n (Err f) = Unit {0}
 
 -- the position of the primary of an operand at a position, whose first token is of kind k
 abbrev pub primary_from : ℕ → ℕ → ℕ

@@ -1,5 +1,6 @@
 -- What the functions that run statements promise.
-use Rattle.std.specs.Prelude.{◌≡◌, Bool, true, false, List, [], ◌∷◌, ◌++◌, ℕ, ◌+◌, ◌<◌, ◌≤◌, length, get_or, take, ℤ, if◌then◌else◌}
+use Rattle.std.specs.Prelude as prelude
+use Rattle.std.specs.Prelude.{◌≡◌, Some, None, Result, Ok, Err, Bool, true, false, List, [], ◌∷◌, ◌++◌, ℕ, ◌+◌, ◌<◌, ◌≤◌, length, get_or, take, ℤ, if◌then◌else◌}
 use Rattle.std.proofs.Math.Option.{Option, none, some}
 use Rattle.value.specs.Promises.Buffers.{most_room}
 use Rattle.value.specs.Worked.{span_of}
@@ -7,6 +8,7 @@ use Rattle.automaton.specs.Step as Step
 use Rattle.automaton.specs.Shape.{product, coordinates, neighbour}
 use Rattle.automaton.specs.Promises.ShapeLaws.{Shaped}
 use Rattle.automaton.specs.Grid.{cell_of}
+use Rattle.program.specs.Refusal.{Refusal, refusal}
 use Rattle.program.specs.Syntax.{Range, no_range, Expr, Clause, Block, empty, assign, select, loop, exit, constant, Program}
 use Rattle.program.specs.declared.Rule.{Rule}
 use Rattle.program.specs.Promises.Fitting.{Sized}
@@ -14,20 +16,27 @@ use Rattle.cell_meaning.specs.Evaluation.{Env, bind, eval, Frame, frame, onward,
 use Rattle.cell_meaning.specs.Promises.Leaves.{Leaves}
 use Rattle.cell_meaning.specs.Promises.Stands.{ExprAt, target_in, first_clause, ClausesAt, LoopAt, Stands, Choice, Holds}
 use Rattle.cell_meaning.specs.Links.{Table, begins}
-use Rattle.cell_statements.specs.declared.Going.{Going}
-use Rattle.cell_statements.specs.declared.Going.TheVariants.{On, Leaving, Faulted}
-use Rattle.cell_statements.specs.declared.Outcome.{Outcome}
-use Rattle.cell_statements.specs.declared.Outcome.TheVariants.{Done, Fault}
-use Rattle.cell_statements.specs.declared.assignment.Verdict.{Verdict}
-use Rattle.cell_statements.specs.declared.assignment.Verdict.TheVariants as Said
-use Rattle.cell_statements.specs.declared.blocks.Chosen.{Chosen}
-use Rattle.cell_statements.specs.declared.blocks.Chosen.TheVariants as Went
+use Rattle.cell_statements.specs.declared.Flow.{Flow}
+use Rattle.cell_statements.specs.declared.Flow.TheVariants as flow
+
+-- how statements go on: with the next one, by leaving the innermost loop, or not at all, after a fault
+abbrev pub Going : Type 0
+Going = Result Flow Refusal
+
+abbrev pub On : Going
+On = Ok flow.On
+
+abbrev pub Leaving : Going
+Leaving = Ok flow.Leaving
+
+abbrev pub Faulted : ℕ → ℕ → Going
+Faulted number place = Err (refusal number place)
 
 -- what a function leaves: the frame, or the fault
 abbrev pub left_by_exit : Going → List ℤ → List ℤ → Step.Outcome Frame
-left_by_exit On vars next = Step.result (frame false vars next)
-left_by_exit Leaving vars next = Step.result (frame true vars next)
-left_by_exit (Faulted number place) vars next = Step.fault number place
+left_by_exit (Ok flow.On) vars next = Step.result (frame false vars next)
+left_by_exit (Ok flow.Leaving) vars next = Step.result (frame true vars next)
+left_by_exit (Err f) vars next = Step.fault f.number f.place
 
 -- ---- assignments
 
@@ -48,15 +57,17 @@ abbrev pub ConditionAt : Table → Option Expr → ℕ → Type 0
 ConditionAt t none at = t.word2 at ≡ 0
 ConditionAt t (some e) at = (past : ℕ) × (t.word2 at ≡ 0 → ⊥) × ExprAt t e (t.inner at) past
 
--- what is found of a condition
+-- what is found of a condition: whether it holds, or a fault
+abbrev pub Verdict : Type 0
+Verdict = Result Bool Refusal
+
 abbrev pub guarded : Verdict → Step.Outcome Bool
-guarded Said.Holds = Step.result true
-guarded Said.Fails = Step.result false
-guarded (Said.Faulted number place) = Step.fault number place
+guarded (Ok holds) = Step.result holds
+guarded (Err f) = Step.fault f.number f.place
 
 pub record Guards (t : Table) (env : Env) (vs : List ℤ) (here : ℕ) (vars : List ℤ) (r : Verdict) : Type 0 where
   pub says : (o : Option Expr) → ConditionAt t o here → met env vars vs o ≡ guarded r
-  pub asked : r ≡ Said.Fails → t.word2 here ≡ 0 → ⊥
+  pub asked : r ≡ Ok false → t.word2 here ≡ 0 → ⊥
 
 pub record Assigns (t : Table) (env : Env) (vs : List ℤ) (at : ℕ) (vars next vars' next' : List ℤ) (r : Going) : Type 0 where
   pub says : (cs : List Clause) → ClausesAt t cs (first_clause t at) → left_by_exit r vars' next' ≡ assign_first env vs (target_in t at) cs (frame false vars next)
@@ -83,16 +94,19 @@ pub record RunsStatement (t : Table) (env : Env) (depth at : ℕ) (vars next ix 
   pub kept : take depth ix' ≡ take depth ix
 
 -- where a choice goes on: with statements that stand at a position, with nothing more, or with a fault
+abbrev pub Chosen : Type 0
+Chosen = Result (prelude.Option ℕ) Refusal
+
 abbrev pub LoopSettles : Table → Env → List ℤ → ℕ → Chosen → Step.Outcome Frame → Frame → Type 0
-LoopSettles t env vs depth (Went.List m) x fr = (b : Block) × Stands t depth b m × (x ≡ exec env vs b fr)
-LoopSettles t env vs depth Went.Nothing x fr = x ≡ Step.result fr
-LoopSettles t env vs depth (Went.Faulted number place) x fr = x ≡ Step.fault number place
+LoopSettles t env vs depth (Ok (Some m)) x fr = (b : Block) × Stands t depth b m × (x ≡ exec env vs b fr)
+LoopSettles t env vs depth (Ok None) x fr = x ≡ Step.result fr
+LoopSettles t env vs depth (Err f) x fr = x ≡ Step.fault f.number f.place
 
 -- a list's position lies past `at` and not past the last token
 abbrev pub Forward : ℕ → ℕ → Chosen → Type 0
-Forward at n (Went.List m) = (at < m) × (m ≤ n)
-Forward at n Went.Nothing = Unit {0}
-Forward at n (Went.Faulted number place) = Unit {0}
+Forward at n (Ok (Some m)) = (at < m) × (m ≤ n)
+Forward at n (Ok None) = Unit {0}
+Forward at n (Err f) = Unit {0}
 
 -- what the choice by a condition comes to
 abbrev pub choice_outcome : Env → List ℤ → Expr → Block → Block → Frame → Step.Outcome Frame
@@ -126,9 +140,12 @@ pub record Fit (leaves words : List ℕ) (rule : Rule) (sizes point : List ℕ) 
   pub noted : Leaves leaves words sizes rule.tokens rule.fields rule.slots
 
 -- the outcome of a cell whose next fields are left in `next`
+abbrev pub Outcome : Type 0
+Outcome = Result (Unit {0}) Refusal
+
 abbrev pub outcome_is : Outcome → List ℤ → Step.Outcome (List ℤ)
-outcome_is Done next = Step.result next
-outcome_is (Fault number place) next = Step.fault number place
+outcome_is (Ok done) next = Step.result next
+outcome_is (Err f) next = Step.fault f.number f.place
 
 -- whichever program stands in the table, the outcome is what its evaluation gives
 pub record Evaluates (words : List ℕ) (rule : Rule) (sizes : List ℕ) (cell : ℕ) (grid next : List ℤ) (time : ℕ) (r : Outcome) : Type 0 where

@@ -1,59 +1,57 @@
-use mathlib.Core.Path.{ap}
+use mathlib.Core.Path.{ap, ◌∙◌}
+use Rattle.std.specs.Prelude.{Ok}
+use Rattle.cell_operands.proofs.LeafLaws.{passed}
 use native.Mathlib.Omega.{arith}
 use Rattle.cell_operands.proofs.TableLaws.{token, link_bounds}
 use lib.ListN.{take}
 use Rattle.cell_statements.proofs.AssignmentLaws.{assigns_none, assigns_chosen, assigns_fault, tried_more, assigns_from}
 use Rattle.cell_statements.proofs.assignment.assignment.Goals as goal
 
-pub guard-chosen-requires : goal.guard-chosen-requires
-guard-chosen-requires c =
-    let pre = c.requires in
-    (pre.0, token _ _ _ c.word_at.ensures (omega arith))
+pub guard-requires : goal.guard-requires
+guard-requires c =
+    token _ _ _ c.kind.ensures.is (omega arith)
 
 pub assign_one-requires : goal.assign_one-requires
 assign_one-requires c =
-    let pre = c.requires in
-    let word-at-ensures = c.word_at.ensures in
-    (pre.0, token _ _ _ word-at-ensures (omega arith))
+    let l = token _ _ _ c.kind.ensures.is (omega arith) in
+    let few = c.kind.ensures.few in
+    (l, omega arith)
 
-pub returns-in-Holds : goal.returns-in-Holds
-returns-in-Holds c =
+pub returns-then-branch : goal.returns-then-branch
+returns-then-branch c =
     let args = c.args in
-    let inv = c.loop-site.invariant in
-    let word-at-ensures = c.word_at.ensures in
-    let if1-taken = c.loop-site-test.true in
-    let guard-ensures = c.guard-chosen.ensures in
-    assigns_from (ap (take args.site.slots) inv.1) inv.2
-    (assigns_chosen _ _ _ _ _ _ inv.0 word-at-ensures if1-taken guard-ensures c.in-Holds.is c.assign_one.ensures)
+    let inv = c.loop-vars.invariant in
+    assigns_from (ap (take args.scene.now.site.slots) inv.1) inv.2
+    (assigns_chosen _ _ _ _ _ _ inv.0 c.kind.ensures.is c.loop-vars-test.true c.guard.ensures (c.in_ok-guard.was ∙ ap Ok c.if-branch.true) c.assign_one.ensures)
 
-pub loop-site-smaller : goal.loop-site-smaller
-loop-site-smaller c =
-    let word-at-ensures = c.word_at.ensures in
-    omega (arith, link_bounds _ _ _ c.link_at-here.ensures (token _ _ _ word-at-ensures (omega arith)))
+pub loop-vars-smaller : goal.loop-vars-smaller
+loop-vars-smaller c =
+    let word-at-ensures = c.kind.ensures.is in
+    omega (arith, link_bounds _ _ _ c.past-here.ensures (token _ _ _ word-at-ensures (omega arith)))
 
-pub loop-site-preserved : goal.loop-site-preserved
-loop-site-preserved c =
-    let inv = c.loop-site.invariant in
-    let word-at-ensures = c.word_at.ensures in
-    let if1-taken = c.loop-site-test.true in (
-      tried_more _ _ _ _ _ _ inv.0 word-at-ensures if1-taken c.guard-chosen.ensures c.in-Fails.is
-          c.link_at-here.ensures,
+pub loop-vars-preserved : goal.loop-vars-preserved
+loop-vars-preserved c =
+    let inv = c.loop-vars.invariant in
+    let word-at-ensures = c.kind.ensures.is in
+    let if1-taken = c.loop-vars-test.true in (
+      tried_more _ _ _ _ _ _ inv.0 word-at-ensures if1-taken c.guard.ensures (c.in_ok-guard.was ∙ ap Ok c.if-branch.false)
+          c.past-here.ensures,
       inv.1,
       inv.2,
       inv.3,
     )
 
-pub returns-in-Faulted : goal.returns-in-Faulted
-returns-in-Faulted c =
+pub returns-in_err-guard : goal.returns-in_err-guard
+returns-in_err-guard c =
     let args = c.args in
-    let inv = c.loop-site.invariant in
-    let word-at-ensures = c.word_at.ensures in
-    let if1-taken = c.loop-site-test.true in
-    assigns_from (ap (take args.site.slots) inv.1) inv.2
-    (assigns_fault _ _ _ _ _ _ inv.0 word-at-ensures if1-taken c.guard-chosen.ensures c.in-Faulted.is)
+    let inv = c.loop-vars.invariant in
+    let y = c.in_err-guard.was in
+    rw (passed c.from_residual.ensures.1 y)
+    (assigns_from (ap (take args.scene.now.site.slots) inv.1) inv.2
+    (assigns_fault _ _ _ _ _ _ inv.0 c.kind.ensures.is c.loop-vars-test.true c.guard.ensures y))
 
 pub returns : goal.returns
 returns c =
     let args = c.args in
-    let inv = c.loop-site.invariant in
-    assigns_from (ap (take args.site.slots) inv.1) inv.2 (assigns_none _ _ _ _ _ _ inv.0 c.word_at.ensures c.loop-site-test.false)
+    let inv = c.loop-vars.invariant in
+    assigns_from (ap (take args.scene.now.site.slots) inv.1) inv.2 (assigns_none _ _ _ _ _ _ inv.0 c.kind.ensures.is c.loop-vars-test.false)

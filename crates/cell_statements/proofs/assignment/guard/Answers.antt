@@ -1,38 +1,17 @@
+use Rattle.cell_operands.proofs.LeafLaws.{passed}
 use Rattle.cell_operands.proofs.TableLaws.{link_bounds}
-use Rattle.cell_statements.proofs.AssignmentLaws.{guard_holds, guard_fails, guard_fault}
+use Rattle.cell_statements.proofs.AssignmentLaws.{guard_met, guard_fault}
 use Rattle.cell_statements.proofs.assignment.guard.Goals as goal
 
-pub simple-first-requires : goal.simple-first-requires
-simple-first-requires c =
-    let pre = c.requires in
-    (pre.0, (link_bounds _ _ _ c.link_at-from.ensures pre.1).1)
+pub evaluated-requires : goal.evaluated-requires
+evaluated-requires c = (link_bounds _ _ _ c.inner.ensures c.requires).1
 
-pub settled-told-requires : goal.settled-told-requires
-settled-told-requires c =
-    let pre = c.requires in
-    (pre.0, (link_bounds _ _ _ c.link_at-from.ensures pre.1).1, c.simple-first.ensures)
+pub returns-in_err-condition : goal.returns-in_err-condition
+returns-in_err-condition c =
+    let y = c.in_err-condition.was in
+    rw (passed c.from_residual.ensures.1 y)
+    (guard_fault _ _ _ _ _ c.word.ensures c.if-word-eq0.false c.inner.ensures c.evaluated.ensures y)
 
-pub returns-then-is_true : goal.returns-then-is_true
-returns-then-is_true c =
-    let word-at-ensures = c.word_at.ensures in
-    let if1-left = c.if-word_at-eq0.false in
-    let link-at-ensures = c.link_at-from.ensures in
-    let settled-ensures = c.settled-told.ensures in
-    guard_holds _ _ _ _ _ word-at-ensures if1-left link-at-ensures settled-ensures c.in-Found.is
-    c.is_true.ensures c.if-is_true.true
-
-pub returns-else-is_true : goal.returns-else-is_true
-returns-else-is_true c =
-    let word-at-ensures = c.word_at.ensures in
-    let if1-left = c.if-word_at-eq0.false in
-    let link-at-ensures = c.link_at-from.ensures in
-    let settled-ensures = c.settled-told.ensures in
-    guard_fails _ _ _ _ _ word-at-ensures if1-left link-at-ensures settled-ensures c.in-Found.is
-    c.is_true.ensures c.if-is_true.false
-
-pub returns-in-Failed : goal.returns-in-Failed
-returns-in-Failed c =
-    let word-at-ensures = c.word_at.ensures in
-    let if1-left = c.if-word_at-eq0.false in
-    let link-at-ensures = c.link_at-from.ensures in
-    guard_fault _ _ _ _ _ word-at-ensures if1-left link-at-ensures c.settled-told.ensures c.in-Failed.is
+pub returns : goal.returns
+returns c =
+    guard_met _ _ _ _ _ c.word.ensures c.if-word-eq0.false c.inner.ensures c.evaluated.ensures c.in_ok-condition.was c.is_true.ensures

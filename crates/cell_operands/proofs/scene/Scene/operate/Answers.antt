@@ -1,5 +1,5 @@
 use Rattle.cell_operands.proofs.OperatorLaws.{OperatorWays}
-use Rattle.cell_operands.proofs.operators.operate_unary.Goals as goal
+use Rattle.cell_operands.proofs.scene.Scene.operate.Goals as goal
 
 pub returns : goal.returns
 returns c = search OperatorWays
