@@ -10,9 +10,9 @@ use Rattle.value.specs.Limits.{most_cells}
 use Rattle.value.specs.Promises.Buffers.{most_room}
 use Rattle.automaton.specs.Promises.ShapeLaws.{Shaped}
 use Rattle.program.specs.declared.Rule.{Rule}
-use Rattle.cell_statements.specs.declared.Outcome.{Outcome}
-use Rattle.cell_statements.specs.declared.Outcome.TheVariants.{Done, Fault}
-use Rattle.cell_statements.specs.Promises.Running.{Fit, outcome_is, Evaluates}
+use Rattle.std.specs.Prelude.{Ok, Err}
+use Rattle.program.specs.Refusal.{Refusal}
+use Rattle.cell_statements.specs.Promises.Running.{Fit, Outcome, outcome_is, Evaluates}
 use Rattle.run_step.specs.declared.Evaluation.{Evaluation}
 use Rattle.run_step.specs.declared.Evaluation.TheVariants as Gave
 use Rattle.run_step.specs.Promises.Turns.{CellsCounted, outcome_in, Turning, CellTurned}
@@ -20,10 +20,10 @@ use Rattle.run_marked_cells.proofs.PartLaws.{part_own, part_kept}
 
 -- an evaluated cell, counted
 module _ {words : List ℕ} {rule : Rule} {sizes : List ℕ} {cell : ℕ} {grid next : List ℤ} {time count : ℕ} {r : Outcome} (e : Evaluates words rule sizes cell grid next time r) where
-  pub counted_done : r ≡ Done → CellsCounted words rule sizes cell grid next time count (Gave.Done (count + 1))
+  pub counted_done : r ≡ Ok tt → CellsCounted words rule sizes cell grid next time count (Gave.Done (count + 1))
   counted_done q = record { says = λ p h. ap (λ (o : Outcome). outcome_is o next) (sym q) ∙ e.says p h; count_is = refl }
 
-  pub counted_fault : {k p : ℕ} → r ≡ Fault k p → CellsCounted words rule sizes cell grid next time count (Gave.Fault k p (count + 1))
+  pub counted_fault : {f : Refusal} → r ≡ Err f → CellsCounted words rule sizes cell grid next time count (Gave.Fault f.number f.place (count + 1))
   counted_fault q = record { says = λ p h. ap (λ (o : Outcome). outcome_is o next) (sym q) ∙ e.says p h; count_is = refl }
 
 -- a grid is small enough

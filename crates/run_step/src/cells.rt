@@ -5,7 +5,6 @@ ghost use Rattle.cell_statements.specs.Promises.Running.{Fit};
 ghost use Rattle.run_step.specs.Promises.Turns.{CellsCounted, Turning, CellTurned};
 
 use crate::Evaluation;
-use cell_statements::Outcome;
 use cell_statements::cell::evaluate_cell;
 use program::Rule;
 use value::limits::{LEAF_WORDS, MOST_NAMES, MOST_OPEN};
@@ -32,8 +31,8 @@ fn evaluate_counted(
         leaves, words, rule, sizes, point, cell, grid, next, vars, index, time,
     );
     match outcome {
-        Outcome::Done => Evaluation::Done(count + 1),
-        Outcome::Fault(number, at) => Evaluation::Fault(number, at, count + 1),
+        Ok(()) => Evaluation::Done(count + 1),
+        Err(fault) => Evaluation::Fault(fault.number, fault.place, count + 1),
     }
 }
 
