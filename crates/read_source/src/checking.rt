@@ -15,7 +15,6 @@ use read_expressions::inside::Inside;
 use read_state::{Read, Reading, refuse};
 use read_statements::read_block;
 use spelling::is_built_in;
-use token::scanning::clear;
 use token::{Scan, kind, scan_source};
 use value::limits::{MOST_BYTES, NAME_WORDS, TABLE_WORDS};
 
@@ -86,7 +85,7 @@ fn load_into(source: &[u8], words: &mut [u32], names: &mut [u32]) -> Result<Rule
     ensures loads { Loads source.now words.old names.old (is_loaded result) (rule_in result) }
 {
     let scan = scan_source(source, words);
-    clear(names);
+    names.fill(0);
     match read_program(source, names, words, scan) {
         Ok(p) => {
             settle_values(words, names, p.next.count);
@@ -101,8 +100,8 @@ fn load_into(source: &[u8], words: &mut [u32], names: &mut [u32]) -> Result<Rule
             })
         }
         Err(e) => {
-            clear(words);
-            clear(names);
+            words.fill(0);
+            names.fill(0);
             Err(e)
         }
     }

@@ -11,7 +11,7 @@ pub settle_values-requires : goal.settle_values-requires
 settle_values-requires c =
     let pre = c.requires in
     let scan_source = c.scan_source-scan in
-    (few_next c.read_program.ensures.reaches (ap end_in c.in-Ok.is), c.read_program.auto.words ∙ scan_source.auto.words ∙ pre.0, c.read_program.auto.names ∙ c.clear.auto.words ∙ pre.1)
+    (few_next c.read_program.ensures.reaches (ap end_in c.in-Ok.is), c.read_program.auto.words ∙ scan_source.auto.words ∙ pre.0, c.read_program.auto.names ∙ c.fill.ensures.len ∙ pre.1)
 
 pub overflow_cast-result : goal.overflow_cast-result
 overflow_cast-result c =
@@ -29,7 +29,7 @@ returns-in-Ok c =
     let pre = c.requires in
     let scan_source = c.scan_source-scan in
     let both =
-    accepted_with _ _ _ pre.0 pre.1 pre.2 scan_source.ensures (c.clear.ensures ∙ ap (λ (n : ℕ). replicate n 0) pre.1) c.read_program.ensures c.in-Ok.is c.settle_values.ensures
+    accepted_with _ _ _ pre.0 pre.1 pre.2 scan_source.ensures (c.fill.ensures.after (λ _ e. e) ∙ ap (λ (n : ℕ). replicate n 0) pre.1) c.read_program.ensures c.in-Ok.is c.settle_values.ensures
     _ refl refl refl refl refl refl c.has_kind.ensures in
     record { checks = both.0; loads = both.1 }
 
@@ -38,6 +38,6 @@ returns-in-Err c =
     let pre = c.requires in
     let scan_source = c.scan_source-scan in
     let both =
-    refused_with _ _ _ pre.0 pre.1 pre.2 scan_source.ensures (c.clear.ensures ∙ ap (λ (n : ℕ). replicate n 0) pre.1) c.read_program.ensures c.in-Err.is
-    (c.read_program.auto.words ∙ scan_source.auto.words) (c.read_program.auto.names ∙ c.clear.auto.words) c.clear-in-Err.ensures c.clear-in-Err-2.ensures in
+    refused_with _ _ _ pre.0 pre.1 pre.2 scan_source.ensures (c.fill.ensures.after (λ _ e. e) ∙ ap (λ (n : ℕ). replicate n 0) pre.1) c.read_program.ensures c.in-Err.is
+    (c.read_program.auto.words ∙ scan_source.auto.words) (c.read_program.auto.names ∙ c.fill.ensures.len) (c.fill-in-Err.ensures.after (λ _ e. e)) (c.fill-in-Err-2.ensures.after (λ _ e. e)) in
     record { checks = both.0; loads = both.1 }
