@@ -77,11 +77,10 @@ pub fn open_run(
 ) -> Opening
     ensures { RunOpens (rooms_fit (length words.old) (length names.old)) source.now words.old names.old (ask (request_of sizes.now grid.now scratch marks start steps) values.now (counts_of counted field rows)) result words.new names.new }
 {
-    let loaded = load(source, words, names);
-    if !loaded.accepted {
-        return closed(loaded.number, loaded.place, 0);
-    }
-    let rule = loaded.rule;
+    let rule = match load(source, words, names) {
+        Ok(rule) => rule,
+        Err(refusal) => return closed(refusal.number, refusal.place, 0),
+    };
     let reach = match admit(words, rule, sizes, grid, scratch, marks, start, steps) {
         Ok(reach) => reach,
         Err(refusal) => return closed(refusal.number, refusal.place, 0),
