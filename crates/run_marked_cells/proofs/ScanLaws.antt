@@ -1,14 +1,18 @@
 -- The search for the next marked cell, and for the end of a run of them.
-use Prim.Native.Nat.{ℕ, zero, suc, ◌+◌, ◌≤◌, ◌<◌}
+use Prim.Native.Nat.{ℕ, zero, suc, ◌+◌, ◌-◌, ◌≤◌, ◌<◌}
 use native.Mathlib.Omega.{arith}
 use mathlib.Core.Path.{◌≡◌, refl, ap, ◌∙◌}
 use mathlib.Core.Logic.{◌⊎◌, inl, inr}
 use mathlib.Core.Bool.{Bool, true, false}
 use mathlib.Core.List.{List}
-use lib.ListN.{length, get_or}
+use lib.ListN.{length, get_or, take, drop, length-drop}
+use lib.Seq.{length-take-le, get_or-take, get_or-drop}
 use lib.Dec.{ltb}
 use borrow.Author.Tests.{ltb-true, ltb-false}
-use Rattle.automaton.specs.Promises.ListedLaws.{last_or_below}
+use Rattle.std.specs.Prelude as rust
+use Rattle.std.specs.Prelude.{MatchOption}
+use Rattle.std.specs.List.{AllWithin, HoldsAt}
+use Rattle.std.proofs.option.Match.{if_some}
 use Rattle.automaton.specs.Step.{non_zero, marked}
 use Rattle.run_marked_cells.specs.Promises.Clear.{Clear}
 use Rattle.run_marked_cells.specs.Promises.Marked.{NextMarked, MarkedUpTo}
@@ -65,15 +69,38 @@ module _ (marks : List ℕ) (from at : ℕ) (h : Scanned marks from at) where
 
 -- ---- a run of marked cells
 
-pub run_start : (marks : List ℕ) (from : ℕ) → from < length marks → MarkedUpTo marks from (from + 1)
-run_start marks from l = record { onward = omega arith; within = omega arith; between = λ c a b. absurd (omega arith) }
+module _ (marks : List ℕ) (from : ℕ) where
+  -- the marks behind a cell
+  abbrev behind : List ℕ
+  behind = take (length marks - (from + 1)) (drop (from + 1) marks)
 
-pub run_more : (marks : List ℕ) (from at : ℕ) → MarkedUpTo marks from at → at < length marks → (get_or marks at 0 ≡ 0 → ⊥) → MarkedUpTo marks from (at + 1)
-run_more marks from at h l m = let o = h.onward in record { onward = omega arith; within = omega arith; between = λ c a b. on c a (last_or_below (omega arith)) }
-  where
-    on : (c : ℕ) → from < c → (c ≡ at) ⊎ (c < at) → marked marks c ≡ true
-    on c a (inl q) = ap (marked marks) q ∙ is_marked marks at m
-    on c a (inr q) = h.between c a q
+  -- what a search for a mark that is 0 finds in them
+  abbrev pub FoundEnd : rust.Option ℕ → Type 0
+  FoundEnd r = MatchOption r (AllWithin (λ x. x ≡ 0 → ⊥) behind 0 (length behind)) (λ i. (i < length behind) × HoldsAt (λ x. x ≡ 0) behind i × AllWithin (λ x. x ≡ 0 → ⊥) behind 0 i)
+
+  size : length behind ≡ length marks - (from + 1)
+  size = length-take-le (length marks - (from + 1)) (drop (from + 1) marks) (rw length-drop (omega arith))
+
+  run_to : (i : ℕ) → i ≤ length marks - (from + 1) → from < length marks → AllWithin (λ x. x ≡ 0 → ⊥) behind 0 i → MarkedUpTo marks from (from + 1 + i)
+  run_to i l some all = record { onward = omega arith; within = omega arith; between = λ c a b. on c a (omega (arith, b)) }
+    where
+      on : (c : ℕ) → from < c → c < from + 1 + i → marked marks c ≡ true
+      on c a b =
+          let k = c - (from + 1) in
+          let there : from + 1 + k ≡ c = omega arith in
+          let here : get_or behind k 0 ≡ get_or marks c 0 =
+          get_or-take (length marks - (from + 1)) (drop (from + 1) marks) k 0 (omega arith) ∙ get_or-drop (from + 1) marks k 0 ∙ ap (λ (x : ℕ). get_or marks x 0) there
+          in
+          is_marked marks c (λ z. all k 0 (omega arith) (omega arith) (here ∙ z))
+
+  pub run_found : {r : rust.Option ℕ} (i : ℕ) → from < length marks → r ≡ rust.Some i → FoundEnd r → MarkedUpTo marks from (from + 1 + i)
+  run_found i some e found = let first = if_some _ _ _ e found in run_to i (omega (arith, first.0, size)) some first.2
+
+  pub run_none : {r : rust.Option ℕ} → from < length marks → r ≡ rust.None → FoundEnd r → MarkedUpTo marks from (length marks)
+  run_none some e found =
+      let all : FoundEnd rust.None = rw e at found in
+      let last : from + 1 + (length marks - (from + 1)) ≡ length marks = omega arith in
+      rw last at (run_to (length marks - (from + 1)) (omega arith) some (λ k d a l. all k d a (omega (arith, l, size))))
 
 -- with the cell before them, if it is marked
 pub run_marked : (marks : List ℕ) (from at : ℕ) → marked marks from ≡ true → MarkedUpTo marks from at → (c : ℕ) → from ≤ c → c < at → marked marks c ≡ true

@@ -9,6 +9,7 @@ pub fn exchange_marked(a: &mut [i32], b: &mut [i32], marks: &[u8], fields: usize
     requires { Exchanging (length a.old) (length b.old) (length marks.now) fields }
     ensures { Exchanged fields marks.now a.old b.old a.new × Exchanged fields marks.now b.old a.old b.new }
 {
+    // Kept: a walk from one run of marked cells to the next, no index.
     let mut cell = next_marked(marks, 0);
     while cell < marks.len() {
         let past = run_end(marks, cell);

@@ -3,7 +3,7 @@ use Prim.Native.Nat.{ℕ, zero, suc, ◌+◌, ◌-◌, ◌*◌, ◌%◌, ◌≤�
 use native.Mathlib.Nat.{mul-le-mul_left, mul-le-mul_right, le_trans, mod-lt, mod-le, mod-eq_of_lt, mod-add-mod, add-mod-mod, add-mod_right}
 use native.Mathlib.Decide.{dec_le}
 use native.Mathlib.Omega.{arith}
-use mathlib.Core.Path.{◌≡◌, refl, sym, ap, ◌∙◌}
+use mathlib.Core.Path.{◌≡◌, refl, sym, ap, ◌∙◌, subst}
 use mathlib.Core.Logic.{◌↔◌}
 use mathlib.Core.List.Memᴰ
 use mathlib.Core.List.{List, [], ◌∷◌, map, Memᴰ}
@@ -17,7 +17,7 @@ use Rattle.automaton.specs.Promises.Opening.{opens_of}
 use Rattle.automaton.specs.Promises.ShapeLaws.{Inside, Positive, Alike, Within, AllWithin}
 use Rattle.automaton.proofs.ShapeLaws.{product_pos, wrap_mod, reach_opens, mem_box, box_alike, coordinates_inside}
 use Rattle.run_meaning.specs.Reach.{own_only}
-use Rattle.run_marking.specs.Promises.Noting.{note_all, noted_rows, noted_line, noted_lines, box_cells, opened_from, opened_count, cells_opened, Boxed}
+use Rattle.run_marking.specs.Promises.Noting.{note_all, noted_rows, noted_line, noted_lines, box_cells, opened_from, opened_count, cells_opened, Boxed, CountsFit}
 use Rattle.run_marking.proofs.NotingLaws.{mem_rows, rows_same, Noted, noted_done}
 
 -- ---- one dimension
@@ -206,10 +206,14 @@ module _ (base n m cells : ℕ) (room : (base + 1) * (n * m) ≤ cells) where
   line_count h j l = let k : n - 1 < n = omega arith in omega (arith, line_base h (n - 1) k)
 
 -- the line of the coordinate that a loop has come to
-pub line_noted : (base n first m start width : ℕ) (marks₀ marks marks' : List ℕ) (j e : ℕ) → Noted (noted_lines base n first m start width) n first marks₀ marks j e
+pub line_noted : (base n first m start width : ℕ) (marks marks' : List ℕ) (j e : ℕ) → j ≡ (first + e) % n
     → marks' ≡ note_all (noted_rows (noted_line ((base * n + j) * m) m start) width) marks → marks' ≡ note_all (noted_lines base n first m start width e) marks
-line_noted base n first m start width marks₀ marks marks' j e s q =
-    q ∙ ap (λ (x : ℕ). note_all (noted_rows (noted_line ((base * n + x) * m) m start) width) marks) s.at
+line_noted base n first m start width marks marks' j e at q =
+    q ∙ ap (λ (x : ℕ). note_all (noted_rows (noted_line ((base * n + x) * m) m start) width) marks) at
+
+-- a wrapped coordinate is one of the dimension
+pub wrapped : (a : ℕ) {n j : ℕ} → j ≡ a % n → 0 < n → j < n
+wrapped a {n} e h = subst (λ (x : ℕ). x < n) (sym e) (mod-lt a h)
 
 -- ---- one dimension after the other
 
@@ -294,8 +298,9 @@ module _ (ns firsts counts : List ℕ) (base cells : ℕ) (s : Boxed ns firsts c
       ∙ ap (λ (cs : List ℕ). note_all cs marks) (sym (box_line ns firsts counts base h))
 
   -- the last two dimensions are some lines
-  pub boxed_lines : {m : ℕ} → length ns ≡ 2 → m ≡ entry ns 1 → (entry firsts 0 < n) × (entry firsts 1 < m) × ((base + 1) * (n * m) ≤ cells) × (cells ≤ 1048576)
-  boxed_lines h em = (boxed_first, rw em (s.inside 1 (omega arith)), rw (em, ← last_size ns h) whole, s.few)
+  pub boxed_lines : {m : ℕ} → length ns ≡ 2 → m ≡ entry ns 1 → CountsFit ns counts
+      → (entry firsts 0 < n) × (entry counts 0 ≤ n) × (entry firsts 1 < m) × (entry counts 1 ≤ m) × ((base + 1) * (n * m) ≤ cells) × (cells ≤ 1048576)
+  boxed_lines h em f = (boxed_first, rw en (f.each 0 s.some_dims), rw em (s.inside 1 (omega arith)), rw em (f.each 1 (omega arith)), rw (em, ← last_size ns h) whole, s.few)
 
   pub lines_done : (marks marks' : List ℕ) {m : ℕ} → length ns ≡ 2 → m ≡ entry ns 1
       → marks' ≡ note_all (noted_rows (noted_lines base n (entry firsts 0) m (entry firsts 1) (entry counts 1)) (entry counts 0)) marks
@@ -306,16 +311,22 @@ module _ (ns firsts counts : List ℕ) (base cells : ℕ) (s : Boxed ns firsts c
       ∙ ap (λ (cs : List ℕ). note_all cs marks) (sym (box_lines ns firsts counts base h))
 
   -- any other is one row after the other
-  pub row_done : (marks₀ marks marks' : List ℕ) (j e : ℕ) → Noted (box_row ns firsts counts base) n (entry firsts 0) marks₀ marks j e
+  pub row_done : (marks marks' : List ℕ) (j e : ℕ) → j ≡ (entry firsts 0 + e) % n
       → marks' ≡ note_all (box_cells (rest_of ns) (entry (rest_of firsts)) (entry (rest_of counts)) (base * n + j)) marks
       → marks' ≡ note_all (box_row ns firsts counts base e) marks
-  row_done marks₀ marks marks' j e t q =
+  row_done marks marks' j e at q =
       (rw (part_to_end ns 1, part_to_end firsts 1, part_to_end counts 1) at q)
-      ∙ ap (λ (x : ℕ). note_all (box_cells (drop 1 ns) (entry (drop 1 firsts)) (entry (drop 1 counts)) (base * n + x)) marks) t.at
+      ∙ ap (λ (x : ℕ). note_all (box_cells (drop 1 ns) (entry (drop 1 firsts)) (entry (drop 1 counts)) (base * n + x)) marks) at
       ∙ ap (λ (x : ℕ). note_all (box_cells (drop 1 ns) (entry (drop 1 firsts)) (entry (drop 1 counts)) (base * x + (entry firsts 0 + e) % x)) marks) en
 
-  pub rows_done : (marks₀ marks : List ℕ) (j e : ℕ) → Noted (box_row ns firsts counts base) n (entry firsts 0) marks₀ marks j e → e ≤ entry counts 0 → entry counts 0 ≤ e
+  pub rows_done : (marks₀ marks : List ℕ) (e : ℕ) → Noted (box_row ns firsts counts base) marks₀ marks e → e ≡ entry counts 0
       → marks ≡ note_all (box_cells ns (entry firsts) (entry counts) base) marks₀
-  rows_done marks₀ marks j e t l m =
-      noted_done _ n _ marks₀ marks j e (entry counts 0) t l m
+  rows_done marks₀ marks e t m =
+      noted_done _ marks₀ marks e (entry counts 0) t m
       ∙ ap (λ (cs : List ℕ). note_all cs marks₀) (sym (box_rows ns firsts counts base s.some_dims s.firsts_fit s.counts_fit))
+
+-- no more coordinates than there are, in the other dimensions
+pub rest_fit : {ns counts : List ℕ} → CountsFit ns counts → CountsFit (rest_of ns) (rest_of counts)
+rest_fit {ns} {counts} f =
+    rw (part_to_end ns 1, part_to_end counts 1)
+    (record { each = λ k h. rw (get_or-drop 1 counts k 0, get_or-drop 1 ns k 0) (f.each (1 + k) (omega (arith, length-drop 1 ns))) })

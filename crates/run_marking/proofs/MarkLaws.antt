@@ -6,8 +6,8 @@ use native.Mathlib.Omega.{arith}
 use mathlib.Core.Path.{◌≡◌, refl, sym, ap, ◌∙◌}
 use mathlib.Core.Bool.{Bool, true, false, not}
 use mathlib.Core.Logic.{◌⊎◌, inl, inr}
-use mathlib.Core.List.{List}
-use lib.ListN.{length, get_or, set}
+use mathlib.Core.List.{List, map}
+use lib.ListN.{length, get_or}
 use lib.IntN.{ℤ, pos}
 use borrow.Author.Tests.{not-false}
 use Rattle.value.specs.Number.{eq_z}
@@ -16,7 +16,7 @@ use Rattle.automaton.specs.Promises.ListedLaws.{get_or_list_of, list_of_ext, las
 use Rattle.automaton.specs.Grid.{cell_of, differ}
 use Rattle.automaton.proofs.Theorems.GridLaws.{differ_false, differ_self}
 use Rattle.run_marked_cells.specs.Promises.Clear.{Clear}
-use Rattle.run_marked_cells.proofs.RoomLaws.{Changing, changing_start, changing_more}
+use Rattle.std.proofs.lemmas.List.{length-map, get_or-map}
 use Rattle.run_marking.specs.Promises.Noting.{NextOdd, Halved}
 
 -- ---- cells that changed
@@ -90,15 +90,5 @@ next_more marks from c {r} s l out z = record {
 
 -- ---- halving
 
--- the first c marks are halved
-abbrev pub Halving : List ℕ → List ℕ → ℕ → Type 0
-Halving marks₀ marks c = Changing (λ k. get_or marks₀ k 0 / 2) 0 marks₀ c marks
-
-pub halving_start : (marks : List ℕ) → Halving marks marks 0
-halving_start marks = changing_start (λ k. get_or marks k 0 / 2) 0 marks
-
-pub halving_more : (marks₀ marks : List ℕ) (c : ℕ) → Halving marks₀ marks c → c < length marks₀ → Halving marks₀ (set marks c (get_or marks c 0 / 2)) (c + 1)
-halving_more marks₀ marks c h l = changing_more (λ k. get_or marks₀ k 0 / 2) 0 marks₀ c marks _ h l (ap (λ (x : ℕ). x / 2) (h.above c (omega arith)))
-
-pub halving_done : (marks₀ marks : List ℕ) (c : ℕ) → Halving marks₀ marks c → length marks₀ ≤ c → Halved marks₀ marks
-halving_done marks₀ marks c h l = record { len = h.made.len; each = λ k q. h.made.below k (omega arith) }
+pub halved : (marks : List ℕ) → Halved marks (map (λ x. x / 2) marks)
+halved marks = record { len = length-map marks (λ x. x / 2); each = λ k l. get_or-map (λ x. x / 2) marks k 0 0 l }

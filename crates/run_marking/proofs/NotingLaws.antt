@@ -1,6 +1,6 @@
 -- The laws of noted cells, and of lists one behind the other.
 use Prim.Native.Nat.{ℕ, zero, suc, ◌+◌, ◌%◌, ◌≤◌, ◌<◌}
-use native.Mathlib.Nat.{add-zero, mod-lt, mod-eq_of_lt, mod-add-mod, le_refl, le-suc, le_trans, not-suc-le-zero, eq-or-lt_of_le}
+use native.Mathlib.Nat.{add-zero, mod-eq_of_lt, mod-add-mod, le_refl, le-suc, le_trans, not-suc-le-zero, eq-or-lt_of_le}
 use native.Mathlib.Decide.{ℕ_discrete}
 use native.Mathlib.Omega.{arith}
 use mathlib.Core.Path.{◌≡◌, refl, sym, ap, ap₂, ◌∙◌, subst}
@@ -108,37 +108,38 @@ rows_skip f a (suc b) l none = go (λ m. rows_skip f a b m (λ k p r. none k p (
 
 -- ---- a loop over the coordinates of a dimension
 
--- the first e rows are noted, and j is the coordinate of the next
-pub record Noted (f : ℕ → List ℕ) (n first : ℕ) (marks₀ marks : List ℕ) (j e : ℕ) : Type 0 where
+-- the first coordinate, and the next one after a coordinate
+pub at_first : (first n : ℕ) → first < n → first ≡ (first + 0) % n
+at_first first n l = sym (ap (λ (x : ℕ). x % n) (add-zero first) ∙ mod-eq_of_lt l)
+
+pub at_next : (first n j e : ℕ) {j' : ℕ} → j ≡ (first + e) % n → j' ≡ (j + 1) % n → j' ≡ (first + (e + 1)) % n
+at_next first n j e at is =
+    let t : first + e + 1 ≡ first + (e + 1) = omega arith in
+    is ∙ ap (λ (x : ℕ). (x + 1) % n) at ∙ mod-add-mod (first + e) n 1 ∙ ap (λ (x : ℕ). x % n) t
+
+-- the first e rows are noted
+pub record Noted (f : ℕ → List ℕ) (marks₀ marks : List ℕ) (e : ℕ) : Type 0 where
   pub len : length marks ≡ length marks₀
-  pub at : j ≡ (first + e) % n
-  pub inside : j < n
   pub says : marks ≡ note_all (noted_rows f e) marks₀
 
-module _ (f : ℕ → List ℕ) (n first : ℕ) where
-  pub noted_start : (marks : List ℕ) → first < n → Noted f n first marks marks first 0
+module _ (f : ℕ → List ℕ) where
+  pub noted_start : (marks : List ℕ) → Noted f marks marks 0
   unfolding note_all noted_rows
-  noted_start marks l = record { len = refl; at = sym (ap (λ (x : ℕ). x % n) (add-zero first) ∙ mod-eq_of_lt l); inside = l; says = refl }
+  noted_start marks = record { len = refl; says = refl }
 
-  pub noted_more : (marks₀ marks marks' : List ℕ) (j e : ℕ) {j' : ℕ} → Noted f n first marks₀ marks j e → marks' ≡ note_all (f e) marks → j' ≡ (j + 1) % n
-      → Noted f n first marks₀ marks' j' (e + 1)
+  pub noted_more : (marks₀ marks marks' : List ℕ) (e : ℕ) → Noted f marks₀ marks e → marks' ≡ note_all (f e) marks → Noted f marks₀ marks' (e + 1)
   unfolding noted_rows
-  noted_more marks₀ marks marks' j e {j'} s q r =
-      let t : first + e + 1 ≡ first + (e + 1) = omega arith in
-      let z : 0 < n = omega (arith, s.inside) in
+  noted_more marks₀ marks marks' e s q =
       let u : suc e ≡ e + 1 = omega arith in
       record {
         len = ap length q ∙ length_note_all (f e) marks ∙ s.len;
-        at = r ∙ ap (λ (x : ℕ). (x + 1) % n) s.at ∙ mod-add-mod (first + e) n 1 ∙ ap (λ (x : ℕ). x % n) t;
-        inside = rw r (mod-lt (j + 1) z);
         says = q ∙ ap (note_all (f e)) s.says ∙ sym (note_all_append (noted_rows f e) (f e) marks₀) ∙ ap (λ (k : ℕ). note_all (noted_rows f k) marks₀) u;
       }
 
-  pub noted_done : (marks₀ marks : List ℕ) (j e count : ℕ) → Noted f n first marks₀ marks j e → e ≤ count → count ≤ e → marks ≡ note_all (noted_rows f count) marks₀
-  noted_done marks₀ marks j e count s l m = let q : e ≡ count = omega arith in s.says ∙ ap (λ (k : ℕ). note_all (noted_rows f k) marks₀) q
+  pub noted_done : (marks₀ marks : List ℕ) (e count : ℕ) → Noted f marks₀ marks e → e ≡ count → marks ≡ note_all (noted_rows f count) marks₀
+  noted_done marks₀ marks e count s q = s.says ∙ ap (λ (k : ℕ). note_all (noted_rows f k) marks₀) q
 
 -- one cell of a line
-pub note_line : (base n first : ℕ) (marks₀ marks : List ℕ) (j e : ℕ) → Noted (noted_line base n first) n first marks₀ marks j e
-    → note_cell marks (base + j) ≡ note_all (noted_line base n first e) marks
+pub note_line : (base n first : ℕ) (marks : List ℕ) (j e : ℕ) → j ≡ (first + e) % n → note_cell marks (base + j) ≡ note_all (noted_line base n first e) marks
 unfolding note_all
-note_line base n first marks₀ marks j e s = ap (λ (x : ℕ). note_cell marks (base + x)) s.at
+note_line base n first marks j e at = ap (λ (x : ℕ). note_cell marks (base + x)) at

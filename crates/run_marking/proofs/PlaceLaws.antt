@@ -1,69 +1,37 @@
 -- The laws of coordinates, one dimension after the other.
-use Prim.Native.Nat.{ℕ, zero, suc, ◌+◌, ◌-◌, ◌%◌, ◌≤◌, ◌<◌, min}
-use native.Mathlib.Nat.{mod_self, mod-eq_of_lt, add-mod_right, not-suc-le-zero}
+use Prim.Native.Nat.{ℕ, suc, ◌+◌, ◌-◌, ◌%◌, ◌≤◌, ◌<◌, min}
+use native.Mathlib.Nat.{not-suc-le-zero}
 use native.Mathlib.Omega.{arith}
-use mathlib.Core.Path.{◌≡◌, refl, sym, ap, ◌∙◌}
+use mathlib.Core.Path.{◌≡◌, ap, ◌∙◌}
 use mathlib.Core.Logic.{◌⊎◌, inl, inr}
 use mathlib.Core.List.{List}
 use lib.ListN.{length, get_or, set, length-set}
 use lib.Seq.{get_or-set_same, get_or-set_other}
 use Rattle.automaton.specs.Promises.ListedLaws.{last_or_below}
-use Rattle.run_meaning.specs.Promises.Fitting.{bound_at}
+use Rattle.run_meaning.specs.Promises.Fitting.{no_bound, bound_at, bound_is}
+use Rattle.automaton.specs.Shape.{Bound}
 use Rattle.run_meaning.specs.declared.Bounds.{Bounds}
-use Rattle.run_meaning.proofs.Theorems.Digits.{size_positive, size_small}
-use Rattle.run_marking.specs.Promises.Noting.{opened_from, opened_count, Prepared, Firsts, NotedCounts}
-
--- ---- one coordinate
-
-pub before_near : (i ahead n : ℕ) → i < n → ahead ≤ n → ahead ≤ i → i - ahead ≡ (i + (n - ahead)) % n
-before_near i ahead n l h q =
-    let s : i + (n - ahead) ≡ i - ahead + n = omega arith in
-    let t : i - ahead < n = omega arith in
-    sym (ap (λ (x : ℕ). x % n) s ∙ add-mod_right (i - ahead) n ∙ mod-eq_of_lt t)
-
-pub before_far : (i ahead n : ℕ) → ahead ≤ n → i < ahead → i + n - ahead ≡ (i + (n - ahead)) % n
-before_far i ahead n h q =
-    let s : i + n - ahead ≡ i + (n - ahead) = omega arith in
-    let t : i + (n - ahead) < n = omega arith in
-    s ∙ sym (mod-eq_of_lt t)
-
-pub after_last : (j n : ℕ) → j + 1 ≡ n → 0 ≡ (j + 1) % n
-after_last j n e = sym (ap (λ (x : ℕ). x % n) e ∙ mod_self n)
-
-pub after_inner : (j n : ℕ) → j < n → (j + 1 ≡ n → ⊥) → j + 1 ≡ (j + 1) % n
-after_inner j n l e = let s : j + 1 < n = go in sym (mod-eq_of_lt s)
-  where
-    go : j + 1 < n
-    go = omega arith
-
--- ---- the box
-
-pub last_ahead : (r : Bounds) (k : ℕ) → (k ≡ 0 → ⊥) → (k ≡ 1 → ⊥) → r.ahead2 ≡ (bound_at r k).ahead
-last_ahead r zero p q = absurd (p refl)
-last_ahead r (suc zero) p q = absurd (q refl)
-last_ahead r (suc (suc k)) p q = refl
-
-pub last_back : (r : Bounds) (k : ℕ) → (k ≡ 0 → ⊥) → (k ≡ 1 → ⊥) → r.back2 ≡ (bound_at r k).back
-last_back r zero p q = absurd (p refl)
-last_back r (suc zero) p q = absurd (q refl)
-last_back r (suc (suc k)) p q = refl
+use Rattle.run_meaning.proofs.Theorems.Digits.{size_small}
+use Rattle.run_marking.specs.Promises.Noting.{opened_from, opened_count, CountsFit, Prepared, Firsts, NotedCounts}
 
 -- ---- sizes
 
 module _ (ns : List ℕ) (bounds : Bounds) (s : Prepared ns bounds) (k : ℕ) (l : k < length ns) {n : ℕ} (en : n ≡ get_or ns k 0) where
-  pub size_some : 0 < n
-  size_some = rw en (size_positive ns s.positive k l)
-
   size_few : n ≤ 1048576
   size_few = omega (arith, size_small ns s.positive k l, s.cells)
 
-  pub clipped_ready : {back ahead : ℕ} → back ≡ (bound_at bounds k).back → ahead ≡ (bound_at bounds k).ahead → (back ≤ n) × (ahead ≤ n) × (n ≤ 1048576)
-  clipped_ready eb ea = let near = s.near k l in (omega arith, omega arith, size_few)
+  -- a box's bound as the code has it
+  pub same_back : (get_or bounds.dims k no_bound).back ≡ (bound_at bounds k).back
+  same_back = ap (λ (b : Bound). b.back) (bound_is bounds k (omega (arith, s.dims)))
 
-  pub first_ready : {own ahead : ℕ} → own < get_or ns k 0 → ahead ≡ (bound_at bounds k).ahead → (own < n) × (ahead ≤ n) × (n ≤ 1048576)
-  first_ready lo ea =
-      let near = s.near k l in
-      (omega arith, omega arith, size_few)
+  pub same_ahead : (get_or bounds.dims k no_bound).ahead ≡ (bound_at bounds k).ahead
+  same_ahead = ap (λ (b : Bound). b.ahead) (bound_is bounds k (omega (arith, s.dims)))
+
+  pub clipped_ready : ((get_or bounds.dims k no_bound).back ≤ n) × ((get_or bounds.dims k no_bound).ahead ≤ n) × (n ≤ 1048576)
+  clipped_ready = let near = s.near k l in (omega (arith, same_back), omega (arith, same_ahead), size_few)
+
+  pub first_ready : {own : ℕ} → own < get_or ns k 0 → (own < n) × (n - (get_or bounds.dims k no_bound).ahead ≤ n) × (n ≤ 1048576)
+  first_ready lo = (omega arith, omega arith, size_few)
 
 -- ---- the counts
 
@@ -93,6 +61,10 @@ module _ (ns : List ℕ) (bounds : Bounds) where
   pub counting_done : (counts : List ℕ) (k : ℕ) → Counting ns bounds counts k → length ns ≤ k → NotedCounts ns bounds counts
   counting_done counts k s l = record { len = s.len; each = λ m h. s.each m (omega arith) }
 
+-- they are no more than there are
+pub counts_fit : {ns : List ℕ} {bounds : Bounds} {counts : List ℕ} → NotedCounts ns bounds counts → CountsFit ns counts
+counts_fit c = record { each = λ k l. omega (arith, c.each k l) }
+
 -- ---- the first coordinates
 
 -- the first k are made
@@ -117,5 +89,3 @@ module _ (ns : List ℕ) (bounds : Bounds) (at : List ℕ) where
 
   pub firsting_done : (firsts : List ℕ) (k : ℕ) → Firsting ns bounds at firsts k → length ns ≤ k → Firsts ns bounds at firsts
   firsting_done firsts k s l = record { len = s.len; each = λ m h. s.each m (omega arith) }
-
-pub ruleset PlaceWays = (before_near, before_far, after_last, after_inner)

@@ -78,7 +78,7 @@ module _ (sizes : List ℕ) (bounds : Bounds) (p : Prepared sizes bounds) where
   }
 
   -- by the places of a list
-  ways_list : (steps places : List ℕ) (count : ℕ) → count ≤ 256 → length steps ≡ 768 → {steps₀ : List ℕ} → Backs sizes places 0 count steps₀ steps
+  ways_list : (steps : List ℕ) (places : List (List ℕ)) (count : ℕ) → count ≤ 256 → length steps ≡ 768 → {steps₀ : List ℕ} → Backs sizes places 0 count steps₀ steps
       → Ways sizes bounds steps count (list_of (place_at places (length sizes)) count)
   unfolding cells_back
   ways_list steps places count few size b = record {

@@ -54,6 +54,7 @@ pub fn mark_open(
     ensures { Marks sizes.now bounds steps.now listed fields old.now grid.now marks.new }
 {
     let counts = counts_of(sizes, bounds);
+    // Kept: a walk from one marked cell to the next, no index.
     let n = marks.len();
     let mut c = next_odd(marks, 0);
     while c < n {
@@ -81,13 +82,10 @@ pub fn mark_changed(
     ensures { MarksChanged sizes.now bounds steps.now listed fields old.now grid.now marks.old marks.new }
 {
     let counts = counts_of(sizes, bounds);
-    let n = marks.len();
-    let mut c = 0;
-    while c < n {
+    for c in 0..marks.len() {
         open_changed(
             sizes, bounds, &counts, steps, listed, fields, old, grid, c, marks,
         );
-        c += 1;
     }
     flag_marks(marks);
 }

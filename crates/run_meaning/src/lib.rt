@@ -1,7 +1,8 @@
 #![tactic(auto)]
 
 // Runs of a program on a grid: the definitions, and the reach as a record.
-ghost use Rattle.std.specs.Prelude.{◌≡◌, ◌*◌, ◌≤◌, min};
+ghost use Rattle.std.specs.Prelude.{◌≡◌, ◌+◌, ◌*◌, ◌%◌, ◌<◌, ◌≤◌, min};
+ghost use Rattle.value.specs.Limits.{most_cells};
 ghost use Rattle.run_meaning.specs.Promises.Fitting.{OwnOnly};
 
 use value::limits::{MOST_DIMS, MOST_PLACES};
@@ -33,10 +34,7 @@ pub struct Reach {
 pub fn own_only() -> Reach
     ensures { OwnOnly result }
 {
-    let own = Bound {
-        back: 0,
-        ahead: 0,
-    };
+    let own = Bound { back: 0, ahead: 0 };
     Reach {
         bounds: Bounds {
             dims: [own; MOST_DIMS],
@@ -52,4 +50,21 @@ pub fn times(a: usize, b: usize) -> usize
     ensures { result ≡ min 257 (a * b) }
 {
     (a * b).min(MOST_PLACES + 1)
+}
+
+// a + b, wrapped in a dimension of n coordinates.
+pub fn wrap_sum(a: usize, b: usize, n: usize) -> usize
+    requires { (a < n) × (b ≤ n) × (n ≤ most_cells) }
+    ensures { result ≡ (a + b) % n }
+{
+    let sum = a + b;
+    if sum < n { sum } else { sum - n }
+}
+
+// The coordinate after j in a dimension of n coordinates; after the last one the first.
+pub fn next_coordinate(j: usize, n: usize) -> usize
+    requires { j < n }
+    ensures { result ≡ (j + 1) % n }
+{
+    if j + 1 == n { 0 } else { j + 1 }
 }

@@ -1,11 +1,11 @@
 -- A step back by a place leads to the cell at the place, negated: to a cell that has the first one in its reach.
-use Prim.Native.Nat.{ℕ, zero, suc, ◌+◌, ◌-◌, ◌*◌, ◌/◌, ◌%◌, ◌<◌, ◌≤◌}
+use Prim.Native.Nat.{ℕ, zero, suc, ◌+◌, ◌-◌, ◌*◌, ◌%◌, ◌<◌, ◌≤◌}
 use native.Mathlib.Nat.{mod-lt, zero-mod, not-suc-le-zero}
 use native.Mathlib.Omega.{arith}
 use mathlib.Core.Path.{◌≡◌, refl, sym, ap, ap₂, ◌∙◌, subst}
 use mathlib.Core.Logic.{◌⊎◌, inl, inr}
 use mathlib.Core.List.{List, [], ◌∷◌, ◌++◌, map}
-use lib.ListN.{length, get_or, set, length-set, get_or-map}
+use lib.ListN.{length, get_or, set, drop, length-set, length-append, length-drop, get_or-append, get_or-map}
 use lib.Seq.{get_or-set_same, get_or-set_other, ext_get_or}
 use lib.IntN.{ℤ, pos, negsuc, neg_ℤ}
 use borrow.Author.Tests.{lt-ltb, le-ltb}
@@ -17,7 +17,7 @@ use Rattle.automaton.specs.Shape.{product, cell_number, coordinates, shift, neig
 use Rattle.automaton.specs.Promises.Opening.{opens_of}
 use Rattle.automaton.specs.Promises.ShapeLaws.{Positive}
 use Rattle.automaton.proofs.ShapeLaws.{coordinates_inside, inside_at, wrap_mod}
-use Rattle.run_meaning.proofs.Theorems.Digits.{coordinates_length, size_positive, Digits, digits_start, digits_more, digits_done}
+use Rattle.run_meaning.proofs.Theorems.Digits.{coordinates_length, size_positive}
 use Rattle.run_meaning.specs.Promises.Fitting.{place_at}
 use Rattle.run_place_marks.specs.Promises.Placing.{step_from, cell_from, StepPlaced, Back, StepCoordinates, Backs}
 
@@ -63,26 +63,16 @@ cell_back sizes at steps from x ds p b same =
 
 -- ---- the coordinates of a cell
 
--- from the dimension k on they are set
-pub record Setting (sizes : List ℕ) (x : ℕ) (at : List ℕ) (rest k : ℕ) : Type 0 where
-  pub len : length at ≡ 3
-  pub digits : Digits sizes x (λ i d. get_or at i 0 ≡ d) rest k
-
-module _ (sizes : List ℕ) (x : ℕ) where
-  pub setting_start : (at : List ℕ) → length at ≡ 3 → Setting sizes x at x (length sizes)
-  setting_start at e = record { len = e; digits = digits_start sizes x _ }
-
-  pub setting_more : (at : List ℕ) (rest k j : ℕ) {v : ℕ} → Positive sizes → Setting sizes x at rest k → k ≡ suc j → j < 3 → v ≡ rest % get_or sizes j 0
-      → Setting sizes x (set at j v) (rest / get_or sizes j 0) j
-  setting_more at rest k j {v} positive s ek l ev = record {
-    len = length-set at j v ∙ s.len;
-    digits =
-        digits_more sizes x (λ i d. get_or at i 0 ≡ d) (λ i d. get_or (set at j v) i 0 ≡ d) rest k j positive s.digits ek
-        (get_or-set_same at j v 0 (omega (arith, s.len)) ∙ ev) (λ i d h p. get_or-set_other at j i v 0 (λ q. absurd (let w = q in omega arith)) ∙ p);
-  }
-
-  pub setting_done : (at : List ℕ) (rest k : ℕ) → x < product sizes → Setting sizes x at rest k → k ≤ 0 → StepCoordinates sizes x at
-  setting_done at rest k l s z = record { len = s.len; each = digits_done sizes x _ rest k l s.digits z }
+-- written into the front of some room
+pub coordinates_in : (sizes : List ℕ) (x : ℕ) (room point : List ℕ) → length room ≡ 3 → length sizes ≤ 3 → point ≡ coordinates sizes x
+    → StepCoordinates sizes x (point ++ drop (length sizes) room)
+coordinates_in sizes x room point three few is = record {
+  len = length-append point _ ∙ omega (arith, size, length-drop (length sizes) room);
+  each = λ k l. get_or-append point _ 0 k (omega (arith, size)) ∙ ap (λ (p : List ℕ). get_or p k 0) is;
+}
+  where
+    size : length point ≡ length sizes
+    size = ap length is ∙ coordinates_length sizes x
 
 -- ---- the step back by a word's value
 
@@ -113,18 +103,18 @@ pub step_inside : (sizes steps : List ℕ) (from : ℕ) (ds : List ℤ) → Posi
 step_inside sizes steps from ds positive s d h = subst (λ (i : ℕ). i < get_or sizes d 0) (sym (s.each d h)) (mod_below (neg_ℤ (get_or ds d (pos 0))) (get_or sizes d 0) (size_positive sizes positive d h))
 
 -- the first d numbers of the step back by place k are set
-pub record Stepping (sizes places : List ℕ) (k : ℕ) (steps₀ steps : List ℕ) (d : ℕ) : Type 0 where
+pub record Stepping (sizes : List ℕ) (places : List (List ℕ)) (k : ℕ) (steps₀ steps : List ℕ) (d : ℕ) : Type 0 where
   pub turn : d ≤ length sizes
   pub len : length steps ≡ length steps₀
-  pub each : (m : ℕ) → m < d → get_or steps (3 * k + m) 0 ≡ mod_z (neg_ℤ (decode_of (get_or places (3 * k + m) 0))) (get_or sizes m 0)
+  pub each : (m : ℕ) → m < d → get_or steps (3 * k + m) 0 ≡ mod_z (neg_ℤ (decode_of (get_or (get_or places k []) m 0))) (get_or sizes m 0)
   pub before : (j : ℕ) → j < 3 * k → get_or steps j 0 ≡ get_or steps₀ j 0
 
-module _ (sizes places : List ℕ) (k : ℕ) (steps₀ : List ℕ) where
+module _ (sizes : List ℕ) (places : List (List ℕ)) (k : ℕ) (steps₀ : List ℕ) where
   pub stepping_start : Stepping sizes places k steps₀ steps₀ 0
   stepping_start = record { turn = omega arith; len = refl; each = λ m l. absurd (not-suc-le-zero l); before = λ j l. refl }
 
   pub stepping_more : (steps : List ℕ) (d : ℕ) {v : ℕ} → Stepping sizes places k steps₀ steps d → d < length sizes → 3 * k + d < length steps
-      → v ≡ mod_z (neg_ℤ (decode_of (get_or places (3 * k + d) 0))) (get_or sizes d 0) → Stepping sizes places k steps₀ (set steps (3 * k + d) v) (d + 1)
+      → v ≡ mod_z (neg_ℤ (decode_of (get_or (get_or places k []) d 0))) (get_or sizes d 0) → Stepping sizes places k steps₀ (set steps (3 * k + d) v) (d + 1)
   stepping_more steps d {v} s l room ev = record {
     turn = omega arith;
     len = length-set steps (3 * k + d) v ∙ s.len;
@@ -132,7 +122,7 @@ module _ (sizes places : List ℕ) (k : ℕ) (steps₀ : List ℕ) where
     before = λ j h. get_or-set_other steps (3 * k + d) j v 0 (λ q. absurd (let w = q in omega arith)) ∙ s.before j h;
   }
     where
-      at : (m : ℕ) → (m ≡ d) ⊎ (m < d) → get_or (set steps (3 * k + d) v) (3 * k + m) 0 ≡ mod_z (neg_ℤ (decode_of (get_or places (3 * k + m) 0))) (get_or sizes m 0)
+      at : (m : ℕ) → (m ≡ d) ⊎ (m < d) → get_or (set steps (3 * k + d) v) (3 * k + m) 0 ≡ mod_z (neg_ℤ (decode_of (get_or (get_or places k []) m 0))) (get_or sizes m 0)
       at m (inl q) = rw q (get_or-set_same steps (3 * k + d) v 0 room ∙ ev)
       at m (inr q) = get_or-set_other steps (3 * k + d) (3 * k + m) v 0 (λ p. absurd (let w = p in omega arith)) ∙ s.each m q
 
@@ -142,10 +132,10 @@ module _ (sizes places : List ℕ) (k : ℕ) (steps₀ : List ℕ) where
       here : Back sizes steps (3 * k) (place_at places (length sizes) k)
       here = record {
         dims = length_list_of _ (length sizes);
-        each = λ m h. s.each m (omega arith) ∙ ap (λ (z : ℤ). mod_z (neg_ℤ z) (get_or sizes m 0)) (sym (get_or_list_of (λ d. decode_of (get_or places (3 * k + d) 0)) (length sizes) m (pos 0) h));
+        each = λ m h. s.each m (omega arith) ∙ ap (λ (z : ℤ). mod_z (neg_ℤ z) (get_or sizes m 0)) (sym (get_or_list_of (λ d. decode_of (get_or (get_or places k []) d 0)) (length sizes) m (pos 0) h));
       }
 
-module _ (sizes places : List ℕ) (few : length sizes ≤ 3) (steps₀ : List ℕ) where
+module _ (sizes : List ℕ) (places : List (List ℕ)) (few : length sizes ≤ 3) (steps₀ : List ℕ) where
   pub backs_start : Backs sizes places 0 0 steps₀ steps₀
   backs_start = record { len = refl; each = λ k a b. absurd (not-suc-le-zero b); before = λ j l. refl }
 
@@ -188,7 +178,7 @@ module _ (sizes : List ℕ) (few : length sizes ≤ 3) (positive : Positive size
   }
 
   -- they are the cells that a change opens
-  pub steps_open : (at steps places : List ℕ) (count : ℕ) → count ≤ 256 → length steps ≡ 768 → ((d : ℕ) → d < length sizes → get_or at d 0 ≡ get_or (coordinates sizes x) d 0)
+  pub steps_open : (at steps : List ℕ) (places : List (List ℕ)) (count : ℕ) → count ≤ 256 → length steps ≡ 768 → ((d : ℕ) → d < length sizes → get_or at d 0 ≡ get_or (coordinates sizes x) d 0)
       → {steps₀ : List ℕ} → Backs sizes places 0 count steps₀ steps
       → list_of (λ k. cell_from sizes at steps (3 * k)) count ≡ opens_of sizes (list_of (place_at places (length sizes)) count) x
   unfolding opens_of

@@ -1,6 +1,6 @@
 -- The laws of the cells at the steps of a list.
-use Prim.Native.Nat.{ℕ, zero, suc, ◌+◌, ◌-◌, ◌*◌, ◌%◌, ◌<◌, ◌≤◌}
-use native.Mathlib.Nat.{mod-lt, mod-eq_of_lt, add-mod_right, mul-le-mul_right, le_trans}
+use Prim.Native.Nat.{ℕ, zero, suc, ◌+◌, ◌*◌, ◌%◌, ◌<◌, ◌≤◌}
+use native.Mathlib.Nat.{mod-lt, mul-le-mul_right, le_trans}
 use native.Mathlib.Omega.{arith}
 use mathlib.Core.Path.{◌≡◌, refl, sym, ap, ap₂, ◌∙◌, subst}
 use mathlib.Core.List.{List, [], ◌∷◌}
@@ -12,17 +12,6 @@ use Rattle.automaton.specs.Promises.ShapeLaws.{Inside, Positive}
 use Rattle.automaton.proofs.ShapeLaws.{number_lt, product_pos}
 use Rattle.run_meaning.proofs.Theorems.Digits.{size_small}
 use Rattle.run_place_marks.specs.Promises.Placing.{step_from, cell_from, StepPlaced, note_places}
-
--- ---- one coordinate
-
-pub near : (j s n : ℕ) → j + s < n → j + s ≡ (j + s) % n
-near j s n l = sym (mod-eq_of_lt l)
-
-pub far : (j s n : ℕ) → j < n → s < n → n ≤ j + s → j + s - n ≡ (j + s) % n
-far j s n l m h =
-    let e : j + s ≡ j + s - n + n = omega arith in
-    let t : j + s - n < n = omega arith in
-    sym (ap (λ (x : ℕ). x % n) e ∙ add-mod_right (j + s - n) n ∙ mod-eq_of_lt t)
 
 -- ---- the number, one dimension after the other
 
@@ -99,13 +88,20 @@ module _ (sizes at steps : List ℕ) (from : ℕ) (p : StepPlaced sizes at steps
           rest = sym (ap₂ (λ (ns is : List ℕ). horner number ns is) rest_is steps_are) ∙ w.rest;
         })
 
+  -- with a coordinate more it stays below the number of cells
+  pub walking_grows : (number k : ℕ) → Walking sizes at steps from number k → k < length sizes → number * get_or sizes k 0 ≤ 1048576
+  walking_grows number k w l =
+      let q = positive_behind sizes p.positive (suc k) in
+      let r : (number + 1) * (get_or sizes k 0 * product (drop (suc k) sizes)) ≤ 1048576 = subst (λ (ns : List ℕ). (number + 1) * product ns ≤ 1048576) (drop-cons sizes k 0 l) w.room in
+      omega (arith, r, grows (number * get_or sizes k 0) (product (drop (suc k) sizes)) q)
+
   -- the next number as the code has it: the step's result by its promise
   pub step_is : (k n s j : ℕ) → s ≡ get_or steps (from + k) 0 → j ≡ (get_or at k 0 + s) % n → j ≡ (get_or at k 0 + get_or steps (from + k) 0) % n
   step_is k n s j e q = q ∙ ap (λ (x : ℕ). (get_or at k 0 + x) % n) e
 
   -- what a step in one dimension asks
   pub step_ready : (number k n s : ℕ) → Walking sizes at steps from number k → k < length sizes → n ≡ get_or sizes k 0 → s ≡ get_or steps (from + k) 0
-      → (get_or at k 0 < n) × (s < n) × (n ≤ 1048576)
+      → (get_or at k 0 < n) × (s ≤ n) × (n ≤ 1048576)
   step_ready number k n s w l size is = (
     subst (λ (m : ℕ). get_or at k 0 < m) (sym size) (p.inside k l),
     omega (arith, size, is, p.steps_inside k l),

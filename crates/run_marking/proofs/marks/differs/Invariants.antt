@@ -1,10 +1,7 @@
-use Prim.Native.Nat.{◌≤◌, ◌-◌, ◌*◌}
+use Prim.Native.Nat.{◌*◌}
 use mathlib.Core.Path.{◌≡◌}
 use Rattle.run_marking.proofs.MarkLaws.{Same}
 use Rattle.run_marking.proofs.marks.differs.Given as goal
 
 abbrev pub invariant-loop-k : goal.invariant-loop-k
-invariant-loop-k l = (l.k ≤ l.fields) × (l.from ≡ l.c * l.fields) × Same l.old l.grid l.from l.k
-
-abbrev pub decreases-loop-k : goal.decreases-loop-k
-decreases-loop-k l = l.fields - l.k
+invariant-loop-k l = (l.from ≡ l.c * l.fields) × Same l.old l.grid l.from l.k

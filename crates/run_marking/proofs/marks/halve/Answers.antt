@@ -1,13 +1,13 @@
-use mathlib.Core.Path.{refl}
-use native.Mathlib.Omega.{arith}
-use Rattle.run_marking.proofs.MarkLaws.{halving_start, halving_more, halving_done}
+use Rattle.std.proofs.Common.{◌≡◌, ◌/◌, map, rules}
+use Rattle.std.proofs.lemmas.List.Edits.{map_over_more}
+use Rattle.std.proofs.lemmas.List.{take_all, drop_all}
+use Rattle.run_marking.proofs.MarkLaws.{halved}
 use Rattle.run_marking.proofs.marks.halve.Goals as goal
 
-pub loop-c-init : goal.loop-c-init
-loop-c-init c = (omega arith, refl, halving_start _)
-
-pub loop-c-preserved : goal.loop-c-preserved
-loop-c-preserved c = let l = c.loop-c in (omega arith, refl, halving_more _ l.marks l.c l.invariant.2 (omega arith))
+pub loop-mark-preserved : goal.loop-mark-preserved
+loop-mark-preserved c = search (rules, map_over_more (λ x. x / 2))
 
 pub returns : goal.returns
-returns c = let l = c.loop-c in halving_done _ l.marks l.c l.invariant.2 (omega arith)
+returns c =
+    let all : c.loop-mark.marks ≡ map (λ x. x / 2) c.args.marks.now = search (rules, take_all, drop_all) in
+    rw all (halved c.args.marks.now)

@@ -1,10 +1,6 @@
 use Rattle.run_marking.specs.Promises.Noting.{noted_lines}
 use Rattle.run_marking.proofs.NotingLaws.{Noted}
-use Prim.Native.Nat.{◌≤◌, ◌-◌}
 use Rattle.run_marking.proofs.opening.note_lines.Given as goal
 
 abbrev pub invariant-loop-e : goal.invariant-loop-e
-invariant-loop-e l = (l.e ≤ l.count) × Noted (noted_lines l.base l.n l.first l.m l.start l.width) l.n l.first l.initial.marks l.marks l.j l.e
-
-abbrev pub decreases-loop-e : goal.decreases-loop-e
-decreases-loop-e l = l.count - l.e
+invariant-loop-e l = Noted (noted_lines l.base l.n l.first l.m l.start l.width) l.fn.marks l.marks l.e

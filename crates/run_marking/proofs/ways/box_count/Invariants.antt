@@ -6,6 +6,3 @@ use Rattle.run_marking.proofs.ways.box_count.Given as goal
 
 abbrev pub invariant-loop-k : goal.invariant-loop-k
 invariant-loop-k l = Counting (map width (bounds_of l.bounds l.dims)) l.total l.k
-
-abbrev pub decreases-loop-k : goal.decreases-loop-k
-decreases-loop-k l = l.k
