@@ -78,11 +78,10 @@ fn far_refusal(far: Option<u32>) -> Refusal
 pub fn open_rows(source: &[u8], words: &mut [u32], names: &mut [u32], sizes: &[u32]) -> RowsOpened
     ensures { OpensRows (rooms_fit (length words.old) (length names.old)) source.now words.old names.old sizes.now result words.new names.new }
 {
-    let loaded = load(source, words, names);
-    if !loaded.accepted {
-        return not_opened(loaded.number, loaded.place);
-    }
-    let rule = loaded.rule;
+    let rule = match load(source, words, names) {
+        Ok(rule) => rule,
+        Err(refusal) => return not_opened(refusal.number, refusal.place),
+    };
     if !right_sizes(sizes, rule.dims) {
         return not_opened(20, 0);
     }
