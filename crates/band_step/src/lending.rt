@@ -3,7 +3,6 @@ ghost use Rattle.std.specs.Prelude.{◌≡◌, ◌∷◌, ◌+◌, ◌%◌, ◌<
 ghost use Rattle.value.specs.Limits.{most_dims};
 ghost use Rattle.band_step.specs.Promises.Lending.{RowFits, copied, Lending, with_rows};
 
-use run_marked_cells::rooms::copy_numbers;
 use value::limits::MOST_DIMS;
 
 // Copies so many entries of a grid from a position on into a room.
@@ -11,9 +10,7 @@ fn copy_row(grid: &[i32], from: usize, room: &mut [i32], to: usize, width: usize
     requires { RowFits (length grid.now) (length room.old) from to width }
     ensures { room.new ≡ copied grid.now room.old from to width }
 {
-    let end = from + width;
-    let past = to + width;
-    copy_numbers(&grid[from..end], &mut room[to..past]);
+    room[to..to + width].copy_from_slice(&grid[from..from + width]);
 }
 
 // The row after a row; the first is after the last.
@@ -21,11 +18,7 @@ fn next_row(row: usize, rows: usize) -> usize
     requires { row < rows }
     ensures { result ≡ (row + 1) % rows }
 {
-    let next = row + 1;
-    if next == rows {
-        return 0;
-    }
-    next
+    if row + 1 == rows { 0 } else { row + 1 }
 }
 
 // Copies so many rows of a grid, from `before` rows before a row on, to the front of a room. They wrap at the edges, and may repeat. `row` is
@@ -46,11 +39,9 @@ pub fn fill_room(
     let rows = sizes[0] as usize;
     let width = row * fields;
     let mut from = (first + rows - before) % rows;
-    let mut k: usize = 0;
-    while k < count {
+    for k in 0..count {
         copy_row(grid, from * width, room, k * width, width);
         from = next_row(from, rows);
-        k += 1;
     }
 }
 

@@ -65,6 +65,7 @@ fn short_operand(
 
 // The expression at a position, of operators of a level or tighter, if it has no parentheses, unary operators and array constants, no operator
 // is tighter than the one before it, and there is no fault. At level 5 it is the primary, if that has no parentheses and no array constant.
+#[inline(always)]
 pub fn quick(
     scene: &Scene,
     vars: &[i32; MOST_NAMES],

@@ -15,7 +15,7 @@ mod shaping;
 mod writing;
 
 // The first four words of a position: the sort of the operand there, its number, slot or field, the position past it, and the level of the operator there.
-#[derive(Clone, Copy)]
+#[derive(Clone, Copy, Debug, PartialEq, Eq)]
 pub struct Leaf {
     pub sort: u32,
     pub word: u32,

@@ -50,13 +50,14 @@ pub fn wrapped(own: u32, index: Value, size: u32) -> u32
     (m - 1 - reduced(back - from - 1, m)) as u32
 }
 
-// The value of the index variable of an open loop, of which there are `depth`, outermost first; 0 if there is none.
-pub fn index_value(index: &[i32; MOST_OPEN], depth: usize, which: usize) -> Value
-    requires { depth ≤ most_open }
-    ensures { result ≡ value (entry (take depth index.now) which) }
+// Entry `which` of the first `count`, as a value; 0 where there is none. So the value of a variable, by the slots that are in use, and of an index
+// variable, by the loops that are open, outermost first.
+pub fn front_value(entries: &[i32], count: usize, which: usize) -> Value
+    requires { count ≤ length entries.now }
+    ensures { result ≡ value (entry (take count entries.now) which) }
 {
-    if which < depth {
-        return Value { n: index[which] };
+    if which < count {
+        return Value { n: entries[which] };
     }
     Value { n: 0 }
 }
@@ -76,7 +77,7 @@ fn element_value(
     let word = word_at(words, n, 3, at);
     if word_at(words, n, 0, at) == kind::NAME {
         if word_at(words, n, 2, at) == 5 {
-            return index_value(index, depth, word as usize);
+            return front_value(index, depth, word as usize);
         }
         return Value::decode(word);
     }

@@ -1,14 +1,12 @@
 // Primaries that have no expression inside them, and elements of array constants.
-ghost use Rattle.std.specs.Prelude.{◌≡◌, ◌+◌, ◌<◌, ◌≤◌, take};
-ghost use Rattle.value.specs.Limits.{most_names};
-ghost use Rattle.value.specs.Worked.{value};
-ghost use Rattle.cell_meaning.specs.Evaluation.{entry, element_at};
+ghost use Rattle.std.specs.Prelude.{◌≡◌, ◌+◌, ◌<◌, ◌≤◌};
+ghost use Rattle.cell_meaning.specs.Evaluation.{element_at};
 ghost use Rattle.cell_meaning.specs.Promises.Stands.{array_in};
 ghost use Rattle.cell_operands.specs.Promises.Scene.{In, table};
 ghost use Rattle.cell_operands.specs.Promises.Working.{told_of, short, EvalsName, EvalsPlain, Leaf};
 
-use crate::neighbour::{field_of, index_value};
 use crate::Evaluated;
+use crate::neighbour::{field_of, front_value};
 use crate::operators::is_unary;
 use crate::scene::Scene;
 use crate::table::{link_at, place_at, word_at};
@@ -16,17 +14,6 @@ use program::reply::{Reason, Refusal};
 use token::kind;
 use value::Value;
 use value::limits::{MOST_NAMES, MOST_OPEN};
-
-// The value of a variable; 0 if there are not so many slots.
-fn variable_value(vars: &[i32; MOST_NAMES], slots: usize, which: usize) -> Value
-    requires { slots ≤ most_names }
-    ensures { result ≡ value (entry (take slots vars.now) which) }
-{
-    if which < slots {
-        return Value { n: vars[which] };
-    }
-    Value { n: 0 }
-}
 
 impl Scene<'_> {
     // The element with a given index of the array constant whose name is at a position, before a `[`; fault 32 if there is none.
@@ -42,10 +29,7 @@ impl Scene<'_> {
             let value = Value::decode(word_at(self.words, n, 3, first + k as usize));
             return Ok(Evaluated { value, next });
         }
-        Err(Refusal::new(
-            Reason::ArrayIndex,
-            place_at(self.words, n, at + 1),
-        ))
+        Err(Refusal::new(Reason::ArrayIndex, place_at(self.words, n, at + 1)))
     }
 
     // The name at a position, if it is that of a variable, a constant or an index variable.
@@ -63,7 +47,7 @@ impl Scene<'_> {
         let word = word_at(self.words, n, 3, at);
         let next = at + 1;
         if refers == 4 {
-            let value = variable_value(vars, self.site.slots, word as usize);
+            let value = front_value(vars, self.site.slots, word as usize);
             return Some(Evaluated { value, next });
         }
         if refers == 1 {
@@ -71,7 +55,7 @@ impl Scene<'_> {
             return Some(Evaluated { value, next });
         }
         if refers == 5 {
-            let value = index_value(index, self.depth, word as usize);
+            let value = front_value(index, self.depth, word as usize);
             return Some(Evaluated { value, next });
         }
         None
@@ -91,7 +75,10 @@ impl Scene<'_> {
         let kind = word_at(self.words, n, 0, at);
         if kind == kind::LITERAL {
             let value = Value::decode(word_at(self.words, n, 2, at));
-            return Some(Evaluated { value, next: at + 1 });
+            return Some(Evaluated {
+                value,
+                next: at + 1,
+            });
         }
         if kind == kind::BRACKET {
             let value = self.neighbour_field(index, at);
@@ -106,7 +93,10 @@ impl Scene<'_> {
         }
         if kind == kind::TIME {
             let value = Value::decode(self.site.time);
-            return Some(Evaluated { value, next: at + 1 });
+            return Some(Evaluated {
+                value,
+                next: at + 1,
+            });
         }
         None
     }

@@ -27,13 +27,9 @@ pub struct Scene<'a> {
 impl<'a> Model for Scene<'a> {
     ghost Value = { Lent };
 
-    ghost view = {
-        λ s. record { leaves = s.leaves.now; words = s.words.now; sizes = s.sizes.now; point = s.point.now; grid = s.grid.now; site = s.site; depth = s.depth }
-    };
+    ghost view = { λ s. record { leaves = s.leaves.now; words = s.words.now; sizes = s.sizes.now; point = s.point.now; grid = s.grid.now; site = s.site; depth = s.depth } };
 
-    ghost invariant = {
-        λ s. Ready (record { leaves = s.leaves.now; words = s.words.now; sizes = s.sizes.now; point = s.point.now; grid = s.grid.now; site = s.site; depth = s.depth })
-    };
+    ghost invariant = { λ s. Ready (record { leaves = s.leaves.now; words = s.words.now; sizes = s.sizes.now; point = s.point.now; grid = s.grid.now; site = s.site; depth = s.depth }) };
 }
 
 impl<'a> Scene<'a> {

@@ -1,11 +1,13 @@
 -- The laws of a cell.
-use Prim.Native.Nat.{ℕ, zero, suc, ◌+◌, ◌<◌}
+use Prim.Native.Nat.{ℕ, ◌+◌, ◌-◌, ◌*◌, ◌≤◌, ◌<◌}
 use native.Mathlib.Omega.{arith}
 use mathlib.Core.Path.{◌≡◌, refl, sym, ap, ap₂, ◌∙◌, subst}
 use mathlib.Core.Bool.{false}
-use mathlib.Core.List.{List, [], ◌∷◌, ◌++◌}
-use lib.ListN.{length, set, take, replicate}
-use lib.Seq.{take-suc-set}
+use mathlib.Core.List.{List, []}
+use lib.ListN.{length, get_or, take, drop, replicate, length-drop}
+use lib.Seq.{length-take-le, ext_get_or, get_or-take, get_or-drop}
+use Rattle.automaton.specs.Listed.{list_of}
+use Rattle.automaton.specs.Promises.ListedLaws.{length_list_of, get_or_list_of}
 use lib.IntN.{ℤ, pos}
 use Rattle.std.specs.Prelude.{Ok, Err}
 use Rattle.program.specs.Refusal.{Refusal}
@@ -24,15 +26,21 @@ use Rattle.cell_operands.specs.Promises.Working.{site_table, env_of, SiteReady}
 use Rattle.cell_operands.proofs.PrimaryLaws.{own_is}
 use Rattle.cell_statements.specs.Promises.Running.{Going, Outcome, left_by_exit, RunsBlock, Fit, outcome_is, Evaluates}
 
--- the first k variables are 0
-pub cleared : (vars : List ℤ) (k : ℕ) {vars' : List ℤ} → take k vars ≡ replicate k (pos 0) → k < length vars → vars' ≡ set vars k (pos 0) → take (k + 1) vars' ≡ replicate (k + 1) (pos 0)
-cleared vars k {vars'} e l q =
-    let s : k + 1 ≡ suc k = omega arith in
-    ap₂ (λ (n : ℕ) (xs : List ℤ). take n xs) s q ∙ take-suc-set vars k (pos 0) l ∙ ap (λ (xs : List ℤ). xs ++ (pos 0 ∷ [])) e ∙ last k ∙ ap (λ (n : ℕ). replicate n (pos 0)) (sym s)
+-- the fields of a cell, as a part of the grid
+pub cell_part : (fields : ℕ) (g : List ℤ) (c : ℕ) → c * fields + fields ≤ length g → take (c * fields + fields - c * fields) (drop (c * fields) g) ≡ cell_of fields g c
+unfolding cell_of
+cell_part fields g c l =
+    ap (λ (n : ℕ). take n (drop (c * fields) g)) back
+    ∙ ext_get_or (pos 0) (take fields (drop (c * fields) g)) _ (size ∙ sym (length_list_of _ fields)) (λ k h. at k (subst (λ (n : ℕ). k < n) size h))
   where
-    last : (k : ℕ) → replicate k (pos 0) ++ (pos 0 ∷ []) ≡ replicate (suc k) (pos 0)
-    last zero = refl
-    last (suc k) = ap (λ (xs : List ℤ). pos 0 ∷ xs) (last k)
+    back : c * fields + fields - c * fields ≡ fields
+    back = omega arith
+
+    size : length (take fields (drop (c * fields) g)) ≡ fields
+    size = length-take-le fields (drop (c * fields) g) (omega (arith, length-drop (c * fields) g))
+
+    at : (k : ℕ) → k < fields → get_or (take fields (drop (c * fields) g)) k (pos 0) ≡ get_or (list_of (λ j. get_or g (c * fields + j) (pos 0)) fields) k (pos 0)
+    at k h = get_or-take fields (drop (c * fields) g) k (pos 0) h ∙ get_or-drop (c * fields) g k (pos 0) ∙ sym (get_or_list_of _ fields k (pos 0) h)
 
 -- what is asked of a site
 pub ready : {leaves words : List ℕ} {rule : Rule} {sizes point : List ℕ} {cell : ℕ} {grid : List ℤ} {fields time : ℕ} → Fit leaves words rule sizes point cell grid fields time

@@ -10,7 +10,7 @@ use lib.Seq.{take-suc, take-set-le, get_or-set_same}
 use lib.IntN.{ℤ, pos, ◌+ℤ◌, +ℤ_assoc, +ℤ_idr}
 use borrow.Author.Tests.{ne_eqb, eqb-true}
 use Rattle.std.specs.Prelude.{Some, None, Ok, Err, if◌then◌else◌}
-use Rattle.program.specs.Refusal.{Refusal, refusal}
+use Rattle.program.specs.Refusal.{refusal}
 use Rattle.cell_statements.specs.declared.Flow.TheVariants as flow
 use Rattle.value.specs.Worked.{value, truth, decode_of, span_of}
 use Rattle.value.specs.declared.Value.{Value}

@@ -59,6 +59,7 @@ fn fits_field(scene: &Scene, which: usize, v: Value) -> bool
 }
 
 // Stores a value in the target of the assignment at a position; `here` is the position of the `:=` before the value.
+#[inline(always)]
 fn put(
     scene: &Scene,
     vars: &mut [i32; MOST_NAMES],
@@ -82,6 +83,7 @@ fn put(
 }
 
 // The expression at a position: in one loop where that can be, else by every way that an expression can go.
+#[inline(always)]
 fn long(
     scene: &Scene,
     vars: &[i32; MOST_NAMES],

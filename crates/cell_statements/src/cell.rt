@@ -15,11 +15,7 @@ fn clear(vars: &mut [i32], slots: usize)
     requires { slots ≤ length vars.old }
     ensures { take slots vars.new ≡ replicate slots (pos 0) }
 {
-    let mut k = 0;
-    while k < slots {
-        vars[k] = 0;
-        k += 1;
-    }
+    vars[..slots].fill(0);
 }
 
 // Copies the fields of a cell.
@@ -29,12 +25,7 @@ fn copy_fields(grid: &[i32], cell: usize, next: &mut [i32])
 {
     let fields = next.len();
     let from = cell * fields;
-    let mut k = 0;
-    while k < fields {
-        let n = grid[from + k];
-        next[k] = n;
-        k += 1;
-    }
+    next.copy_from_slice(&grid[from..from + fields]);
 }
 
 // Evaluates a cell, by the rule that stands in the table: its next fields are in `next`, unless there is a fault. Variables start at 0.

@@ -3,13 +3,13 @@ use mathlib.Core.Path.{◌≡◌, refl, sym, ap, ap₂, ◌∙◌, subst}
 use mathlib.Core.Bool.{Bool, true, false, not, ◌||◌}
 use mathlib.Core.List.{List, [], ◌∷◌}
 use mathlib.Core.Option.{Option, some, none}
-use Prim.Native.Nat.{ℕ, zero, suc, ◌+◌, ◌-◌, ◌*◌, ◌≤◌, ◌<◌}
+use Prim.Native.Nat.{ℕ, suc, ◌+◌, ◌-◌, ◌*◌, ◌≤◌, ◌<◌}
 use native.Mathlib.Omega.{arith}
 use native.Mathlib.Numerals.{add-one}
 use lib.ListN.{length, take, drop, get_or, drop_of_length-le, length-drop}
 use lib.Seq.{drop-cons, drop-drop}
 use lib.IntN.{ℤ}
-use lib.Dec.{eqb, leb, ltb}
+use lib.Dec.{eqb, ltb}
 use borrow.Author.Tests.{eq-eqb, ne_eqb, lt-ltb, le-ltb, not-true, not-false}
 use Rattle.std.specs.Prelude.{if◌then◌else◌}
 use Rattle.program.specs.Syntax.{Range}
@@ -18,7 +18,7 @@ use Rattle.automaton.specs.Shape.{product}
 use Rattle.list_meaning.specs.Text.{Piece, literal, sign, with_piece, pieces}
 use Rattle.list_meaning.specs.Lines.{Said, bad, time, cell, Indexed, indices, values, assigned, cell_with, cell_of_index, said_by, said_in, said}
 use Rattle.list_meaning.specs.Text as text
-use Rattle.list_meaning.specs.ListChecking.{Limits, inside, all_fit, cell_line_number, rises, time_number, line_number, time_behind, Verdict, verdict, check_lines, check_list}
+use Rattle.list_meaning.specs.ListChecking.{Limits, inside, all_fit, cell_line_number, rises, time_number, line_number, time_behind, verdict, check_lines, check_list}
 use Rattle.list_meaning.specs.Promises.Walking.{to_end, Placed, wrong, placed, place_from, placed_by, all_keep, values_number}
 use Rattle.list_meaning.proofs.Walking.{said_cut, said_last, place_is, place_none, values_last}
 use Rattle.std.proofs.Common.{Bor, Option as Optional, Some, None, Result, Ok, Err, is_some as has_some, is_ok, ok_or, IsErrAnd, lit<}
@@ -35,8 +35,7 @@ use Rattle.list_reader.specs.declared.points.Point.{Point}
 use Rattle.list_reader.specs.Promises.Points.{point_in, point_with, point_of, ReadsPoint}
 use Rattle.list_reader.specs.declared.values.Values.{Values}
 use Rattle.list_reader.specs.Promises.Values.{line_values, told, count_number, values_told, ReadsValues}
-use Rattle.list_reader.specs.declared.checking.ListRefusal.{ListRefusal}
-use Rattle.list_reader.specs.Promises.Checks.{limits, time_before, ChecksTime, cell_said, ChecksCell, Judged, JudgesTime, JudgesLine, answer, ChecksLines}
+use Rattle.list_reader.specs.Promises.Checks.{limits, time_before, ChecksTime, cell_said, ChecksCell, Judged, JudgesTime, JudgesLine, ChecksLines}
 
 -- ---- the exit of `.ok_or(e)?`: there was no value, and the reason is e
 pub exits : {A B : Type 0} {o : Optional A} {r : Result A Reason} {q : Result B Reason} {e f : Reason} → IsErrAnd q (λ g. g ≡ f) → r ≡ Err f → r ≡ ok_or o e → (o ≡ None) × (q ≡ Err e)

@@ -28,8 +28,7 @@ use Rattle.list_meaning.specs.Promises.Passing.{LinePasses}
 use Rattle.list_meaning.proofs.Passing.{passes_first, rises_told, starts_told, not_yet}
 use Rattle.list_reader.specs.Promises.Points.{Dimensions}
 use Rattle.list_reader.specs.Promises.Values.{fields_in}
-use Rattle.std.proofs.Common.{Option as Optional, Some, None, Result, Ok}
-use Rattle.list_reader.specs.declared.checking.ListRefusal.{ListRefusal}
+use Rattle.std.proofs.Common.{Option as Optional, Some, None, Ok}
 use Rattle.list_reader.specs.Promises.Checks.{limits, ChecksLines}
 use Rattle.list_reader.specs.declared.setting.Block.{Block}
 use Rattle.list_reader.specs.Promises.Settings.{AtBlock, SetBlock, SetsLines, NextTime}

@@ -7,7 +7,7 @@ use Prim.Native.Nat.{ℕ, suc, ◌+◌, ◌-◌, ◌*◌, ◌≤◌, ◌<◌}
 use native.Mathlib.Nat.{zero-mul, zero-add, mul-le-mul_left}
 use native.Mathlib.Omega.{arith}
 use native.Mathlib.Numerals.{add-one}
-use lib.ListN.{length, take, drop, set, drop_of_length-le}
+use lib.ListN.{length, take, drop, drop_of_length-le}
 use lib.Seq.{set_out}
 use lib.IntN.{ℤ}
 use lib.Dec.{eqb, ltb}
@@ -16,7 +16,6 @@ use mir.Val.{Fits}
 use borrow.Author.Tests.{eq-eqb, ltb-true, ltb-false}
 use Rattle.std.specs.Prelude.{if◌then◌else◌}
 use Rattle.value.proofs.Theorems.Laws.{never}
-use Rattle.value.specs.declared.Value.{Value}
 use Rattle.automaton.specs.Shape as shape
 use Rattle.automaton.specs.Shape.{product}
 use Rattle.list_meaning.specs.Text.{Piece, literal, sign, with_piece, pieces}
@@ -31,7 +30,7 @@ use Rattle.list_meaning.proofs.Theorems.Kept.{right_cell}
 use Rattle.std.proofs.Common.{Bor, Option as Optional, Some, None, is_some as has_some}
 use Rattle.list_reader.specs.Promises.Promises.{LineEnds, NoLiteral, NoSign, ReadsLiteral, ReadsSign}
 use Rattle.list_reader.specs.declared.points.Point.{Point}
-use Rattle.list_reader.specs.Promises.Points.{point_in, point_with, point_of, ReadsPoint}
+use Rattle.list_reader.specs.Promises.Points.{point_in, point_with, ReadsPoint}
 use Rattle.list_reader.specs.declared.values.Valued.{Valued}
 use Rattle.list_reader.specs.Promises.Values.{line_values, given_of, further, ReadsValue}
 use Rattle.list_reader.specs.Promises.Checks.{cell_said}

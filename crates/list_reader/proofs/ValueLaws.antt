@@ -3,17 +3,16 @@ use mathlib.Core.Path.{◌≡◌, refl, sym, ap, ap₂, ◌∙◌, subst}
 use mathlib.Core.Bool.{Bool, true, false, not, ◌&&◌, ◌||◌}
 use mathlib.Core.List.{List, [], ◌∷◌}
 use mathlib.Core.Option.{Option, some, none}
-use Prim.Native.Nat.{ℕ, zero, suc, ◌+◌, ◌-◌, ◌≤◌, ◌<◌}
+use Prim.Native.Nat.{ℕ, suc, ◌+◌, ◌≤◌, ◌<◌}
 use native.Mathlib.Omega.{arith}
 use native.Mathlib.Numerals.{add-one}
 use lib.ListN.{length, drop, get_or, drop_of_length-le}
 use lib.Seq.{drop-cons}
-use lib.IntN.{ℤ, pos, negsuc}
-use lib.Dec.{eqb, ltb}
+use lib.IntN.{ℤ, pos}
+use lib.Dec.{ltb}
 use borrow.Author.Tests.{ne_eqb, lt-ltb, le-ltb, ltb-true, ltb-false}
 use Rattle.std.specs.Prelude.{if◌then◌else◌}
-use Rattle.value.specs.Number.{within, eq_z}
-use Rattle.value.proofs.Theorems.Laws.{never}
+use Rattle.value.specs.Number.{within}
 use Rattle.value.specs.Worked.{value, decode_of}
 use Rattle.value.specs.declared.Value.{Value}
 use Rattle.automaton.specs.Promises.ListedLaws.{length_list_of, get_or_list_of}
@@ -23,7 +22,7 @@ use Rattle.cell_meaning.specs.Evaluation.{in_field}
 use Rattle.cell_meaning.specs.Promises.Stands.{rule_table, range_in}
 use Rattle.token.specs.Promises.Promises.{too_large}
 use Rattle.list_meaning.specs.Text.{Piece, literal, sign, with_piece, pieces}
-use Rattle.list_meaning.specs.Lines.{before_values, plus_or_minus, signed, values, under_sign, behind}
+use Rattle.list_meaning.specs.Lines.{before_values, plus_or_minus, signed, values, behind}
 use Rattle.list_meaning.specs.ListChecking.{value_fits, all_fit}
 use Rattle.list_meaning.specs.Promises.Walking.{head_fits, none_left, rest_of, keeps_flag, values_number}
 use Rattle.list_meaning.proofs.Walking.{one_value}
@@ -32,8 +31,7 @@ use Rattle.list_reader.specs.declared.Lexed.{Lexed}
 use Rattle.list_reader.specs.declared.Lexed.TheVariants.{Literal, Sign, End}
 use Rattle.list_reader.specs.Promises.Promises.{NoLiteral, Lexes, ReadsLiteral}
 use Rattle.list_reader.specs.declared.values.Valued.{Valued}
-use Rattle.list_reader.specs.declared.values.Values.{Values}
-use Rattle.list_reader.specs.Promises.Values.{line_values, under_in, behind_in, given_of, further, valued_of, RestOnward, ValuedOnward, ReadsSigned, ReadsBehind, ReadsValue, fields_in, count_number, values_told, StillFits, StillKept, ReadsValues}
+use Rattle.list_reader.specs.Promises.Values.{line_values, under_in, behind_in, given_of, further, valued_of, RestOnward, ValuedOnward, ReadsSigned, ReadsBehind, ReadsValue, fields_in, count_number, StillFits, StillKept, ReadsValues}
 
 -- ---- the grammar, by the first token
 

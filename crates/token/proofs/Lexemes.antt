@@ -5,32 +5,24 @@ use mathlib.Core.List.{List, [], ◌∷◌, map}
 use Prim.Native.Nat.{ℕ, zero, suc, ◌+◌, ◌-◌, ◌≤◌, ◌<◌, min}
 use native.Mathlib.Omega.{arith}
 use native.Mathlib.Nat.{add-zero}
-use lib.Dec.{T, eqb, ltb}
+use lib.Dec.{eqb, ltb}
 use lib.ListN.{length, take, drop, get_or, length-take, length-drop, length-map, drop_of_length-le}
 use lib.Seq.{get_or-drop, drop-drop}
 use borrow.Author.Tests.{ne_eqb, eqb-false, lt-ltb, le-ltb}
 use Rattle.std.specs.Prelude.{if◌then◌else◌, Option, Some, None, unwrap_or}
 use Rattle.std.specs.Borrow.{Bor}
-use Rattle.token.specs.Bytes.{kind_of, member, fold, same}
+use Rattle.token.specs.Bytes.{kind_of, member, fold}
 use Rattle.token.specs.Lexeme.{Lexeme, find_kind, keywords, two_byte_tokens, starts, in_name, in_literal, extent, decimal, lexeme_of, unreadable, word, digits, punctuation, read_token}
 use Rattle.token.specs.declared.Lexed.{Lexed}
 use Rattle.token.specs.declared.bytes.ByteKind.{ByteKind}
 use Rattle.token.specs.declared.bytes.ByteKind.TheVariants.{Letter, Digit, Underscore, Sign}
-use Rattle.token.specs.Promises.Promises.{WalksTokens, kind_number, head_kind, too_large, of_length, spelled_of, in_lower, Finds, word_here, digits_here, lexed_of, ReadsToken}
+use Rattle.token.specs.Promises.Promises.{WalksTokens, kind_number, head_kind, too_large, of_length, spelled_of, Finds, word_here, digits_here, lexed_of, ReadsToken}
 use Rattle.token.proofs.Heads.{drop_here, starts_as}
 use Rattle.token.proofs.Extents.{extent_within, extent_first}
 use Rattle.token.proofs.Numbers.{apart_eqb}
-use Rattle.token.proofs.Words.{lower_of_length, by_length, some_kind, signs_fold, too_short}
+use Rattle.token.proofs.Words.{by_length, some_kind, signs_fold, too_short}
 
 -- ---- a word
-
-pub all_lower : (n : ℕ) (t : List (Bor (List ℕ) × ℕ)) → spelled_of t ≡ of_length n keywords → T (in_lower (spelled_of t))
-unfolding fold same
-all_lower n t e = rw e (lower_of_length n keywords tt)
-
-pub pairs_lower : (t : List (Bor (List ℕ) × ℕ)) → spelled_of t ≡ two_byte_tokens → T (in_lower (spelled_of t))
-unfolding fold same
-pairs_lower t e = rw e tt
 
 pub word_read : (s : List ℕ) (at : ℕ) {end : ℕ} (t : List (Bor (List ℕ) × ℕ)) {o : Option ℕ} {k n : ℕ} {r : Lexed} → WalksTokens (extent in_name (drop at s)) s at end → at < length s → n ≡ length (take (end - at) (drop at s)) → spelled_of t ≡ of_length n keywords → Finds (map fold (take (end - at) (drop at s))) (spelled_of t) o → k ≡ unwrap_or o 1 → r ≡ lexed_of (lexeme_of k n 0) at → r ≡ lexed_of (word_here (drop at s)) at
 unfolding word

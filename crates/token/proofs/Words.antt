@@ -1,5 +1,5 @@
 -- Fixed spellings: comparing a part of the source with one, letter case aside, and finding one.
-use mathlib.Core.Path.{◌≡◌, refl, sym, ap, subst, ◌∙◌}
+use mathlib.Core.Path.{◌≡◌, refl, sym, ap, ◌∙◌}
 use mathlib.Core.Bool.{Bool, true, false, ◌&&◌}
 use mathlib.Core.List.{List, [], ◌∷◌, map}
 use mathlib.Core.Logic.{◌⊎◌, inl, inr}
@@ -7,7 +7,7 @@ use Prim.Native.Nat.{ℕ, zero, suc, ◌+◌, ◌≤◌, ◌<◌}
 use native.Mathlib.Omega.{arith}
 use native.Mathlib.Numerals.{add-one}
 use lib.Dec.{T, eqb, ltb, eqb→eq, ltb→lt}
-use lib.ListN.{length, take, drop, get_or, drop_of_length-le}
+use lib.ListN.{length, take, drop, get_or, length-map, drop_of_length-le}
 use lib.Seq.{drop-cons}
 use borrow.Author.Tests.{eq-eqb, ne_eqb, eqb-false, le-leb, lt-leb, ltb-true, ltb-false}
 use Rattle.std.specs.Prelude.{if◌then◌else◌, Some, None}
@@ -18,7 +18,7 @@ use Rattle.std.proofs.lemmas.Bool.{cases_lt}
 use Rattle.std.proofs.lemmas.Str.Ascii.{lowercase_is}
 use Rattle.token.specs.Bytes.{between, fold, same}
 use Rattle.token.specs.Lexeme.{Spelled, find_kind}
-use Rattle.token.specs.Promises.Promises.{of_length, spelled_of, in_lower, Finds, Groups}
+use Rattle.token.specs.Promises.Promises.{of_length, spelled_of, Finds, Groups}
 
 -- ---- a letter's lower case: std's is the definition's
 
@@ -30,10 +30,6 @@ folds b = go (cases_lt b 65) (cases_lt 90 b)
     go (inl p) q = (lowercase_is b).1 p ∙ sym (rw (lt-leb 65 b p))
     go (inr p) (inl q) = (lowercase_is b).2 q ∙ sym (rw (le-leb 65 b p, lt-leb b 90 q))
     go (inr p) (inr q) = (lowercase_is b).0 (p, q) ∙ sym (rw (le-leb 65 b p, le-leb b 90 q))
-
-pub folds_all : (s : List ℕ) → map to_ascii_lowercase s ≡ map fold s
-folds_all [] = refl
-folds_all (b ∷ s) = rw (folds b, folds_all s)
 
 fold_below : (b : ℕ) → b < 65 → fold b ≡ b
 unfolding fold
@@ -142,71 +138,64 @@ spelled_part (suc i) zero t = refl
 spelled_part (suc i) (suc n) [] = refl
 spelled_part (suc i) (suc n) (f ∷ t) = spelled_part i (suc n) t
 
--- those of n letters are in lower case where all are
-pub lower_of_length : (n : ℕ) (t : List Spelled) → T (in_lower t) → T (in_lower (of_length n t))
-lower_of_length n [] h = tt
-lower_of_length n (x ∷ t) h =
-    let u = both (same (map fold x.letters) x.letters) (in_lower t) h in
-    go (eqb (length x.letters) n) u.0 (lower_of_length n t u.1)
-  where
-    kept : (d b : Bool) → T d → T b → T (d && b)
-    kept true b p q = q
-    kept false b p q = absurd p
+-- ---- a word and the letters of a spelling
 
-    go : (c : Bool) → T (same (map fold x.letters) x.letters) → T (in_lower (of_length n t)) → T (in_lower (if c then x ∷ of_length n t else of_length n t))
-    go true p q = kept _ _ p q
-    go false p q = q
+-- the rest u is to be compared with the rest y
+pub record Comparing (s x u y : List ℕ) : Type 0 where
+  pub left : same (map fold s) x ≡ same (map fold u) y
+  pub long : length u ≡ length y
 
--- ---- a spelling and a letter of the table, letter case aside
+module _ (s x : List ℕ) where
+  pub compare_start : length s ≡ length x → Comparing s x s x
+  compare_start e = record { left = refl; long = e }
 
-module _ (w : List ℕ) (x : List ℕ) (l : T (same (map fold x) x)) where
-  pub alike_folded : map to_ascii_lowercase w ≡ map to_ascii_lowercase x → same (map fold w) x ≡ true
-  alike_folded e =
-      let p : map fold w ≡ x = sym (folds_all w) ∙ e ∙ folds_all x ∙ alike (map fold x) x l in
-      ap (λ (y : List ℕ). same y x) p ∙ same_itself x
+  pub compare_unlike : (length s ≡ length x → ⊥) → false ≡ same (map fold s) x
+  compare_unlike d = sym (unlike (map fold s) x (λ e. d (sym (length-map s fold) ∙ e)))
 
-  pub unlike_folded : (map to_ascii_lowercase w ≡ map to_ascii_lowercase x → ⊥) → same (map fold w) x ≡ false
-  unlike_folded d = go (same (map fold w) x) refl
-    where
-      go : (t : Bool) → same (map fold w) x ≡ t → t ≡ false
-      go true e = absurd (d (folds_all w ∙ alike (map fold w) x (rw e tt) ∙ sym (alike (map fold x) x l) ∙ sym (folds_all x)))
-      go false e = refl
+  pub compare_all : {u y : List ℕ} → Comparing s x u y → u ≡ [] → y ≡ [] → true ≡ same (map fold s) x
+  unfolding same
+  compare_all w e d = sym (w.left ∙ rw (e, d))
+
+  module _ {a b : ℕ} {u y : List ℕ} (w : Comparing s x (a ∷ u) (b ∷ y)) where
+    here_same : same (map fold s) x ≡ (eqb (to_ascii_lowercase a) b && same (map fold u) y)
+    unfolding same
+    here_same = w.left ∙ rw (folds a)
+
+    pub compare_more : to_ascii_lowercase a ≡ b → Comparing s x u y
+    compare_more e = record { left = here_same ∙ simp (eq-eqb _ _ e); long = omega (arith, w.long) }
+
+    pub compare_not : (to_ascii_lowercase a ≡ b → ⊥) → false ≡ same (map fold s) x
+    compare_not e = sym (here_same ∙ simp (ne_eqb _ _ e))
+
+pub ruleset Compares = (compare_start, compare_unlike, compare_all, compare_more, compare_not)
 
 -- ---- the search of the code
 
 -- from number i on is what is left to search
 pub record Seeking (w : List ℕ) (t : List (Bor (List ℕ) × ℕ)) (i : ℕ) : Type 0 where
   pub left : (other : ℕ) → find_kind w (spelled_of t) other ≡ find_kind w (spelled_of (drop i t)) other
-  pub lower : T (in_lower (spelled_of (drop i t)))
 
-abbrev nothing : Bor (List ℕ) × ℕ
-nothing = (record { ref_ptr = (0, 0); now = [] }, 0)
+pub seek_start : (w : List ℕ) (t : List (Bor (List ℕ) × ℕ)) → Seeking w t 0
+seek_start w t = record { left = λ other. refl }
 
-pub seek_start : (w : List ℕ) (t : List (Bor (List ℕ) × ℕ)) → T (in_lower (spelled_of t)) → Seeking w t 0
-seek_start w t l = record { left = λ other. refl; lower = l }
+module _ (w : List ℕ) (t : List (Bor (List ℕ) × ℕ)) {i : ℕ} (k : Seeking w t i) where
+  pub seek_none : length t ≤ i → Finds w (spelled_of t) None
+  unfolding find_kind
+  seek_none h = record { is = λ other. sym (k.left other ∙ rw (drop_of_length-le t h)) }
 
-pub seek_none : {w : List ℕ} (t : List (Bor (List ℕ) × ℕ)) {i : ℕ} → Seeking w t i → length t ≤ i → Finds w (spelled_of t) None
-unfolding find_kind
-seek_none t k h = record { is = λ other. sym (k.left other ∙ rw (drop_of_length-le t h)) }
+  module _ (h : i < length t) (d : Bor (List ℕ) × ℕ) {b : Bool} (q : b ≡ same w (get_or t i d).0.now) where
+    left : (other : ℕ) → find_kind w (spelled_of t) other ≡ find_kind w (spelled_of (get_or t i d ∷ drop (i + 1) t)) other
+    left other =
+        let split : drop i t ≡ get_or t i d ∷ drop (i + 1) t = rw (add-one, drop-cons t i d h) in
+        k.left other ∙ ap (λ (r : List (Bor (List ℕ) × ℕ)). find_kind w (spelled_of r) other) split
 
-module _ (s : List ℕ) (t : List (Bor (List ℕ) × ℕ)) {i : ℕ} (k : Seeking (map fold s) t i) (h : i < length t) where
-  abbrev here : Bor (List ℕ) × ℕ
-  here = get_or t i nothing
+    pub seek_found : b ≡ true → Finds w (spelled_of t) (Some (get_or t i d).1)
+    seek_found e = record { is = λ other. sym (left other ∙ found w _ _ other (sym q ∙ e)) }
 
-  split : drop i t ≡ here ∷ drop (i + 1) t
-  split = rw (add-one, drop-cons t i nothing h)
+    pub seek_next : b ≡ false → Seeking w t (i + 1)
+    seek_next e = record { left = λ other. left other ∙ missed w _ _ other (sym q ∙ e) }
 
-  left : (other : ℕ) → find_kind (map fold s) (spelled_of t) other ≡ find_kind (map fold s) (spelled_of (here ∷ drop (i + 1) t)) other
-  left other = k.left other ∙ ap (λ (r : List (Bor (List ℕ) × ℕ)). find_kind (map fold s) (spelled_of r) other) split
-
-  lower : T (same (map fold here.0.now) here.0.now) × T (in_lower (spelled_of (drop (i + 1) t)))
-  lower = both _ _ (subst (λ (r : List (Bor (List ℕ) × ℕ)). T (in_lower (spelled_of r))) split k.lower)
-
-  pub seek_found : map to_ascii_lowercase s ≡ map to_ascii_lowercase here.0.now → Finds (map fold s) (spelled_of t) (Some here.1)
-  seek_found e = record { is = λ other. sym (left other ∙ found (map fold s) _ _ other (alike_folded s here.0.now lower.0 e)) }
-
-  pub seek_next : (map to_ascii_lowercase s ≡ map to_ascii_lowercase here.0.now → ⊥) → Seeking (map fold s) t (i + 1)
-  seek_next d = record { left = λ other. left other ∙ missed (map fold s) _ _ other (unlike_folded s here.0.now lower.0 d); lower = lower.1 }
+pub ruleset Seeks = (seek_start, seek_none, seek_found, seek_next)
 
 -- ---- tokens of signs
 

@@ -25,7 +25,7 @@ pub fn token_of(kind: u32, at: usize, len: usize, value: u32) -> Lexed
 }
 
 // A keyword, a predefined name or an identifier.
-#[tactic(auto, using(crate::proofs::Lexemes::word_read, crate::proofs::Lexemes::all_lower))]
+#[tactic(auto, using(crate::proofs::Lexemes::word_read))]
 pub fn read_word(source: &[u8], at: usize) -> Lexed
     requires { (at < length source.now) × (length source.now ≤ most_bytes) }
     ensures { result ≡ lexed_of (word_here (drop at source.now)) at }
@@ -57,7 +57,7 @@ pub fn read_digits(source: &[u8], at: usize) -> Lexed
 }
 
 // The kind of the two-byte token at a position.
-#[tactic(auto, using(crate::proofs::Lexemes::pair_read, crate::proofs::Lexemes::pair_none, crate::proofs::Lexemes::pairs_lower))]
+#[tactic(auto, using(crate::proofs::Lexemes::pair_read, crate::proofs::Lexemes::pair_none))]
 fn pair_kind(source: &[u8], at: usize) -> Option<u32>
     requires { (at < length source.now) × (length source.now ≤ most_bytes) }
     ensures { Finds (take 2 (drop at source.now)) two_byte_tokens result }

@@ -69,12 +69,17 @@ impl Cursor {
         ensures { ReadsToken source.now self.at result }
     {
         let at = self.at;
-        match bytes::kind_at(source, at) {
-            ByteKind::Letter => lexing::read_word(source, at),
-            ByteKind::Digit => lexing::read_digits(source, at),
-            ByteKind::Sign => lexing::read_sign(source, at),
-            _ => lexing::token_of(kind::STOP, at, 1, 3),
+        let kind = bytes::kind_at(source, at);
+        if kind == ByteKind::Letter {
+            return lexing::read_word(source, at);
         }
+        if kind == ByteKind::Digit {
+            return lexing::read_digits(source, at);
+        }
+        if kind == ByteKind::Sign {
+            return lexing::read_sign(source, at);
+        }
+        lexing::token_of(kind::STOP, at, 1, 3)
     }
 }
 

@@ -1,8 +1,8 @@
 // The fixed spellings: the keywords and the predefined names by their length, and after them the two-byte tokens.
-ghost use Rattle.std.specs.Prelude.{◌≡◌, map, T};
-ghost use Rattle.token.specs.Bytes.{fold};
+ghost use Rattle.std.specs.Prelude.{◌≡◌, map};
+ghost use Rattle.token.specs.Bytes.{fold, same};
 ghost use Rattle.token.specs.Lexeme.{keywords, two_byte_tokens};
-ghost use Rattle.token.specs.Promises.Promises.{spellings, spelled_of, of_length, Groups, in_lower, Finds};
+ghost use Rattle.token.specs.Promises.Promises.{spellings, spelled_of, of_length, Groups, Finds};
 
 use crate::kind;
 use std::ops::Range;
@@ -74,13 +74,28 @@ pub fn two_byte() -> &'static [Fixed]
     &fixed()[17..]
 }
 
-// The kind of a spelling in a table, letter case aside.
-pub fn find_kind(letters: &[u8], table: &[Fixed]) -> Option<u32>
-    requires { T (in_lower (spelled_of table.now)) }
-    ensures { Finds (map fold letters.now) (spelled_of table.now) result }
+// Whether a word has a spelling, which is in lower case, letter case aside.
+#[tactic(auto, using(crate::proofs::Words::Compares))]
+fn spells(word: &[u8], letters: &[u8]) -> bool
+    ensures { result ≡ same (map fold word.now) letters.now }
 {
-    for &(fixed, kind) in table {
-        if letters.eq_ignore_ascii_case(fixed) {
+    if word.len() != letters.len() {
+        return false;
+    }
+    for (b, letter) in word.iter().zip(letters) {
+        if b.to_ascii_lowercase() != *letter {
+            return false;
+        }
+    }
+    true
+}
+
+// The kind of a word in a table, letter case aside.
+pub fn find_kind(word: &[u8], table: &[Fixed]) -> Option<u32>
+    ensures { Finds (map fold word.now) (spelled_of table.now) result }
+{
+    for &(letters, kind) in table {
+        if spells(word, letters) {
             return Some(kind);
         }
     }

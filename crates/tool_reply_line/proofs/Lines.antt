@@ -21,22 +21,8 @@ pub and_then : {old new last a b : List ℕ} {at m r : ℕ} → LineWrote old at
 and_then {old} {new} {last} {a} {b} {at} {m} {r} x y =
     record { is = y.is ∙ rw x.is (append_assoc (take at old) a b); end = let p = x.end in let q = y.end in simp length-append (omega arith) }
 
-pub wrote_nothing : (old : List ℕ) (at : ℕ) → LineWrote old at [] old (at + 0)
-wrote_nothing old at = record { is = rw (add-zero at) (sym (append-nil (take at old))); end = refl }
-
 pub wrote_byte : (old : List ℕ) (at b : ℕ) → at < length old → LineWrote old at (b ∷ []) (set old at b) (at + 1)
 wrote_byte old at b l = record { is = rw (add-one at) (take-suc-set old at b l); end = refl }
-
--- ---- a text, byte by byte
-
-pub wrote_more : (old : List ℕ) (at : ℕ) (text : List ℕ) (k : ℕ) (new : List ℕ) → LineWrote old at (take k text) new (at + k) → k < length text → at + k < length new → LineWrote old at (take (k + 1) text) (set new (at + k) (get_or text k 0)) (at + (k + 1))
-wrote_more old at text k new h l m =
-    let y = and_then h (wrote_byte new (at + k) (get_or text k 0) m) in
-    let e : at + (k + 1) ≡ at + k + 1 = omega arith in
-    rw (e, add-one k, take-suc text k 0 l) y
-
-pub wrote_all : (old : List ℕ) (at : ℕ) (text : List ℕ) (k : ℕ) (new : List ℕ) → LineWrote old at (take k text) new (at + k) → length text ≤ k → LineWrote old at text new (at + k)
-wrote_all old at text k new h l = rw (take_all k text l) at h
 
 -- ---- digits
 

@@ -21,12 +21,9 @@ fn put_text(line: &mut [u8], at: usize, text: &[u8]) -> usize
     requires { at + length text.now ≤ length line.old }
     ensures { LineWrote line.old at text.now line.new result }
 {
-    let mut k: usize = 0;
-    while k < text.len() {
-        line[at + k] = text[k];
-        k += 1;
-    }
-    at + k
+    let end = at + text.len();
+    line[at..end].copy_from_slice(text);
+    end
 }
 
 // Writes the decimal digits of n from a position on, and returns the position after them.

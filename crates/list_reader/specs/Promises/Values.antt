@@ -1,5 +1,5 @@
 -- What the functions that read values promise.
-use Rattle.std.specs.Prelude.{◌≡◌, Bool, true, false, not, ◌&&◌, List, [], ℕ, ◌≤◌, ◌<◌, length, drop, ltb, ℤ, if◌then◌else◌, Option as Optional, Some, None, Result, Ok, Err}
+use Rattle.std.specs.Prelude.{◌≡◌, Bool, true, false, not, ◌&&◌, List, [], ℕ, ◌<◌, length, drop, ltb, ℤ, if◌then◌else◌, Option as Optional, Some, None, Result, Ok, Err}
 use Rattle.std.specs.Borrow.{Bor}
 use Rattle.std.proofs.Math.Option.{Option, some, none}
 use Rattle.program.specs.Syntax.{Range}

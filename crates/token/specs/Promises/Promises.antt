@@ -1,9 +1,9 @@
 -- What the functions of this crate promise, beside the definitions.
-use Rattle.std.specs.Prelude.{Bool, true, false, ◌&&◌, ◌||◌, ◌≡◌, List, [], ◌∷◌, ◌++◌, ℕ, ◌+◌, ◌-◌, ◌*◌, ◌≤◌, ◌<◌, length, map, take, drop, get_or, eqb, if◌then◌else◌, Option, Some, None, unwrap_or}
+use Rattle.std.specs.Prelude.{Bool, true, false, ◌&&◌, ◌||◌, ◌≡◌, List, [], ◌∷◌, ◌++◌, ℕ, ◌+◌, ◌-◌, ◌*◌, ◌≤◌, ◌<◌, length, take, drop, get_or, eqb, if◌then◌else◌, Option, Some, None, unwrap_or}
 use Rattle.std.specs.Borrow.{Bor}
 use Rattle.std.specs.declared.ops.Range.{Range}
 use Rattle.value.specs.Limits.{most_tokens}
-use Rattle.token.specs.Bytes.{byte_kind, kind_of, fold, same}
+use Rattle.token.specs.Bytes.{byte_kind, kind_of}
 use Rattle.token.specs.Lexeme.{Lexeme, Spelled, spelled, keywords, two_byte_tokens, find_kind, starts, in_name, in_literal, extent, lexeme_of, word, digits, read_token}
 use Rattle.token.specs.Scanning.{blanks, token_from, stop_number, scan, token_words, scanned_words, scan_of}
 use Rattle.token.specs.declared.Token.{Token}
@@ -92,11 +92,6 @@ spelling i = get_or spellings i (spelled "" 0)
 abbrev pub spelled_of : List (Bor (List ℕ) × ℕ) → List Spelled
 spelled_of [] = []
 spelled_of (f ∷ fs) = record { letters = f.0.now; kind = f.1 } ∷ spelled_of fs
-
--- the letters of each spelling are in lower case
-abbrev pub in_lower : List Spelled → Bool
-in_lower [] = true
-in_lower (s ∷ ss) = same (map fold s.letters) s.letters && in_lower ss
 
 -- r is the kind of a spelling in a table, none if it is not there
 pub record Finds (w : List ℕ) (table : List Spelled) (r : Option ℕ) : Type 0 where

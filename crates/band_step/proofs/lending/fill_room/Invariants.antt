@@ -5,6 +5,3 @@ use Rattle.band_step.proofs.lending.fill_room.Given as goal
 abbrev pub invariant-loop-k : goal.invariant-loop-k
 invariant-loop-k l =
     Lent l.rows l.first l.before l.width l.grid l.initial.room l.k l.from l.room × (l.k ≤ l.count)
-
-abbrev pub decreases-loop-k : goal.decreases-loop-k
-decreases-loop-k l = l.count - l.k

@@ -67,8 +67,7 @@ pub block-loop-past-preserved-in-On : goal.block-loop-past-preserved-in-On
 block-loop-past-preserved-in-On t c =
     let inv = c.loop-past.invariant in
     let l = token _ _ _ c.kind-kind.ensures.is (omega (arith, c.if-kind-eq-IF_WORD.true)) in
-    let m = link_bounds _ _ _ c.past-past.ensures l in
-    (
+    let m = link_bounds _ _ _ c.past-past.ensures l in (
       block_more _ _ _ _ _ _ _ inv.0 c.kind-kind.ensures.is (begins_at 13 begins_if c.if-kind-eq-IF_WORD.true) refl
           (if_list _ _ _ _ _ _ _ c.kind-kind.ensures.is c.if-kind-eq-IF_WORD.true c.choose.ensures (c.in_ok-m.was ∙ ap Ok c.in-Some.is) c.block.ensures)
           (c.in_ok-block-in-Some.was ∙ ap Ok c.in-On.is) c.past-past.ensures,
@@ -96,8 +95,7 @@ pub block-loop-past-preserved-in-None : goal.block-loop-past-preserved-in-None
 block-loop-past-preserved-in-None t c =
     let inv = c.loop-past.invariant in
     let l = token _ _ _ c.kind-kind.ensures.is (omega (arith, c.if-kind-eq-IF_WORD.true)) in
-    let m = link_bounds _ _ _ c.past-past.ensures l in
-    (
+    let m = link_bounds _ _ _ c.past-past.ensures l in (
       block_more _ _ _ _ _ _ _ inv.0 c.kind-kind.ensures.is (begins_at 13 begins_if c.if-kind-eq-IF_WORD.true) refl
           (if_nothing _ _ _ _ _ _ _ c.kind-kind.ensures.is c.if-kind-eq-IF_WORD.true c.choose.ensures (c.in_ok-m.was ∙ ap Ok c.in-None.is)) refl c.past-past.ensures,
       omega (arith, inv.1),

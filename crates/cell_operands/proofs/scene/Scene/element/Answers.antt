@@ -16,7 +16,7 @@ returns c =
     let s = c.self.inside in
     rw (← c.self.view_is, ← c.word_at-name.ensures, c.new.ensures)
     (elim c.else-k-lt2147483648.branch [
-      else-k-lt2147483648-via-then-k-lt2147483648+else-k-word_at w ↦
+      | else-k-lt2147483648-via-then-k-lt2147483648+else-k-word_at w ↦
           element_past (table_of s.words.now s.site.tokens (length s.sizes.now)) _ _ c.args.i.n _ _ c.encode-k.ensures (search rules) w.if-k-lt2147483648.true w.word_at.ensures w.if-k-word_at.false c.place_at.ensures
       | else-k-lt2147483648-via-else-k-lt2147483648 w ↦
           element_negative (table_of s.words.now s.site.tokens (length s.sizes.now)) _ _ c.args.i.n _ _ c.encode-k.ensures (search rules) w.if-k-lt2147483648.false c.place_at.ensures

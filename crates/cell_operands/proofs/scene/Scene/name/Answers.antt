@@ -5,7 +5,7 @@ pub returns-then-refers-eq4 : goal.returns-then-refers-eq4
 returns-then-refers-eq4 c =
     let pre = rw (← c.self.view_is) at c.requires in
     rw (← c.self.view_is) (name_variable _ _ _ _ _ _ _ _ c.word_at-refers.ensures c.word_at-word.ensures pre
-    c.if-refers-eq4.true c.variable_value-value.ensures)
+    c.if-refers-eq4.true c.front_value-value.ensures)
 
 pub returns-then-refers-eq1 : goal.returns-then-refers-eq1
 returns-then-refers-eq1 c =
@@ -18,7 +18,7 @@ returns-then-refers-eq5 c =
     let pre = rw (← c.self.view_is) at c.requires in
     let word-at-ensures = c.word_at-refers.ensures in
     rw (← c.self.view_is) (name_index _ _ _ _ _ _ _ _ word-at-ensures c.word_at-word.ensures pre c.if-refers-eq5.true
-    c.index_value-value.ensures)
+    c.front_value-value-then-refers-eq5.ensures)
 
 pub returns : goal.returns
 returns c =

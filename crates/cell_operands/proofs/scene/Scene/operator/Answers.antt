@@ -1,6 +1,4 @@
 use mathlib.Core.Path.{refl}
-use Prim.Native.Nat.{◌≤◌}
-use native.Mathlib.Omega.{arith}
 use Rattle.cell_operands.proofs.NotedLaws.{level_at, operator_at}
 use Rattle.cell_operands.proofs.scene.Scene.operator.Goals as goal
 
