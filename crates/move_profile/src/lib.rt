@@ -96,14 +96,10 @@ fn rule_missed(source: &[u8], words: &[u32], names: &[u32], rule: Rule) -> Resul
 fn check_listed(source: &[u8], words: &mut [u32], names: &mut [u32]) -> Result<(), Missed>
     ensures { CheckOneMove (rooms_fit (length words.old) (length names.old)) source.now words.old names.old result words.new names.new }
 {
-    let loaded = load(source, words, names);
-    if !loaded.accepted {
-        return Err(Missed::Refused(Refusal {
-            number: loaded.number,
-            place: loaded.place,
-        }));
+    match load(source, words, names) {
+        Ok(rule) => rule_missed(source, words, names, rule),
+        Err(refusal) => Err(Missed::Refused(refusal)),
     }
-    rule_missed(source, words, names, loaded.rule)
 }
 
 // Whether a source is in the profile. The table and the list of names are left as the check of the source leaves them.
