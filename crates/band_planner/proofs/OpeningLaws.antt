@@ -9,6 +9,7 @@ use lib.ListN.{length, get_or, replicate}
 use lib.Dec.{eqb, leb}
 use lib.IntN.{ℤ}
 use borrow.Author.Tests.{eq-eqb, ne_eqb, eqb-true, le-leb, leb-true, not-true, not-false}
+use Rattle.std.specs.Prelude as std
 use Rattle.std.specs.Prelude.{Result, Ok, Err, None, Some, if◌then◌else◌}
 use Rattle.value.proofs.Theorems.Laws.{never, and_both}
 use Rattle.automaton.specs.Shape.{Bound, product}
@@ -73,17 +74,17 @@ sizes_known p sizes e =
 -- ---- the ways through
 
 -- a refusal is no answer
-refused_only : {e : Refusal} {o : RowsOpened} {A : Type 0} → ◌≡◌ {A = Result RowsOpened Refusal} (Err e) (Ok o) → A
+pub refused_only : {e : Refusal} {o : RowsOpened} {A : Type 0} → ◌≡◌ {A = Result RowsOpened Refusal} (Err e) (Ok o) → A
 refused_only z = never (ap (λ (r : Result RowsOpened Refusal). elim r [ Ok a ↦ true | Err f ↦ false ]) z)
 
 -- the refusal of an index that is too far
-far_as : (f : Option ℕ) → far_told (far_refused f) ≡ far_of f
+far_as : (f : std.Option ℕ) → far_told (far_refused f) ≡ far_of f
 far_as None = refl
 far_as (Some place) = refl
 
-far_some : (f : Option ℕ) {e : Refusal} → far_refused f ≡ Some e → e.number ≡ 0 → ⊥
-far_some None z k = never (ap (λ (o : Option Refusal). elim o [ None ↦ false | Some g ↦ true ]) z)
-far_some (Some place) z k = absurd (omega (arith, ap (λ (o : Option Refusal). (far_told o).number) z, k))
+far_some : (f : std.Option ℕ) {e : Refusal} → far_refused f ≡ Some e → e.number ≡ 0 → ⊥
+far_some None z k = never (ap (λ (o : std.Option Refusal). elim o [ None ↦ false | Some g ↦ true ]) z)
+far_some (Some place) z k = absurd (omega (arith, ap (λ (o : std.Option Refusal). (far_told o).number) z, k))
 
 module _ {source ws ns : List ℕ} {l : Result Rule Refusal} {ws' ns' : List ℕ}
     (checked : Checks (rooms_fit (length ws) (length ns)) source ws ns (refusal_in l).number (refusal_in l).place ws' ns') (loaded : Loads source ws ns (is_loaded l) (rule_in l)) where
@@ -168,7 +169,7 @@ module _ {source ws ns : List ℕ} {l : Result Rule Refusal} {ws' ns' : List ℕ
               first_of zero l = absurd (omega arith)
               first_of (suc dims) l = first_bound s.reach dims
 
-          pub opens : {far : Option Refusal} → far ≡ far_refused s.far → {first : ℕ} → first ≡ get_or sizes 0 0
+          pub opens : {far : std.Option Refusal} → far ≡ far_refused s.far → {first : ℕ} → first ≡ get_or sizes 0 0
               → OpensRows (rooms_fit (length ws) (length ns)) source ws ns sizes (Ok (record { rule = rule; far = far; rows = first; border = b })) ws' ns'
           unfolding written_in
           opens {far} e {first} f =

@@ -96,8 +96,8 @@ module _ (n : ℕ) (border : Bound) (held : ℕ) where
         pub stops : t ≡ false → false ≡ plan_right n border held plan
         stops e = sym (split ∙ ap (λ (u : Bool). u && left_runs n border held (get_or plan (k + 1) 0 + 1) (drop (k + 2) plan)) (sym is ∙ e))
 
-        pub goes_on : t ≡ true → plan_right n border held plan ≡ left_runs n border held (get_or plan (k + 1) 0 + 1) (drop (k + 2) plan)
-        goes_on e = split ∙ ap (λ (u : Bool). u && left_runs n border held (get_or plan (k + 1) 0 + 1) (drop (k + 2) plan)) (sym is ∙ e)
+        pub goes_on : t ≡ true → {next : ℕ} → k + 2 ≡ next → plan_right n border held plan ≡ left_runs n border held (get_or plan (k + 1) 0 + 1) (drop next plan)
+        goes_on e two_on = split ∙ ap (λ (u : Bool). u && left_runs n border held (get_or plan (k + 1) 0 + 1) (drop (k + 2) plan)) (sym is ∙ e) ∙ ap (λ (x : ℕ). left_runs n border held (get_or plan (k + 1) 0 + 1) (drop x plan)) two_on
 
 -- ---- the planner's plan
 

@@ -22,7 +22,7 @@ impl Border {
         requires { band.first ≤ band.last }
         ensures { result ≡ rows_with (border_of self) (band_of band) }
     {
-        u64::from(self.before) + band.rows() + u64::from(self.behind)
+        self.before as u64 + band.rows() + self.behind as u64
     }
 
     // The border rows that have one index more, by its word.

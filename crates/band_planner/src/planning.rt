@@ -58,8 +58,8 @@ fn put_plan(rows: u32, border: Border, held: u32, bands: &mut [u32]) -> Result<u
     requires { length bands.old ≡ 2 * rows }
     ensures { planned_of result bands.new ≡ plan_or_none rows (border_of border) held bands.old }
 {
-    let borders = u64::from(border.before) + u64::from(border.behind);
-    if u64::from(held) <= borders {
+    let borders = border.before as u64 + border.behind as u64;
+    if held as u64 <= borders {
         return Err(Refusal::new(Reason::NoPlan, 0));
     }
     Ok(write_plan(rows, held - border.before - border.behind, bands))
@@ -77,7 +77,7 @@ fn plan_listed(
     ensures { PlansSource (rooms_fit (length words.old) (length names.old)) source.now sizes.now held words.old names.old bands.old result words.new names.new bands.new }
 {
     let opened = open_rows(source, words, names, sizes)?;
-    if bands.len() as u64 != 2 * u64::from(opened.rows) {
+    if bands.len() as u64 != 2 * (opened.rows as u64) {
         return Err(Refusal::new(Reason::GridLength, 0));
     }
     if let Some(refusal) = opened.far {

@@ -20,7 +20,7 @@ impl Band {
         requires { self.first ≤ self.last }
         ensures { result ≡ rows_in (band_of self) }
     {
-        u64::from(self.last - self.first) + 1
+        (self.last - self.first) as u64 + 1
     }
 }
 
@@ -28,13 +28,13 @@ impl Band {
 fn band_fits(band: Band, from: u64, border: Border, held: u32) -> bool
     ensures { result ≡ band_runs (band_of band) from (border_of border) held }
 {
-    if u64::from(band.first) != from {
+    if band.first as u64 != from {
         return false;
     }
     if band.last < band.first {
         return false;
     }
-    border.rows_with(band) <= u64::from(held)
+    border.rows_with(band) <= held as u64
 }
 
 // Whether a plan for so many rows, two entries a band, is accepted, with these border rows, where so many rows can be held.
@@ -50,12 +50,12 @@ pub fn plan_accepted(plan: &[u32], rows: u32, border: Border, held: u32) -> bool
         if !band_fits(band, from, border, held) {
             return false;
         }
-        from = u64::from(band.last) + 1;
+        from = band.last as u64 + 1;
     }
     if plan.len() % 2 != 0 {
         return false;
     }
-    from == u64::from(rows)
+    from == rows as u64
 }
 
 // Puts band k into a room.

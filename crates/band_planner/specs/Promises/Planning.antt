@@ -1,5 +1,5 @@
 -- What the plan check and the planner return, and what they leave.
-use Rattle.std.specs.Prelude.{◌≡◌, Bool, not, List, ℕ, Result, Ok, Err, Unit, if◌then◌else◌}
+use Rattle.std.specs.Prelude.{◌≡◌, Bool, not, List, ℕ, Result, Ok, Err, if◌then◌else◌}
 use Rattle.automaton.specs.Shape.{Bound}
 use Rattle.automaton.specs.Bands.{plannable, plan_of}
 use Rattle.grammar.specs.Checking.{words_after}

@@ -8,7 +8,7 @@ loop-k-init c = λ dims l. no_places c.args.places.now dims
 pub loop-k-preserved : goal.loop-k-preserved
 loop-k-preserved c =
     let l = c.loop-k in
-    place_more c.args.places.now l.k l.invariant c.widened.ensures
+    place_more c.args.places.now l.k l.invariant c.widened-r.ensures
 
 pub returns : goal.returns
 returns c = all_places c.loop-k.invariant (omega (arith, c.loop-k.auto.k-end, c.loop-k-test.false))

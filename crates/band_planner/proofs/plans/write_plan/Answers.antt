@@ -1,3 +1,4 @@
+use native.Mathlib.Omega.{arith}
 use Rattle.band_planner.proofs.PlanLaws.{writing_start, writing_more, writing_done}
 use Rattle.band_planner.proofs.plans.write_plan.Goals as goal
 
