@@ -5,32 +5,20 @@
 use tool_text::read_full;
 use value::limits::{NAME_WORDS, TABLE_WORDS};
 
-// Writes the line of check_rule for a source that is refused.
-fn tell_refused(rt: &HostRuntime, number: u32, place: u32) {
-    let mut line = [0u8; 33];
-    let end = tool_reply_line::write_line(number, place, &mut line);
-    let written = io::count(end as isize, &line);
-    let _ = rt.write_all(&line[..written]);
-}
-
-// Writes the answer.
+// Writes the answer: the line of check_rule for a source that is refused.
 fn tell(rt: &HostRuntime, rule: u32, number: u32, place: u32) {
-    if rule == 0 {
-        let _ = rt.write_all(b"in the profile\n");
-        return;
+    let text = match rule {
+        0 => "in the profile\n",
+        2 => "misses rule 2: no field moved of range 0..1 that is not const\n",
+        3 => "misses rule 3: not one statement, if cell.moved = 0 then .. cell.moved := 1 end\n",
+        _ => "misses rule 1: ",
+    };
+    let _ = rt.print(text);
+    if !matches!(rule, 0 | 2 | 3) {
+        let mut line = [0u8; 33];
+        let end = tool_reply_line::write_line(number, place, &mut line);
+        let _ = rt.write_all(&line[..end.min(33)]);
     }
-    if rule == 2 {
-        let _ = rt.write_all(b"misses rule 2: no field moved of range 0..1 that is not const\n");
-        return;
-    }
-    if rule == 3 {
-        let _ = rt.write_all(
-            b"misses rule 3: not one statement, if cell.moved = 0 then .. cell.moved := 1 end\n",
-        );
-        return;
-    }
-    let _ = rt.write_all(b"misses rule 1: ");
-    tell_refused(rt, number, place);
 }
 
 // One byte more is read than a source may have, so that a source that is too long is seen to be.
