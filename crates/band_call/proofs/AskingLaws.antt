@@ -86,16 +86,6 @@ small_product w row fields a b c =
     let x : w * row ≤ 12884901888 * 1048576 = mul-le-mul a b in
     (x, mul-le-mul x c)
 
--- the number of the band's rows, as it is worked out
-own_is : (first last : ℕ) → last + 1 - first ≡ suc last - first
-own_is first last = omega arith
-
-pub own_product : (first last row fields : ℕ) → (last + 1 - first) * row * fields ≡ (suc last - first) * row * fields
-own_product first last row fields = ap (λ (x : ℕ). x * row * fields) (own_is first last)
-
-pub lent_product : (before behind first last row fields : ℕ) → (before + (last + 1 - first) + behind) * row * fields ≡ (before + (suc last - first) + behind) * row * fields
-lent_product before behind first last row fields = ap (λ (x : ℕ). (before + x + behind) * row * fields) (own_is first last)
-
 -- ---- the first of them
 
 -- a test that holds

@@ -11,8 +11,8 @@ use lib.IntN.{ℤ, pos, nat_abs}
 use mir.Syntax.{w64}
 use mir.Val.{SFits, to_z, of_z}
 use mir.Facts.{to_z-of_z}
-use borrow.Author.Tests.{eq-eqb, ne_eqb, not-true, not-false}
-use Rattle.std.specs.Prelude.{Result, Ok, Err, if◌then◌else◌}
+use borrow.Author.Tests.{eq-eqb, ne_eqb, eqb-false, not-true, not-false}
+use Rattle.std.specs.Prelude.{None, Some, Result, Ok, Err, if◌then◌else◌}
 use Rattle.automaton.specs.Step.{Fault, no_fault, fault_at}
 use Rattle.automaton.specs.Shape.{product, Bound}
 use Rattle.automaton.specs.Promises.ShapeLaws.{Positive}
@@ -24,19 +24,24 @@ use Rattle.grammar.specs.Checking.{rooms_fit, read_source, words_after}
 use Rattle.grammar.specs.Promises.Flat.{names_after}
 use Rattle.cell_meaning.specs.Promises.Leaves.{Leaves}
 use Rattle.cell_meaning.specs.Written.{written_in}
+use Rattle.program.specs.declared.reply.Reason.{Reason}
+use Rattle.program.specs.Reason.{reason_number}
 use Rattle.program.specs.Refusal.{Refusal, refusal}
+use Rattle.program.proofs.Reasons.{never_none}
 use Rattle.program.specs.declared.Rule.{Rule}
 use Rattle.run_meaning.specs.Admission.{good_times, too_far, out_of_field}
 use Rattle.run_meaning.specs.Report as report
 use Rattle.run_meaning.specs.Promises.Fitting.{held_fields}
 use Rattle.run_calls.specs.Calls.{NameForm, flat_names, SourceLent, source_fits, names_left}
-use Rattle.run_admission.specs.Promises.Admitting.{refusal_told, InFields}
+use Rattle.run_admission.specs.Promises.Admitting.{number_told, refusal_told, InFields}
+use Rattle.run_admission.proofs.Results.{err_same, ok_same}
 use Rattle.run_admission.proofs.RequestLaws.{good_start, good_total}
 use Rattle.band_meaning.specs.Edge.{edge}
 use Rattle.band_meaning.specs.OnSizes.{on_sizes, by_grid}
 use Rattle.band_planner.specs.declared.opening.RowsOpened.{RowsOpened}
-use Rattle.band_meaning.specs.Bounds.{bound}
-use Rattle.band_planner.specs.Promises.Opening.{RowsOpen, OpensRows}
+use Rattle.band_planner.specs.Promises.Borders.{border_of}
+use Rattle.band_planner.specs.Promises.Opening.{far_told, RowsOpen, OpensRows}
+use Rattle.band_planner.proofs.OpeningLaws.{refused_only}
 use Rattle.run_step.specs.declared.Step.{Step}
 use Rattle.run_step.specs.declared.Step.TheVariants as Gives
 use Rattle.run_step.specs.Promises.Stepping.{fault_in, count_in}
@@ -46,7 +51,7 @@ use Rattle.run_steps.specs.declared.Report.{Report}
 use Rattle.run_steps.specs.Told.{told}
 use Rattle.band_call.specs.BandCall.{row_cells, BandAsked, band_asked, band_right, band_rooms, band_refusal, band_stepped, band_ended, band_report, band_source, band_left}
 use Rattle.band_call.specs.Promises.Asking.{RowsDivide, band_number, RefusesBand}
-use Rattle.band_call.specs.Promises.Calling.{LentFits, stepped_by, LentStepped, StepsSource, BandLeaves}
+use Rattle.band_call.specs.Promises.Calling.{LentFits, stepped_by, LentStepped, AdmitsBand, StepsSource, BandLeaves}
 use Rattle.band_call.proofs.AskingLaws.{right_knows, rooms_known}
 
 -- ---- the step of an admitted call
@@ -233,16 +238,34 @@ pub read_steps : {fit : Bool} {source words names sizes : List ℕ} {first last 
 read_steps {fit} {source} {words} {names} {sizes} {first} {last} {held} {rows} {room} {time} {r} {words'} {names'} {room'} h =
     subst (λ (t : ℤ). StepsSource fit source words names (band_asked sizes first last held rows room t) r words' names' room') (to_z-of_z h)
 
--- ---- a source
+pub read_admits : {fit : Bool} {source words names sizes : List ℕ} {first last held : ℕ} {rows room : List ℤ} {time : ℤ} {r : Result RowsOpened Refusal} {words' names' : List ℕ} → SFits w64 time
+    → AdmitsBand fit source words names (band_asked sizes first last held rows room (to_z w64 (of_z w64 time))) r words' names'
+    → AdmitsBand fit source words names (band_asked sizes first last held rows room time) r words' names'
+read_admits {fit} {source} {words} {names} {sizes} {first} {last} {held} {rows} {room} {time} {r} {words'} {names'} h =
+    subst (λ (t : ℤ). AdmitsBand fit source words names (band_asked sizes first last held rows room t) r words' names') (to_z-of_z h)
 
-module _ (q : BandAsked) {fit : Bool} {source ws ns : List ℕ} {o : RowsOpened} {ws' ns' : List ℕ} (x : OpensRows fit source ws ns q.sizes o ws' ns') where
-  pub band_closed : (o.number ≡ 0 → ⊥) → {r : Report} → ((room : List ℤ) → told r room ≡ report.refused o.number o.place 0 room) → StepsSource fit source ws ns q r ws' ns' q.room
+-- ---- whether a source is stepped
+
+module _ (q : BandAsked) {fit : Bool} {source ws ns : List ℕ} {o : Result RowsOpened Refusal} {ws' ns' : List ℕ} (x : OpensRows fit source ws ns q.sizes o ws' ns') where
+  turns_away : {e : Refusal} → band_source fit source q ≡ report.refused e.number e.place 0 q.room → {r : Result RowsOpened Refusal} → r ≡ Err e → AdmitsBand fit source ws ns q r ws' ns'
+  turns_away {e} b {r} i =
+      record {
+        words_are = x.words;
+        names_are = x.names;
+        refused = λ f z. b ∙ ap (λ (g : Refusal). report.refused g.number g.place 0 q.room) (err_same (sym i ∙ z));
+        divides = λ f z. refused_only (sym i ∙ z);
+        small = λ f z. refused_only (sym i ∙ z);
+        fits = λ f z. refused_only (sym i ∙ z);
+        tells = λ f z. refused_only (sym i ∙ z);
+      }
+
+  pub band_closed : {e : Refusal} → o ≡ Err e → {r : Result RowsOpened Refusal} → r ≡ Err e → AdmitsBand fit source ws ns q r ws' ns'
   unfolding band_source
-  band_closed z e = record { report = e q.room ∙ sym (ap (by_grid (λ number place. report.refused number place 0 q.room) (λ p. band_report p q)) (x.closed z)); words_are = x.words; names_are = x.names }
+  band_closed {e} z = turns_away (ap (by_grid (λ number place. report.refused number place 0 q.room) (λ p. band_report p q)) (x.closed e z))
 
-  module _ (z : o.number ≡ 0) where
-    open_is : RowsOpen fit source ws' q.sizes o
-    open_is = x.opened z
+  module _ {opened : RowsOpened} (z : o ≡ Ok opened) where
+    open_is : RowsOpen fit source ws' q.sizes opened
+    open_is = x.opened opened z
 
     program : Program
     program = open_is.read.program
@@ -255,13 +278,17 @@ module _ (q : BandAsked) {fit : Bool} {source ws ns : List ℕ} {o : RowsOpened}
       few_cells = y.few_cells;
     }
 
-    steps_as : {r : Report} {room' : List ℤ} → told r room' ≡ band_report program q → StepsSource fit source ws ns q r ws' ns' room'
+    source_is : band_source fit source q ≡ band_report program q
     unfolding band_source program
-    steps_as e = record { report = e ∙ sym (ap (by_grid (λ number place. report.refused number place 0 q.room) (λ p. band_report p q)) open_is.on); words_are = x.words; names_are = x.names }
+    source_is = ap (by_grid (λ number place. report.refused number place 0 q.room) (λ p. band_report p q)) open_is.on
+
+    -- the call is refused
+    says : (e : Refusal) → band_refusal program q ≡ e → (e.number ≡ 0 → ⊥) → {r : Result RowsOpened Refusal} → r ≡ Err e → AdmitsBand fit source ws ns q r ws' ns'
+    says e b n = turns_away (source_is ∙ report_refused program q e.number e.place b n)
 
     module _ {row : ℕ} (row_is : row ≡ row_cells q.sizes) where
       -- a row has few cells
-      pub row_few : (row ≤ 1048576) × (o.rule.fields ≤ 8)
+      pub row_few : (row ≤ 1048576) × (opened.rule.fields ≤ 8)
       row_few =
           let y = open_is in
           let some : 0 < get_or q.sizes 0 0 = first_positive q.sizes (omega (arith, y.dims, y.some_dims)) y.positive in
@@ -271,45 +298,51 @@ module _ (q : BandAsked) {fit : Bool} {source ws ns : List ℕ} {o : RowsOpened}
           first_positive [] l h = absurd (omega arith)
           first_positive (n ∷ ns) l h = h.0
 
-      module _ {number : ℕ} (refuses : RefusesBand o.rows row o.rule.fields (bound o.before o.behind) q.held q.band (length q.rows) (length q.room) q.time number) where
-        fields_are : length program.fields ≡ o.rule.fields
+      module _ {asked : Result (Unit {0}) Reason} (refuses : RefusesBand opened.rows row opened.rule.fields (border_of opened.border) q.held q.band (length q.rows) (length q.room) q.time (number_told asked)) where
+        fields_are : length program.fields ≡ opened.rule.fields
         unfolding program
         fields_are = held_fields open_is.read.program open_is.holds
 
-        number_is : number ≡ band_number (right_by program q) (rooms_by program q) (times_by q)
+        number_is : number_told asked ≡ band_number (right_by program q) (rooms_by program q) (times_by q)
         unfolding program
         number_is =
             refuses.is
-            ∙ ap₂ (λ (n : ℕ) (e : Bound). band_number (band_right n e q.held q.band) (band_rooms row o.rule.fields (length q.rows) (length q.room) e q.band) (good_times q.time (pos 1))) open_is.rows_are open_is.borders
+            ∙ ap₂ (λ (n : ℕ) (e : Bound). band_number (band_right n e q.held q.band) (band_rooms row opened.rule.fields (length q.rows) (length q.room) e q.band) (good_times q.time (pos 1))) open_is.rows_are open_is.borders
             ∙ ap₂ (λ (r f : ℕ). band_number (band_right (get_or q.sizes 0 0) (edge open_is.read.program) q.held q.band) (band_rooms r f (length q.rows) (length q.room) (edge open_is.read.program) q.band) (good_times q.time (pos 1))) row_is (sym (held_fields open_is.read.program open_is.holds))
 
-        pub band_refused : (number ≡ 0 → ⊥) → {r : Report} → ((room : List ℤ) → told r room ≡ report.refused number 0 0 room) → StepsSource fit source ws ns q r ws' ns' q.room
-        band_refused n e = steps_as (e q.room ∙ sym (report_refused program q number 0 (refusal_is program q ∙ tried_first (right_by program q) (rooms_by program q) (times_by q) _ _ number number_is n) n))
+        pub band_refused : {reason : Reason} → asked ≡ Err reason → {e : Refusal} → e ≡ refusal (reason_number reason) 0 → AdmitsBand fit source ws ns q (Err e) ws' ns'
+        band_refused {reason} i {e} w =
+            let some : number_told asked ≡ 0 → ⊥ = λ k. eqb-false _ _ (never_none reason) (sym (ap number_told i) ∙ k) in
+            let is : refusal (number_told asked) 0 ≡ e = ap (λ (n : ℕ). refusal n 0) (ap number_told i) ∙ sym w in
+            says e (refusal_is program q ∙ tried_first (right_by program q) (rooms_by program q) (times_by q) _ _ (number_told asked) number_is some ∙ is)
+            (λ k. some (ap (λ (g : Refusal). g.number) is ∙ k)) refl
 
-        module _ (n : number ≡ 0) where
+        module _ (n : number_told asked ≡ 0) where
           rest : band_refusal program q ≡ (if not (eqb (too_far q.sizes (written_in program)).number 0) then too_far q.sizes (written_in program) else out_of_field program.fields 0 q.rows)
           rest = refusal_is program q ∙ tried_rest (right_by program q) (rooms_by program q) (times_by q) _ _ (sym n ∙ number_is)
 
           knows : (right_by program q ≡ true) × (rooms_by program q ≡ true) × (times_by q ≡ true)
           knows = all_true (right_by program q) (rooms_by program q) (times_by q) (sym n ∙ number_is)
 
-          pub band_far : (o.far ≡ 0 → ⊥) → {r : Report} → ((room : List ℤ) → told r room ≡ report.refused o.far o.at 0 room) → StepsSource fit source ws ns q r ws' ns' q.room
+          pub band_far : {e : Refusal} → opened.far ≡ Some e → AdmitsBand fit source ws ns q (Err e) ws' ns'
           unfolding program
-          band_far f e =
-              steps_as (e q.room ∙ sym (report_refused program q o.far o.at
-              (rest ∙ ap (λ (r : Refusal). if not (eqb r.number 0) then r else out_of_field program.fields 0 q.rows) (sym open_is.far) ∙ rw (ne_eqb o.far 0 f) refl) f))
+          band_far {e} f =
+              let is : e ≡ too_far q.sizes (written_in program) = ap far_told (sym f) ∙ open_is.far in
+              says e
+              (rest ∙ ap (λ (r : Refusal). if not (eqb r.number 0) then r else out_of_field program.fields 0 q.rows) (sym is) ∙ rw (ne_eqb e.number 0 (open_is.refuses e f)) refl)
+              (open_is.refuses e f) refl
 
-          module _ (f : o.far ≡ 0) where
+          module _ (f : opened.far ≡ None) where
             far_none : (too_far q.sizes (written_in program)).number ≡ 0
             unfolding program
-            far_none = ap (λ (r : Refusal). r.number) (sym open_is.far) ∙ f
+            far_none = ap (λ (r : Refusal). r.number) (sym (ap far_told (sym f) ∙ open_is.far))
 
             rest_out : band_refusal program q ≡ out_of_field program.fields 0 q.rows
             rest_out = rest ∙ rw (eq-eqb (too_far q.sizes (written_in program)).number 0 far_none) refl
 
-            pub band_fits : (time : ℕ) → time ≡ nat_abs q.time → LentFits ws' o.rule q.sizes row (bound o.before o.behind) q.band (length q.rows) (length q.room) time
+            band_fits : LentFits ws' opened.rule q.sizes row (border_of opened.border) q.band (length q.rows) (length q.room) (nat_abs q.time)
             unfolding program
-            band_fits time t =
+            band_fits =
                 let y = open_is in
                 let k = knows in
                 let right = right_knows (get_or q.sizes 0 0) (edge y.read.program) q.held q.band k.0 in
@@ -325,41 +358,70 @@ module _ (q : BandAsked) {fit : Bool} {source ws ns : List ℕ} {o : RowsOpened}
                   order = right.0;
                   inside = right.1;
                   near = (omega (arith, near.0, y.rows_are), omega (arith, near.1, y.rows_are));
-                  rows_are = rooms.0 ∙ ap₂ (λ (r g : ℕ). rows_with (edge y.read.program) q.band * r * g) (sym row_is) fields_are ∙ ap (λ (e : Bound). rows_with e q.band * row * o.rule.fields) (sym y.borders);
+                  rows_are = rooms.0 ∙ ap₂ (λ (r g : ℕ). rows_with (edge y.read.program) q.band * r * g) (sym row_is) fields_are ∙ ap (λ (e : Bound). rows_with e q.band * row * opened.rule.fields) (sym y.borders);
                   room_is = rooms.1 ∙ ap₂ (λ (r g : ℕ). rows_in q.band * r * g) (sym row_is) fields_are;
-                  small = omega (arith, t, good_total q.time (pos 1) k.2);
+                  small = omega (arith, good_total q.time (pos 1) k.2);
                 }
 
             -- the rows lent have few entries
             pub rows_few : length q.rows ≤ 33554432
             rows_few =
-                let a = band_fits (nat_abs q.time) refl in
-                omega (arith, a.rows_are, mul-le-mul {n₁ = rows_with (bound o.before o.behind) q.band * row} {m₁ = o.rule.fields} {n₂ = 3145728} {m₂ = 8} (cells_few a) open_is.rule_fits.fields)
+                let a = band_fits in
+                omega (arith, a.rows_are, mul-le-mul {n₁ = rows_with (border_of opened.border) q.band * row} {m₁ = opened.rule.fields} {n₂ = 3145728} {m₂ = 8} (cells_few a) open_is.rule_fits.fields)
 
-            pub band_time : (q.time ≡ pos (nat_abs q.time)) × (nat_abs q.time ≤ 2147483647)
-            band_time = let k = knows in (good_start q.time (pos 1) k.2, omega (arith, good_total q.time (pos 1) k.2))
-
-            module _ {g : Result (Unit {0}) Refusal} (fields : InFields ws' o.rule q.rows g) where
+            module _ {g : Result (Unit {0}) Refusal} (fields : InFields ws' opened.rule q.rows g) where
               out_is : refusal_told g ≡ band_refusal program q
               unfolding program
               out_is = fields.says ∙ ap (λ (rs : List Range). out_of_field rs 0 q.rows) (sym open_is.holds.fields) ∙ sym rest_out
 
-              pub band_out : {f : Refusal} → g ≡ Err f → {r : Report} → ((room : List ℤ) → told r room ≡ report.refused f.number f.place 0 room) → StepsSource fit source ws ns q r ws' ns' q.room
-              band_out {f} i e = steps_as (e q.room ∙ sym (report_refused program q f.number f.place (sym (sym (ap refusal_told i) ∙ out_is)) (λ k. absurd (omega (arith, k, fields.refused f i)))))
+              pub band_out : {e : Refusal} → g ≡ Err e → {r : Result RowsOpened Refusal} → r ≡ Err e → AdmitsBand fit source ws ns q r ws' ns'
+              band_out {e} i = says e (sym out_is ∙ ap refusal_told i) (λ k. absurd (omega (arith, k, fields.refused e i)))
 
-              pub band_done : {u : Unit {0}} → g ≡ Ok u → (time : ℕ) → time ≡ nat_abs q.time → {r : Report} {room' : List ℤ}
-                  → LentStepped ws' o.rule q.sizes (bound o.before o.behind) q.band q.rows q.room time r room' → StepsSource fit source ws ns q r ws' ns' room'
+              pub band_done : {u : Unit {0}} → g ≡ Ok u → AdmitsBand fit source ws ns q (Ok opened) ws' ns'
               unfolding program band_stepped
-              band_done n time t {r} {room'} s =
-                  let y = open_is in
-                  steps_as
-                  (s.says y.read.program y.holds
-                  ∙ ap₂ (λ (e : Bound) (m : ℕ). told_by e m o.rule.fields) y.borders t ∙ ap (told_by (edge y.read.program) (nat_abs q.time)) (sym fields_are)
-                  ∙ sym (report_done y.read.program q (ap (λ (w : Refusal). w.number) (sym out_is ∙ ap refusal_told n))))
+              band_done i =
+                  record {
+                    words_are = x.words;
+                    names_are = x.names;
+                    refused = λ e y. refused_only (sym y);
+                    divides = λ e y. divisible;
+                    small = λ e y. good_start q.time (pos 1) knows.2;
+                    fits = λ e y. subst (λ (a : RowsOpened). LentFits ws' a.rule q.sizes (row_cells q.sizes) (border_of a.border) q.band (length q.rows) (length q.room) (nat_abs q.time)) (ok_same y)
+                        (subst (λ (r : ℕ). LentFits ws' opened.rule q.sizes r (border_of opened.border) q.band (length q.rows) (length q.room) (nat_abs q.time)) row_is band_fits);
+                    tells = λ e y s room' st. is (subst (λ (a : RowsOpened). LentStepped ws' a.rule q.sizes (border_of a.border) q.band q.rows q.room (nat_abs q.time) s room') (sym (ok_same y)) st);
+                  }
                 where
-                  told_by : Bound → ℕ → ℕ → report.Report
-                  told_by e m fs =
-                      band_ended (q.band.first * row_cells q.sizes) (length q.room) (stepped_by open_is.read.program fs q.sizes e q.band q.rows m).fault (stepped_by open_is.read.program fs q.sizes e q.band q.rows m)
+                  told_by : Bound → ℕ → report.Report
+                  told_by e fs =
+                      band_ended (q.band.first * row_cells q.sizes) (length q.room) (stepped_by open_is.read.program fs q.sizes e q.band q.rows (nat_abs q.time)).fault (stepped_by open_is.read.program fs q.sizes e q.band q.rows (nat_abs q.time))
+
+                  is : {s : Report} {room' : List ℤ} → LentStepped ws' opened.rule q.sizes (border_of opened.border) q.band q.rows q.room (nat_abs q.time) s room' → told s room' ≡ band_source fit source q
+                  unfolding program band_stepped
+                  is st =
+                      st.says open_is.read.program open_is.holds
+                      ∙ ap (λ (e : Bound). told_by e opened.rule.fields) open_is.borders ∙ ap (told_by (edge open_is.read.program)) (sym fields_are)
+                      ∙ sym (source_is ∙ report_done open_is.read.program q (ap (λ (w : Refusal). w.number) (sym out_is ∙ ap refusal_told i)))
+
+-- ---- a source
+
+module _ {fit : Bool} {source ws ns : List ℕ} {q : BandAsked} {r : Result RowsOpened Refusal} {ws' ns' : List ℕ} (x : AdmitsBand fit source ws ns q r ws' ns') where
+  pub not_stepped : {e : Refusal} → r ≡ Err e → {s : Report} → ((room : List ℤ) → told s room ≡ report.refused e.number e.place 0 room) → StepsSource fit source ws ns q s ws' ns' q.room
+  not_stepped {e} z h = record { report = h q.room ∙ sym (x.refused e z); words_are = x.words_are; names_are = x.names_are }
+
+  module _ {o : RowsOpened} (z : r ≡ Ok o) {row : ℕ} (row_is : row ≡ row_cells q.sizes) {time : ℕ} (t : time ≡ nat_abs q.time) where
+    pub lent_fits : LentFits ws' o.rule q.sizes row (border_of o.border) q.band (length q.rows) (length q.room) time
+    lent_fits = rw (row_is, t) (x.fits o z)
+
+    pub stepped : {s : Report} {room' : List ℤ} → LentStepped ws' o.rule q.sizes (border_of o.border) q.band q.rows q.room time s room' → StepsSource fit source ws ns q s ws' ns' room'
+    stepped {s} {room'} st =
+        record {
+          report = x.tells o z s room' (subst (λ (n : ℕ). LentStepped ws' o.rule q.sizes (border_of o.border) q.band q.rows q.room n s room') t st);
+          words_are = x.words_are;
+          names_are = x.names_are;
+        }
+
+  pub time_small : {o : RowsOpened} → r ≡ Ok o → (q.time ≡ pos (nat_abs q.time)) × (nat_abs q.time ≤ 2147483647)
+  time_small {o} z = (x.small o z, omega (arith, (x.fits o z).small))
 
 -- ---- the call
 
@@ -369,15 +431,13 @@ module _ {N : Type 0} {form : NameForm N} {l : SourceLent N} {q : BandAsked} {wo
   unfolding band_left
   left_by e = record { is = λ i. record { answer = e i; words = w i; names = n i } }
 
--- another list than the built-in one: nothing is read, and nothing changes
-pub unlisted_band : {N : Type 0} (form : NameForm N) (l : SourceLent N) (q : BandAsked) → source_fits form l ≡ false → {r : Report} → ((room : List ℤ) → told r room ≡ report.refused 1 0 0 room)
-    → BandLeaves form l q r l.words l.names q.room
-unfolding band_source on_sizes words_after read_source
-unlisted_band form l q e x = left_by (rw e) (rw e) (x q.room ∙ rw e)
-
 module _ (l : SourceLent ℕ) (q : BandAsked) {t : Bool} (is : t ≡ is_built_in l.list) where
-  pub call_unlisted : not t ≡ true → {r : Report} → ((room : List ℤ) → told r room ≡ report.refused 1 0 0 room) → BandLeaves flat_names l q r l.words l.names q.room
-  call_unlisted n x = unlisted_band flat_names l q (ap (λ (u : Bool). u && rooms_fit (length l.words) (length l.names)) (sym is ∙ not-true t n)) x
+  -- another list than the built-in one: nothing is read, and nothing changes
+  pub call_unlisted : not t ≡ true → {f : Refusal} → f ≡ refusal 1 0 → {r : Report} → ((room : List ℤ) → told r room ≡ report.refused f.number f.place 0 room) → BandLeaves flat_names l q r l.words l.names q.room
+  unfolding band_source on_sizes words_after read_source
+  call_unlisted n w h =
+      let e : source_fits flat_names l ≡ false = ap (λ (u : Bool). u && rooms_fit (length l.words) (length l.names)) (sym is ∙ not-true t n) in
+      left_by (rw e) (rw e) (h q.room ∙ ap (λ (f : Refusal). report.refused f.number f.place 0 q.room) w ∙ rw e)
 
   pub call_listed : not t ≡ false → {r : Report} {words names : List ℕ} {room : List ℤ}
       → StepsSource (rooms_fit (length l.words) (length l.names)) l.source l.words l.names q r words names room → BandLeaves flat_names l q r words names room

@@ -1,11 +1,15 @@
 // Whether a band's call is admitted: replies 60, 21 and 22.
 ghost use Rattle.std.specs.Prelude.{◌≡◌, ◌≤◌, length};
 ghost use Rattle.value.specs.Limits.{most_cells, most_fields};
+ghost use Rattle.run_admission.specs.Promises.Admitting.{number_told};
+ghost use Rattle.band_planner.specs.Promises.Borders.{border_of};
+ghost use Rattle.band_planner.specs.Promises.Plans.{band_of};
 ghost use Rattle.band_call.specs.BandCall.{row_cells, band_right, band_rooms};
-ghost use Rattle.band_meaning.specs.Plans.{band};
-ghost use Rattle.band_meaning.specs.Bounds.{bound};
 ghost use Rattle.band_call.specs.Promises.Asking.{RowsDivide, RefusesBand};
 
+use band_planner::borders::Border;
+use band_planner::plans::Band;
+use program::reply::Reason;
 use run_admission::{cells, good_times};
 
 // How many cells a row has.
@@ -17,67 +21,60 @@ pub fn row_cells(sizes: &[u32]) -> usize
 }
 
 // Whether a band could be part of an accepted plan for so many rows.
-fn band_right(rows: u32, before: u32, behind: u32, held: u32, first: u32, last: u32) -> bool
-    ensures { result ≡ band_right rows (bound before behind) held (band first last) }
+fn band_right(rows: u32, border: Border, held: u32, band: Band) -> bool
+    ensures { result ≡ band_right rows (border_of border) held (band_of band) }
 {
-    if last < first {
+    if band.last < band.first {
         return false;
     }
-    if rows <= last {
+    if rows <= band.last {
         return false;
     }
-    let own = last as u64 + 1 - first as u64;
-    before as u64 + own + behind as u64 <= held as u64
+    border.rows_with(band) <= held as u64
 }
 
 // Whether so many entries are the band's rows with borders, and its own rows.
 fn rooms_right(
     row: usize,
     fields: u32,
-    before: u32,
-    behind: u32,
-    first: u32,
-    last: u32,
+    border: Border,
+    band: Band,
     rows: usize,
     room: usize,
 ) -> bool
-    requires { (row ≤ most_cells) × (fields ≤ most_fields) × (first ≤ last) }
-    ensures { result ≡ band_rooms row fields rows room (bound before behind) (band first last) }
+    requires { (row ≤ most_cells) × (fields ≤ most_fields) × (band.first ≤ band.last) }
+    ensures { result ≡ band_rooms row fields rows room (border_of border) (band_of band) }
 {
-    let own = last as u64 + 1 - first as u64;
-    let with = before as u64 + own + behind as u64;
-    if rows as u64 != with * row as u64 * fields as u64 {
+    if rows as u64 != border.rows_with(band) * row as u64 * fields as u64 {
         return false;
     }
-    room as u64 == own * row as u64 * fields as u64
+    room as u64 == band.rows() * row as u64 * fields as u64
 }
 
-// The first of 60, 21 and 22 that holds, for a grid of so many rows with `row` cells each; else 0. `lent` and `room` are the lengths of the rows passed and
-// of the room.
+// The first of 60, 21 and 22 that holds, for a grid of so many rows with `row` cells each. `lent` and `room` are the lengths of the rows passed and of the
+// room.
 pub fn refused_band(
     rows: u32,
     row: usize,
     fields: u32,
-    before: u32,
-    behind: u32,
+    border: Border,
     held: u32,
-    first: u32,
-    last: u32,
+    band: Band,
     lent: usize,
     room: usize,
     time: i64,
-) -> u32
+) -> Result<(), Reason>
     requires { (row ≤ most_cells) × (fields ≤ most_fields) }
-    ensures { RefusesBand rows row fields (bound before behind) held (band first last) lent room time result }
+    ensures { RefusesBand rows row fields (border_of border) held (band_of band) lent room time (number_told result) }
 {
-    if !band_right(rows, before, behind, held, first, last) {
-        return 60;
+    if !band_right(rows, border, held, band) {
+        return Err(Reason::WrongPlan);
     }
-    if !rooms_right(row, fields, before, behind, first, last, lent, room) {
-        return 21;
+    if !rooms_right(row, fields, border, band, lent, room) {
+        return Err(Reason::GridLength);
     }
     if !good_times(time, 1) {
-        return 22;
+        return Err(Reason::Times);
     }
-    0
+    Ok(())
 }

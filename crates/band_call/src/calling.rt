@@ -2,20 +2,22 @@
 ghost use Rattle.std.specs.Prelude.{length, ◌≡◌, List, ℤ};
 ghost use Rattle.grammar.specs.Checking.{rooms_fit};
 ghost use Rattle.run_calls.specs.Calls.{flat_names, source_lent};
-ghost use Rattle.band_meaning.specs.Plans.{band};
-ghost use Rattle.band_meaning.specs.Bounds.{bound};
+ghost use Rattle.band_planner.specs.Promises.Borders.{border_of};
+ghost use Rattle.band_planner.specs.Promises.Plans.{band_of};
 ghost use Rattle.run_meaning.specs.Report.{refused};
 ghost use Rattle.run_steps.specs.Told.{told};
 ghost use Rattle.band_call.specs.BandCall.{band_asked};
-ghost use Rattle.band_call.specs.Promises.Calling.{LentFits, LentStepped, StepsSource, BandLeaves};
+ghost use Rattle.band_call.specs.Promises.Calling.{LentFits, LentStepped, AdmitsBand, StepsSource, BandLeaves};
 
 use crate::asking::{refused_band, row_cells};
-use band_planner::opening::open_rows;
+use band_planner::borders::Border;
+use band_planner::opening::{RowsOpened, open_rows};
+use band_planner::plans::Band;
 use band_step::lending::room_shape;
 use cell_leaves::fill_leaves;
 use program::Rule;
+use program::reply::{Reason, Refusal};
 use run_admission::out_of_field;
-use run_marked_cells::rooms::clear_numbers;
 use run_step::Step;
 use run_step::rows::step_rows;
 use run_steps::Report;
@@ -23,17 +25,53 @@ use spelling::is_built_in;
 use value::limits::LEAF_WORDS;
 
 // The report of a refused call.
-fn refused(number: u32, place: u32) -> Report
-    ensures { (room : List ℤ) → told result room ≡ refused number place 0 room }
+fn refused(refusal: Refusal) -> Report
+    ensures { (room : List ℤ) → told result room ≡ refused refusal.number refusal.place 0 room }
 {
     Report {
-        number: number,
-        place: place,
+        number: refusal.number,
+        place: refusal.place,
         line: 0,
         cell: 0,
         steps: 0,
         count: 0,
     }
+}
+
+// Whether the call is admitted: then its source on a grid of these sizes.
+fn admit_band(
+    source: &[u8],
+    words: &mut [u32],
+    names: &mut [u32],
+    sizes: &[u32],
+    band: Band,
+    held: u32,
+    rows: &[i32],
+    room: &[i32],
+    time: i64,
+) -> Result<RowsOpened, Refusal>
+    ensures { AdmitsBand (rooms_fit (length words.old) (length names.old)) source.now words.old names.old (band_asked sizes.now band.first band.last held rows.now room.now time) result words.new names.new }
+{
+    let opened = open_rows(source, words, names, sizes)?;
+    let asked = refused_band(
+        opened.rows,
+        row_cells(sizes),
+        opened.rule.fields,
+        opened.border,
+        held,
+        band,
+        rows.len(),
+        room.len(),
+        time,
+    );
+    if let Err(reason) = asked {
+        return Err(Refusal::new(reason, 0));
+    }
+    if let Some(refusal) = opened.far {
+        return Err(refusal);
+    }
+    out_of_field(words, opened.rule, rows)?;
+    Ok(opened)
 }
 
 // The step of an admitted call, by the rows passed: the room gets the band's next rows, at a fault zeros, and the cell is named by its number in
@@ -43,19 +81,17 @@ fn step_lent(
     rule: Rule,
     sizes: &[u32],
     row: usize,
-    before: u32,
-    behind: u32,
-    first: u32,
-    last: u32,
+    border: Border,
+    band: Band,
     rows: &[i32],
     room: &mut [i32],
     time: u32,
 ) -> Report
-    requires { LentFits words.now rule sizes.now row (bound before behind) (band first last) (length rows.now) (length room.old) time }
-    ensures { LentStepped words.now rule sizes.now (bound before behind) (band first last) rows.now room.old time result room.new }
+    requires { LentFits words.now rule sizes.now row (border_of border) (band_of band) (length rows.now) (length room.old) time }
+    ensures { LentStepped words.now rule sizes.now (border_of border) (band_of band) rows.now room.old time result room.new }
 {
-    let own = last + 1 - first;
-    let shape = room_shape(sizes, before + own + behind);
+    let own = band.last + 1 - band.first;
+    let shape = room_shape(sizes, border.before + own + border.behind);
     let dims = sizes.len();
     let mut leaves = [0u32; LEAF_WORDS];
     fill_leaves(
@@ -72,7 +108,7 @@ fn step_lent(
         rule,
         &shape[..dims],
         row,
-        before as usize,
+        border.before as usize,
         own as usize,
         rows,
         room,
@@ -86,17 +122,17 @@ fn step_lent(
             line: 0,
             cell: 0,
             steps: 1,
-            count: count,
+            count,
         },
         Step::Fault(cell, number, place, count) => {
-            clear_numbers(room);
+            room.fill(0);
             Report {
-                number: number,
-                place: place,
+                number,
+                place,
                 line: 0,
-                cell: first * row as u32 + cell,
+                cell: band.first * row as u32 + cell,
                 steps: 0,
-                count: count,
+                count,
             }
         }
     }
@@ -108,56 +144,28 @@ fn band_listed(
     words: &mut [u32],
     names: &mut [u32],
     sizes: &[u32],
-    first: u32,
-    last: u32,
+    band: Band,
     held: u32,
     rows: &[i32],
     room: &mut [i32],
     time: i64,
 ) -> Report
-    ensures { StepsSource (rooms_fit (length words.old) (length names.old)) source.now words.old names.old (band_asked sizes.now first last held rows.now room.old time) result words.new names.new room.new }
+    ensures { StepsSource (rooms_fit (length words.old) (length names.old)) source.now words.old names.old (band_asked sizes.now band.first band.last held rows.now room.old time) result words.new names.new room.new }
 {
-    let opened = open_rows(source, words, names, sizes);
-    if opened.number != 0 {
-        return refused(opened.number, opened.place);
+    match admit_band(source, words, names, sizes, band, held, rows, room, time) {
+        Ok(opened) => step_lent(
+            words,
+            opened.rule,
+            sizes,
+            row_cells(sizes),
+            opened.border,
+            band,
+            rows,
+            room,
+            time as u32,
+        ),
+        Err(refusal) => refused(refusal),
     }
-    let rule = opened.rule;
-    let row = row_cells(sizes);
-    let number = refused_band(
-        opened.rows,
-        row,
-        rule.fields,
-        opened.before,
-        opened.behind,
-        held,
-        first,
-        last,
-        rows.len(),
-        room.len(),
-        time,
-    );
-    if number != 0 {
-        return refused(number, 0);
-    }
-    if opened.far != 0 {
-        return refused(opened.far, opened.at);
-    }
-    if let Err(refusal) = out_of_field(words, rule, rows) {
-        return refused(refusal.number, refusal.place);
-    }
-    step_lent(
-        words,
-        rule,
-        sizes,
-        row,
-        opened.before,
-        opened.behind,
-        first,
-        last,
-        rows,
-        room,
-        time as u32,
-    )
 }
 
 // Steps one band of rows of a grid of given sizes, from its first row to its last, at a time. `rows` are its old rows with the border rows before and behind,
@@ -180,9 +188,8 @@ pub fn step_band(
     ensures { BandLeaves flat_names (source_lent source.now list.now words.old names.old) (band_asked sizes.now first last held rows.now room.old time) result words.new names.new room.new }
 {
     if !is_built_in(list) {
-        return refused(1, 0);
+        return refused(Refusal::new(Reason::Buffers, 0));
     }
-    band_listed(
-        source, words, names, sizes, first, last, held, rows, room, time,
-    )
+    let band = Band { first, last };
+    band_listed(source, words, names, sizes, band, held, rows, room, time)
 }

@@ -6,10 +6,9 @@ use mathlib.Core.List.{List}
 use lib.ListN.{length}
 use lib.Dec.{eqb}
 use borrow.Author.Tests.{eq-eqb, ne_eqb, not-true, not-false}
-use Rattle.std.specs.Prelude.{if◌then◌else◌}
+use Rattle.std.specs.Prelude.{Option, None, Some, Result, Ok, Err, if◌then◌else◌}
 use Rattle.automaton.specs.Shape.{Bound}
 use Rattle.token.specs.Lexeme.{is_built_in}
-use Rattle.program.specs.Syntax.{Program}
 use Rattle.grammar.specs.Checking.{rooms_fit, read_source, words_after}
 use Rattle.grammar.specs.Promises.Flat.{names_after}
 use Rattle.program.specs.Refusal.{Refusal, refusal}
@@ -17,59 +16,56 @@ use Rattle.run_calls.specs.Calls.{flat_names, SourceLent, source_fits}
 use Rattle.band_meaning.specs.OnSizes.{on_sizes, by_grid}
 use Rattle.band_meaning.specs.BorderCall.{Borders, no_borders, borders, borders_source, borders_left}
 use Rattle.band_planner.specs.declared.opening.RowsOpened.{RowsOpened}
-use Rattle.band_planner.specs.declared.border_call.BorderRows.{BorderRows}
-use Rattle.band_meaning.specs.Bounds.{bound}
-use Rattle.band_planner.specs.Promises.Opening.{RowsOpen, OpensRows}
+use Rattle.band_planner.specs.declared.borders.Border.{Border}
+use Rattle.band_planner.specs.Promises.Borders.{border_of}
+use Rattle.band_planner.specs.Promises.Opening.{far_told, RowsOpen, OpensRows}
 use Rattle.band_planner.specs.Promises.BorderCall.{borders_in, BordersSource, BordersLeaves}
 
 -- ---- a source
 
-module _ {fit : Bool} {source ws ns sizes : List ℕ} {o : RowsOpened} {ws' ns' : List ℕ} (x : OpensRows fit source ws ns sizes o ws' ns') where
+module _ {fit : Bool} {source ws ns sizes : List ℕ} {o : Result RowsOpened Refusal} {ws' ns' : List ℕ} (x : OpensRows fit source ws ns sizes o ws' ns') where
   -- the source or the sizes are refused
-  pub borders_closed : (o.number ≡ 0 → ⊥) → {r : BorderRows} → borders_in r ≡ no_borders o.number o.place → BordersSource fit source sizes ws ns r ws' ns'
+  pub borders_closed : {e : Refusal} → o ≡ Err e → {r : Result Border Refusal} → r ≡ Err e → BordersSource fit source sizes ws ns r ws' ns'
   unfolding borders_source
-  borders_closed z e = record { reply = e ∙ sym (ap (by_grid no_borders (λ p. borders p sizes)) (x.closed z)); words_are = x.words; names_are = x.names }
+  borders_closed {e} z q = record { reply = ap borders_in q ∙ sym (ap (by_grid no_borders (λ p. borders p sizes)) (x.closed e z)); words_are = x.words; names_are = x.names }
 
-  module _ (z : o.number ≡ 0) where
-    open_is : RowsOpen fit source ws' sizes o
-    open_is = x.opened z
-
-    program : Program
-    program = open_is.read.program
+  module _ {rows : RowsOpened} (z : o ≡ Ok rows) where
+    open_is : RowsOpen fit source ws' sizes rows
+    open_is = x.opened rows z
 
     -- the reply, by whether an index is too far
     abbrev replied : Bool → Refusal → Bound → Borders
     replied near far edge = if near then record { number = 0; place = 0; before = edge.back; behind = edge.ahead } else no_borders far.number far.place
 
-    reply_is : {r : BorderRows} {t : Bool} → eqb o.far 0 ≡ t → borders_in r ≡ replied t (refusal o.far o.at) (bound o.before o.behind)
+    reply_is : {r : Result Border Refusal} {t : Bool} → eqb (far_told rows.far).number 0 ≡ t → borders_in r ≡ replied t (far_told rows.far) (border_of rows.border)
         → BordersSource fit source sizes ws ns r ws' ns'
-    unfolding borders_source borders program
+    unfolding borders_source borders
     reply_is e q =
         record {
-          reply = q ∙ ap (λ (t : Bool). replied t (refusal o.far o.at) (bound o.before o.behind)) (sym e)
+          reply = q ∙ ap (λ (t : Bool). replied t (far_told rows.far) (border_of rows.border)) (sym e)
               ∙ (λ i. replied (eqb (open_is.far i).number 0) (open_is.far i) (open_is.borders i)) ∙ sym (ap (by_grid no_borders (λ p. borders p sizes)) open_is.on);
           words_are = x.words;
           names_are = x.names;
         }
 
     -- an index is too far, or none
-    pub borders_far : (o.far ≡ 0 → ⊥) → {r : BorderRows} → borders_in r ≡ no_borders o.far o.at → BordersSource fit source sizes ws ns r ws' ns'
-    borders_far f e = reply_is (ne_eqb o.far 0 f) e
+    pub borders_far : {e : Refusal} → rows.far ≡ Some e → BordersSource fit source sizes ws ns (Err e) ws' ns'
+    borders_far {e} f = reply_is (ap (λ (g : Option Refusal). eqb (far_told g).number 0) f ∙ ne_eqb e.number 0 (open_is.refuses e f)) (ap (λ (g : Option Refusal). borders_in (Err (far_told g))) (sym f))
 
-    pub borders_found : o.far ≡ 0 → BordersSource fit source sizes ws ns (record { number = 0; place = 0; before = o.before; behind = o.behind }) ws' ns'
-    borders_found f = reply_is (eq-eqb o.far 0 f) refl
+    pub borders_found : rows.far ≡ None → BordersSource fit source sizes ws ns (Ok rows.border) ws' ns'
+    borders_found f = reply_is (ap (λ (g : Option Refusal). eqb (far_told g).number 0) f) refl
 
 -- ---- what is lent
 
 module _ (l : SourceLent ℕ) (sizes : List ℕ) {t : Bool} (is : t ≡ is_built_in l.list) where
   -- another list than the built-in one: nothing is read, and nothing changes
-  pub borders_unlisted : not t ≡ true → {r : BorderRows} → borders_in r ≡ no_borders 1 0 → BordersLeaves flat_names l sizes r l.words l.names
+  pub borders_unlisted : not t ≡ true → {e : Refusal} → e ≡ refusal 1 0 → BordersLeaves flat_names l sizes (Err e) l.words l.names
   unfolding borders_left borders_source on_sizes words_after read_source
   borders_unlisted n q =
       let e : source_fits flat_names l ≡ false = ap (λ (u : Bool). u && rooms_fit (length l.words) (length l.names)) (sym is ∙ not-true t n) in
-      record { is = (λ i. record { answer = q i; words = l.words; names = l.names }) ∙ rw e }
+      record { is = (λ i. record { answer = borders_in (Err (q i)); words = l.words; names = l.names }) ∙ rw e }
 
-  pub borders_read : not t ≡ false → {r : BorderRows} {words names : List ℕ}
+  pub borders_read : not t ≡ false → {r : Result Border Refusal} {words names : List ℕ}
       → BordersSource (rooms_fit (length l.words) (length l.names)) l.source sizes l.words l.names r words names → BordersLeaves flat_names l sizes r words names
   unfolding borders_left names_after
   borders_read n {r} {words} {names} x =

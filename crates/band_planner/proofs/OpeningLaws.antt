@@ -9,7 +9,8 @@ use lib.ListN.{length, get_or, replicate}
 use lib.Dec.{eqb, leb}
 use lib.IntN.{ℤ}
 use borrow.Author.Tests.{eq-eqb, ne_eqb, eqb-true, le-leb, leb-true, not-true, not-false}
-use Rattle.std.specs.Prelude.{if◌then◌else◌}
+use Rattle.std.specs.Prelude as std
+use Rattle.std.specs.Prelude.{Result, Ok, Err, None, Some, if◌then◌else◌}
 use Rattle.value.proofs.Theorems.Laws.{never, and_both}
 use Rattle.automaton.specs.Shape.{Bound, product}
 use Rattle.program.specs.Syntax.{Program}
@@ -22,11 +23,12 @@ use Rattle.cell_meaning.specs.Places.{own_place, add_relatives, places}
 use Rattle.run_meaning.specs.Reach.{own_only, widened, box, reach_from, reach}
 use Rattle.run_meaning.specs.Admission.{all_between, good_sizes}
 use Rattle.run_meaning.specs.Promises.Fitting.{bound_at, bounds_of}
-use Rattle.read_source.specs.Promises.Promises.{Loads, Checks, is_accepted}
+use Rattle.read_source.specs.Promises.Promises.{Loads, Checks, is_accepted, refusal_in, is_loaded, rule_in}
 use Rattle.run_indices.specs.declared.Survey.{Survey}
 use Rattle.run_indices.specs.Promises.Surveying.{far_of, Surveyed}
 use Rattle.run_admission.specs.Promises.Admitting.{cells_of}
 use Rattle.run_admission.proofs.AdmissionLaws.{near_of}
+use Rattle.run_admission.proofs.Results.{err_same, ok_same}
 use Rattle.run_admission.proofs.RequestLaws.{some_cells, no_cells, positive}
 use Rattle.read_refusals.proofs.Theorems.Replies.{zero_accepts}
 use Rattle.run_loading.specs.Promises.Loaded.{Accepts}
@@ -36,9 +38,8 @@ use Rattle.band_meaning.specs.OnSizes.{no_grid, on_grid, on_sizes}
 use Rattle.band_meaning.proofs.Theorems.EdgeTheorems.{edge_in_box}
 use Rattle.band_planner.specs.declared.borders.Border.{Border}
 use Rattle.band_planner.specs.declared.opening.RowsOpened.{RowsOpened}
-use Rattle.band_meaning.specs.Bounds.{bound}
-use Rattle.band_planner.specs.Promises.Borders.{BordersOf}
-use Rattle.band_planner.specs.Promises.Opening.{RightSizes, OpensRows}
+use Rattle.band_planner.specs.Promises.Borders.{border_of, BordersOf}
+use Rattle.band_planner.specs.Promises.Opening.{far_told, far_refused, RightSizes, RowsOpen, OpensRows}
 use Rattle.band_planner.proofs.BorderLaws.{first_bound}
 
 -- ---- sizes
@@ -72,30 +73,49 @@ sizes_known p sizes e =
 
 -- ---- the ways through
 
-module _ {source ws ns : List ℕ} {known : Bool} {rule : Rule} {n place : ℕ} {ws' ns' : List ℕ}
-    (checked : Checks (rooms_fit (length ws) (length ns)) source ws ns n place ws' ns') (loaded : Loads source ws ns known rule) where
+-- a refusal is no answer
+pub refused_only : {e : Refusal} {o : RowsOpened} {A : Type 0} → ◌≡◌ {A = Result RowsOpened Refusal} (Err e) (Ok o) → A
+refused_only z = never (ap (λ (r : Result RowsOpened Refusal). elim r [ Ok a ↦ true | Err f ↦ false ]) z)
+
+-- the refusal of an index that is too far
+far_as : (f : std.Option ℕ) → far_told (far_refused f) ≡ far_of f
+far_as None = refl
+far_as (Some place) = refl
+
+far_some : (f : std.Option ℕ) {e : Refusal} → far_refused f ≡ Some e → e.number ≡ 0 → ⊥
+far_some None z k = never (ap (λ (o : std.Option Refusal). elim o [ None ↦ false | Some g ↦ true ]) z)
+far_some (Some place) z k = absurd (omega (arith, ap (λ (o : std.Option Refusal). (far_told o).number) z, k))
+
+module _ {source ws ns : List ℕ} {l : Result Rule Refusal} {ws' ns' : List ℕ}
+    (checked : Checks (rooms_fit (length ws) (length ns)) source ws ns (refusal_in l).number (refusal_in l).place ws' ns') (loaded : Loads source ws ns (is_loaded l) (rule_in l)) where
   -- the source is refused
-  pub unread : not known ≡ true → {sizes : List ℕ} {r : RowsOpened} → (r.number ≡ n) × (r.place ≡ place) → OpensRows (rooms_fit (length ws) (length ns)) source ws ns sizes r ws' ns'
+  pub unread : {e : Refusal} → l ≡ Err e → {sizes : List ℕ} {r : Result RowsOpened Refusal} → r ≡ Err e → OpensRows (rooms_fit (length ws) (length ns)) source ws ns sizes r ws' ns'
   unfolding on_sizes check
-  unread unknown {sizes} {r} e =
-      record {
+  unread {e} y {sizes} {r} q =
+      subst (λ (x : Result RowsOpened Refusal). OpensRows (rooms_fit (length ws) (length ns)) source ws ns sizes x ws' ns') (sym q) (record {
         words = checked.words;
         names = checked.names;
-        closed = λ _. by (read_source (rooms_fit (length ws) (length ns)) source) checked.reply not_accepted ∙ ap₂ no_grid (sym e.0) (sym e.1);
-        opened = λ z. let x = zero_accepts (rooms_fit (length ws) (length ns)) source (ap (λ (c : Refusal). c.number) (sym checked.reply) ∙ sym e.0 ∙ z) in never (sym not_accepted ∙ ap is_accepted x.1);
-      }
+        refuses = λ f z k.
+            let x = zero_accepts (rooms_fit (length ws) (length ns)) source (ap (λ (g : Refusal). g.number) (sym reply_is ∙ err_same z) ∙ k) in
+            never (sym not_accepted ∙ ap is_accepted x.1);
+        closed = λ f z. by (read_source (rooms_fit (length ws) (length ns)) source) reply_is not_accepted ∙ ap (λ (g : Refusal). no_grid g.number g.place) (err_same z);
+        opened = λ o z. refused_only z;
+      })
     where
-      not_accepted : is_accepted (read_source (rooms_fit (length ws) (length ns)) source) ≡ false
-      not_accepted = sym loaded.is ∙ not-true known unknown
+      reply_is : e ≡ check (rooms_fit (length ws) (length ns)) source
+      reply_is = sym (ap refusal_in y) ∙ checked.reply
 
-      by : (q : SourceRead) → refusal n place ≡ checking.reply_of q → is_accepted q ≡ false → on_sizes sizes q ≡ no_grid n place
+      not_accepted : is_accepted (read_source (rooms_fit (length ws) (length ns)) source) ≡ false
+      not_accepted = sym loaded.is ∙ ap is_loaded y
+
+      by : (s : SourceRead) → e ≡ checking.reply_of s → is_accepted s ≡ false → on_sizes sizes s ≡ no_grid e.number e.place
       by (turned_away k j) c d = ap (λ (x : Refusal). no_grid x.number x.place) (sym c)
       by (refused k j) c d = ap (λ (x : Refusal). no_grid x.number x.place) (sym c)
       by (accepted a) c d = never (sym d)
 
-  module _ (sure : not known ≡ false) where
+  module _ {rule : Rule} (sure : l ≡ Ok rule) where
     pub is : Accepts (rooms_fit (length ws) (length ns)) source ws' ns' rule
-    is = accepts checked loaded (not-false known sure)
+    is = subst (λ (r : Rule). Accepts (rooms_fit (length ws) (length ns)) source ws' ns' r) (ap rule_in sure) (accepts checked loaded (ap is_loaded sure))
 
     module _ {sizes : List ℕ} {t : Bool} (tried : RightSizes rule.dims sizes t) where
       sizes_are : t ≡ good_sizes is.read.program sizes
@@ -106,13 +126,14 @@ module _ {source ws ns : List ℕ} {known : Bool} {rule : Rule} {n place : ℕ} 
       on u e = ap (on_sizes sizes) is.is ∙ ap (λ (v : Bool). if v then on_grid is.read.program else no_grid 20 0) (sym sizes_are ∙ e)
 
       -- the sizes are wrong
-      pub wrong_sizes : not t ≡ true → {r : RowsOpened} → (r.number ≡ 20) × (r.place ≡ 0) → OpensRows (rooms_fit (length ws) (length ns)) source ws ns sizes r ws' ns'
-      wrong_sizes w {r} e =
+      pub wrong_sizes : not t ≡ true → {e : Refusal} → e ≡ refusal 20 0 → OpensRows (rooms_fit (length ws) (length ns)) source ws ns sizes (Err e) ws' ns'
+      wrong_sizes w {e} q =
           record {
             words = checked.words;
             names = checked.names;
-            closed = λ _. on false (not-true t w) ∙ ap₂ no_grid (sym e.0) (sym e.1);
-            opened = λ z. absurd (omega (arith, e.0));
+            refuses = λ f z k. absurd (omega (arith, ap (λ (g : Refusal). g.number) (sym (err_same z) ∙ q), k));
+            closed = λ f z. on false (not-true t w) ∙ ap (λ (g : Refusal). no_grid g.number g.place) (sym q ∙ err_same z);
+            opened = λ o z. refused_only z;
           }
 
       module _ (right : not t ≡ false) where
@@ -125,7 +146,7 @@ module _ {source ws ns : List ℕ} {known : Bool} {rule : Rule} {n place : ℕ} 
 
         -- the call goes on
         module _ {s : Survey} (surveyed : Surveyed ws' rule sizes s) {b : Border} (borders : BordersOf s.reach b) where
-          borders_are : bound b.before b.behind ≡ edge is.read.program
+          borders_are : border_of b ≡ edge is.read.program
           unfolding edge reach box written_in places
           borders_are =
               borders.is rule.dims is.some_dims
@@ -148,16 +169,16 @@ module _ {source ws ns : List ℕ} {known : Bool} {rule : Rule} {n place : ℕ} 
               first_of zero l = absurd (omega arith)
               first_of (suc dims) l = first_bound s.reach dims
 
-          pub opens : {far : Refusal} → far ≡ far_of s.far → {first : ℕ} → first ≡ get_or sizes 0 0
-              → OpensRows (rooms_fit (length ws) (length ns)) source ws ns sizes
-              (record { number = 0; place = 0; rule = rule; far = far.number; at = far.place; rows = first; before = b.before; behind = b.behind }) ws' ns'
+          pub opens : {far : std.Option Refusal} → far ≡ far_refused s.far → {first : ℕ} → first ≡ get_or sizes 0 0
+              → OpensRows (rooms_fit (length ws) (length ns)) source ws ns sizes (Ok (record { rule = rule; far = far; rows = first; border = b })) ws' ns'
           unfolding written_in
-          opens {far} e f =
+          opens {far} e {first} f =
               record {
                 words = checked.words;
                 names = checked.names;
-                closed = λ z. absurd (z refl);
-                opened = λ _. record {
+                refuses = λ g z. refused_only (sym z);
+                closed = λ g z. refused_only (sym z);
+                opened = λ o z. subst (RowsOpen (rooms_fit (length ws) (length ns)) source ws' sizes) (ok_same z) (record {
                   read = is.read;
                   is = is.is;
                   on = on true (not-false _ right);
@@ -173,9 +194,10 @@ module _ {source ws ns : List ℕ} {known : Bool} {rule : Rule} {n place : ℕ} 
                   few_cells = known_sizes.few;
                   each_size = known_sizes.each;
                   sized = sym sizes_are ∙ not-false _ right;
-                  far = e ∙ surveyed.far (relatives_in is.read.program) is.lists;
+                  far = ap far_told e ∙ far_as s.far ∙ surveyed.far (relatives_in is.read.program) is.lists;
+                  refuses = λ g q. far_some s.far (sym e ∙ q);
                   rows_are = f;
                   borders = borders_are;
-                  near = λ z. let n = borders_near (ap (λ (r : Refusal). r.number) (sym e) ∙ z) in (omega (arith, f, n.0), omega (arith, f, n.1));
-                };
+                  near = λ q. let n = borders_near (ap (λ (r : Refusal). r.number) (sym (far_as s.far) ∙ ap far_told (sym e ∙ q))) in (omega (arith, f, n.0), omega (arith, f, n.1));
+                });
               }

@@ -18,17 +18,15 @@ use Rattle.band_planner.specs.Promises.Plans.{band_runs, PutsBand, WritesPlan}
 
 -- ---- one band
 
-module _ (first last from : ℕ) (border : Bound) (held : ℕ) where
-  pub not_there : (first ≡ from → ⊥) → false ≡ band_runs first last from border held
-  not_there n = sym (rw (ne_eqb first from n))
+module _ (b : Band) (from : ℕ) (border : Bound) (held : ℕ) where
+  pub not_there : (b.first ≡ from → ⊥) → false ≡ band_runs b from border held
+  not_there n = sym (rw (ne_eqb b.first from n))
 
-  pub reversed : first ≡ from → last < first → false ≡ band_runs first last from border held
-  reversed e l = sym (rw (eq-eqb first from e, lt-leb first last l))
+  pub reversed : b.first ≡ from → b.last < b.first → false ≡ band_runs b from border held
+  reversed e l = sym (rw (eq-eqb b.first from e, lt-leb b.first b.last l))
 
-  pub holds_rows : first ≡ from → first ≤ last → leb (border.back + (last - first + 1) + border.ahead) held ≡ band_runs first last from border held
-  holds_rows e l =
-      let own : last - first + 1 ≡ suc last - first = omega arith in
-      ap (λ (n : ℕ). leb (border.back + n + border.ahead) held) own ∙ sym (rw (eq-eqb first from e, le-leb first last l))
+  pub holds_rows : b.first ≡ from → b.first ≤ b.last → {w : ℕ} → w ≡ rows_with border b → leb w held ≡ band_runs b from border held
+  holds_rows e l w = ap (λ (n : ℕ). leb n held) w ∙ sym (rw (eq-eqb b.first from e, le-leb b.first b.last l))
 
 -- ---- the check
 
@@ -67,12 +65,12 @@ module _ (n : ℕ) (border : Bound) (held : ℕ) where
   one_left from first = refl
 
   two_left : (from first last : ℕ) (entries : List ℕ)
-      → left_runs n border held from (first ∷ last ∷ entries) ≡ (band_runs first last from border held && left_runs n border held (suc last) entries)
+      → left_runs n border held from (first ∷ last ∷ entries) ≡ (band_runs (band first last) from border held && left_runs n border held (suc last) entries)
   unfolding left_runs bands_in runs_on
   two_left from first last entries = by (bands_in entries)
     where
-      by : (o : Option (List Band)) → runs_some n border held from (before_others (band first last) o) ≡ (band_runs first last from border held && runs_some n border held (suc last) o)
-      by none = and_none (band_runs first last from border held)
+      by : (o : Option (List Band)) → runs_some n border held from (before_others (band first last) o) ≡ (band_runs (band first last) from border held && runs_some n border held (suc last) o)
+      by none = and_none (band_runs (band first last) from border held)
       by (some bs) = regroup (eqb first from) (leb first last) (leb (rows_with border (band first last)) held) (runs_on n border held (suc last) bs)
 
   module _ (plan : List ℕ) (k from : ℕ) (inv : plan_right n border held plan ≡ left_runs n border held from (drop k plan)) where
@@ -84,7 +82,7 @@ module _ (n : ℕ) (border : Bound) (held : ℕ) where
     done l = sym (inv ∙ ap (left_runs n border held from) (drop_of_length-le plan {i = k} l) ∙ none_left from)
 
     module _ (two : k + 2 ≤ length plan) where
-      split : plan_right n border held plan ≡ (band_runs (get_or plan k 0) (get_or plan (k + 1) 0) from border held && left_runs n border held (get_or plan (k + 1) 0 + 1) (drop (k + 2) plan))
+      split : plan_right n border held plan ≡ (band_runs (band (get_or plan k 0) (get_or plan (k + 1) 0)) from border held && left_runs n border held (get_or plan (k + 1) 0 + 1) (drop (k + 2) plan))
       split =
           let next : suc (suc k) ≡ k + 2 = omega arith in
           inv
@@ -92,14 +90,14 @@ module _ (n : ℕ) (border : Bound) (held : ℕ) where
           (drop-cons plan k 0 (omega arith)
           ∙ ap (λ (es : List ℕ). get_or plan k 0 ∷ es) (drop-cons plan (suc k) 0 (omega arith) ∙ ap₂ (λ (x y : ℕ). get_or plan x 0 ∷ drop y plan) (sym (add-one k)) next))
           ∙ two_left from (get_or plan k 0) (get_or plan (k + 1) 0) (drop (k + 2) plan)
-          ∙ ap (λ (x : ℕ). band_runs (get_or plan k 0) (get_or plan (k + 1) 0) from border held && left_runs n border held x (drop (k + 2) plan)) (sym (add-one (get_or plan (k + 1) 0)))
+          ∙ ap (λ (x : ℕ). band_runs (band (get_or plan k 0) (get_or plan (k + 1) 0)) from border held && left_runs n border held x (drop (k + 2) plan)) (sym (add-one (get_or plan (k + 1) 0)))
 
-      module _ {t : Bool} (is : t ≡ band_runs (get_or plan k 0) (get_or plan (k + 1) 0) from border held) where
+      module _ {t : Bool} (is : t ≡ band_runs (band (get_or plan k 0) (get_or plan (k + 1) 0)) from border held) where
         pub stops : t ≡ false → false ≡ plan_right n border held plan
         stops e = sym (split ∙ ap (λ (u : Bool). u && left_runs n border held (get_or plan (k + 1) 0 + 1) (drop (k + 2) plan)) (sym is ∙ e))
 
-        pub goes_on : t ≡ true → plan_right n border held plan ≡ left_runs n border held (get_or plan (k + 1) 0 + 1) (drop (k + 2) plan)
-        goes_on e = split ∙ ap (λ (u : Bool). u && left_runs n border held (get_or plan (k + 1) 0 + 1) (drop (k + 2) plan)) (sym is ∙ e)
+        pub goes_on : t ≡ true → {next : ℕ} → k + 2 ≡ next → plan_right n border held plan ≡ left_runs n border held (get_or plan (k + 1) 0 + 1) (drop next plan)
+        goes_on e two_on = split ∙ ap (λ (u : Bool). u && left_runs n border held (get_or plan (k + 1) 0 + 1) (drop (k + 2) plan)) (sym is ∙ e) ∙ ap (λ (x : ℕ). left_runs n border held (get_or plan (k + 1) 0 + 1) (drop x plan)) two_on
 
 -- ---- the planner's plan
 
@@ -139,7 +137,7 @@ module _ (n most : ℕ) where
     writing_length l =
         ap length w.written ∙ length-append (entries_of w.bands) (drop (2 * count) room) ∙ omega (arith, room_length, length-drop (2 * count) room, w.onward, w.inside)
 
-    pub writing_more : 0 < most → 2 * n ≤ length room → from < n → {end : ℕ} → end ≡ min (from + most) n → {room'' : List ℕ} → PutsBand room' count from (end - 1) room'' → Writing room room'' (count + 1) end
+    pub writing_more : 0 < most → 2 * n ≤ length room → from < n → {end : ℕ} → end ≡ min (from + most) n → {room'' : List ℕ} → PutsBand room' count (band from (end - 1)) room'' → Writing room room'' (count + 1) end
     writing_more some_rows l more {end} e {room''} put =
         record {
           bands = w.bands ++ (band from (end - 1) ∷ []);

@@ -1,34 +1,42 @@
 // The border rows of a reach: its lowest and highest index in the first dimension.
-ghost use Rattle.std.specs.Prelude.{◌≤◌};
+ghost use Rattle.std.specs.Prelude.{◌≡◌, ◌≤◌};
 ghost use Rattle.value.specs.Limits.{most_places};
-ghost use Rattle.band_planner.specs.Promises.Borders.{WidensBorder, ListedBorder, BordersOf};
+ghost use Rattle.automaton.specs.Bands.{rows_with};
+ghost use Rattle.band_planner.specs.Promises.Borders.{border_of, WidensBorder, ListedBorder, BordersOf};
+ghost use Rattle.band_planner.specs.Promises.Plans.{band_of};
 
+use crate::plans::Band;
 use run_meaning::Reach;
 use value::limits::{MOST_DIMS, MOST_PLACES, PLACES_LISTED};
 
 // How many border rows a band has before and behind it.
-#[derive(Clone, Copy)]
+#[derive(Clone, Copy, Debug, PartialEq, Eq, Hash)]
 pub struct Border {
     pub before: u32,
     pub behind: u32,
 }
 
-// Border rows that have one index more, by its word.
-fn widened(border: Border, word: u32) -> Border
-    ensures { WidensBorder border word result }
-{
-    let mut r = border;
-    if word < 2147483648 {
-        if r.behind < word {
-            r.behind = word;
+impl Border {
+    // How many rows a band has with its border rows.
+    pub fn rows_with(self, band: Band) -> u64
+        requires { band.first ≤ band.last }
+        ensures { result ≡ rows_with (border_of self) (band_of band) }
+    {
+        self.before as u64 + band.rows() + self.behind as u64
+    }
+
+    // The border rows that have one index more, by its word.
+    fn widened(self, word: u32) -> Border
+        ensures { WidensBorder self word result }
+    {
+        let mut r = self;
+        if word < 2147483648 {
+            r.behind = r.behind.max(word);
+        } else {
+            r.before = r.before.max(4294967295 - word + 1);
         }
-        return r;
+        r
     }
-    let back = 4294967295 - word + 1;
-    if r.before < back {
-        r.before = back;
-    }
-    r
 }
 
 // The border rows of so many places of a list.
@@ -40,10 +48,8 @@ fn listed_border(places: &[[u32; MOST_DIMS]; MOST_PLACES], count: usize) -> Bord
         before: 0,
         behind: 0,
     };
-    let mut k = 0;
-    while k < count {
-        r = widened(r, places[k][0]);
-        k += 1;
+    for k in 0..count {
+        r = r.widened(places[k][0]);
     }
     r
 }
@@ -59,6 +65,5 @@ pub fn border_rows(reach: Reach) -> Border
             behind: bound.ahead,
         };
     }
-    let places = reach.places;
-    listed_border(&places, reach.count as usize)
+    listed_border(&reach.places, reach.count as usize)
 }

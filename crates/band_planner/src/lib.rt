@@ -8,5 +8,5 @@ pub mod opening;
 mod planning;
 pub mod plans;
 
-pub use border_call::{BorderRows, borders_of};
-pub use planning::{Planned, check_plan, plan_bands};
+pub use border_call::borders_of;
+pub use planning::{check_plan, plan_bands};

@@ -109,15 +109,16 @@ fn write_listed(
 ) -> Written
     ensures { WritesSource (rooms_fit (length words.old) (length names.old)) source.now (wanted sizes.now earlier.now later.now time) words.old names.old room.old result words.new names.new room.new }
 {
-    let loaded = load(source, words, names);
-    if !loaded.accepted {
-        return Written {
-            number: loaded.number,
-            place: loaded.place,
-            length: 0,
-        };
-    }
-    let rule = loaded.rule;
+    let rule = match load(source, words, names) {
+        Ok(rule) => rule,
+        Err(refusal) => {
+            return Written {
+                number: refusal.number,
+                place: refusal.place,
+                length: 0,
+            };
+        }
+    };
     let flag = flag_of(source, words, names, rule);
     write_loaded(words, rule, flag, sizes, earlier, later, time, room)
 }

@@ -1,14 +1,13 @@
-use native.Mathlib.Omega.{arith}
-use Rattle.band_meaning.specs.Plans.{band}
-use Rattle.band_meaning.specs.Bounds.{bound}
+use Rattle.band_planner.specs.Promises.Borders.{border_of}
+use Rattle.band_planner.specs.Promises.Plans.{band_of}
 use Rattle.band_call.proofs.AskingLaws.{reversed, past_end, by_held}
 use Rattle.band_call.proofs.asking.band_right.Goals as goal
 
 pub returns : goal.returns
-returns c = by_held c.args.rows (bound c.args.before c.args.behind) c.args.held (band c.args.first c.args.last) c.if-last-first.false c.if-rows-last.false (omega arith)
+returns c = by_held c.args.rows (border_of c.args.border) c.args.held (band_of c.args.band) c.if-band-band.false c.if-rows-band.false c.rows_with.ensures
 
-pub returns-then-last-first : goal.returns-then-last-first
-returns-then-last-first c = reversed c.args.rows (bound c.args.before c.args.behind) c.args.held (band c.args.first c.args.last) c.if-last-first.true
+pub returns-then-band-band : goal.returns-then-band-band
+returns-then-band-band c = reversed c.args.rows (border_of c.args.border) c.args.held (band_of c.args.band) c.if-band-band.true
 
-pub returns-then-rows-last : goal.returns-then-rows-last
-returns-then-rows-last c = past_end c.args.rows (bound c.args.before c.args.behind) c.args.held (band c.args.first c.args.last) c.if-last-first.false c.if-rows-last.true
+pub returns-then-rows-band : goal.returns-then-rows-band
+returns-then-rows-band c = past_end c.args.rows (border_of c.args.border) c.args.held (band_of c.args.band) c.if-band-band.false c.if-rows-band.true

@@ -1,10 +1,16 @@
-use Rattle.band_meaning.specs.Plans.{band}
-use Rattle.band_meaning.specs.Bounds.{bound}
-use Rattle.band_call.proofs.AskingLaws.{own_product, lent_product, rows_wrong, by_room}
+use Prim.Native.Nat.{ℕ, ◌*◌}
+use mathlib.Core.Path.{ap}
+use Rattle.band_planner.specs.Promises.Borders.{border_of}
+use Rattle.band_planner.specs.Promises.Plans.{band_of}
+use Rattle.band_call.proofs.AskingLaws.{rows_wrong, by_room}
 use Rattle.band_call.proofs.asking.rooms_right.Goals as goal
 
-pub returns-then-rows-with : goal.returns-then-rows-with
-returns-then-rows-with c = rows_wrong c.args.row c.args.fields c.args.rows c.args.room (bound c.args.before c.args.behind) (band c.args.first c.args.last) (lent_product c.args.before c.args.behind c.args.first c.args.last c.args.row c.args.fields) c.if-rows-with.true
+pub returns-then-rows-rows_with : goal.returns-then-rows-rows_with
+returns-then-rows-rows_with c =
+    let a = c.args in
+    rows_wrong a.row a.fields a.rows a.room (border_of a.border) (band_of a.band) (ap (λ (n : ℕ). n * a.row * a.fields) c.rows_with.ensures) c.if-rows-rows_with.true
 
 pub returns : goal.returns
-returns c = by_room c.args.row c.args.fields c.args.rows c.args.room (bound c.args.before c.args.behind) (band c.args.first c.args.last) (lent_product c.args.before c.args.behind c.args.first c.args.last c.args.row c.args.fields) c.if-rows-with.false (own_product c.args.first c.args.last c.args.row c.args.fields)
+returns c =
+    let a = c.args in
+    by_room a.row a.fields a.rows a.room (border_of a.border) (band_of a.band) (ap (λ (n : ℕ). n * a.row * a.fields) c.rows_with.ensures) c.if-rows-rows_with.false (ap (λ (n : ℕ). n * a.row * a.fields) c.rows.ensures)

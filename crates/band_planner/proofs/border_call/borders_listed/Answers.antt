@@ -1,14 +1,14 @@
+use Rattle.run_admission.proofs.Results.{passed}
 use Rattle.band_planner.proofs.BorderCallLaws.{borders_closed, borders_far, borders_found}
 use Rattle.band_planner.proofs.border_call.borders_listed.Goals as goal
 
-pub returns-then-opened-ne0 : goal.returns-then-opened-ne0
-returns-then-opened-ne0 c =
-    borders_closed c.open_rows-opened.ensures c.if-opened-ne0.true c.no_borders.ensures
+pub returns-in_err-opened : goal.returns-in_err-opened
+returns-in_err-opened c =
+    let y = c.in_err-opened.was in
+    borders_closed c.open_rows.ensures y (passed c.from_residual.ensures.1 y)
 
-pub returns-then-opened-ne0-2 : goal.returns-then-opened-ne0-2
-returns-then-opened-ne0-2 c =
-    borders_far c.open_rows-opened.ensures c.if-opened-ne0.false c.if-opened-ne0-2.true c.no_borders-then-opened-ne0-2.ensures
+pub returns-in-Some : goal.returns-in-Some
+returns-in-Some c = borders_far c.open_rows.ensures c.in_ok-opened.was c.in-Some.is
 
 pub returns : goal.returns
-returns c =
-    borders_found c.open_rows-opened.ensures c.if-opened-ne0.false c.if-opened-ne0-2.false
+returns c = borders_found c.open_rows.ensures c.in_ok-opened.was c.in_default.is

@@ -1,18 +1,18 @@
+use Rattle.run_admission.proofs.Results.{passed}
 use Rattle.band_planner.proofs.PlanningLaws.{plan_closed, plan_room, plan_far, plan_put}
 use Rattle.band_planner.proofs.planning.plan_listed.Goals as goal
 
-pub returns-then-opened-ne0 : goal.returns-then-opened-ne0
-returns-then-opened-ne0 c =
-    plan_closed c.open_rows-opened.ensures c.if-opened-ne0.true _ _ c.unplanned.ensures
+pub returns-in_err-opened : goal.returns-in_err-opened
+returns-in_err-opened c =
+    let y = c.in_err-opened.was in
+    plan_closed c.open_rows.ensures y _ _ (passed c.from_residual.ensures.1 y)
 
 pub returns-then-bands-opened : goal.returns-then-bands-opened
 returns-then-bands-opened c =
-    plan_room c.open_rows-opened.ensures c.if-opened-ne0.false _ _ c.if-bands-opened.true c.unplanned-then-bands-opened.ensures
+    plan_room c.open_rows.ensures c.in_ok-opened.was _ _ c.if-bands-opened.true c.new.ensures
 
-pub returns-then-opened-ne0-2 : goal.returns-then-opened-ne0-2
-returns-then-opened-ne0-2 c =
-    plan_far c.open_rows-opened.ensures c.if-opened-ne0.false _ _ c.if-bands-opened.false c.if-opened-ne0-2.true c.unplanned-then-opened-ne0-2.ensures
+pub returns-in-Some : goal.returns-in-Some
+returns-in-Some c = plan_far c.open_rows.ensures c.in_ok-opened.was _ _ c.if-bands-opened.false c.in-Some.is
 
 pub returns : goal.returns
-returns c =
-    plan_put c.open_rows-opened.ensures c.if-opened-ne0.false _ _ c.if-bands-opened.false c.if-opened-ne0-2.false c.put_plan.ensures
+returns c = plan_put c.open_rows.ensures c.in_ok-opened.was _ _ c.if-bands-opened.false c.in_default.is c.put_plan.ensures
