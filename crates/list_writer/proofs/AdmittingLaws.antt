@@ -16,17 +16,17 @@ use Rattle.automaton.specs.Shape.{product}
 use Rattle.program.specs.Syntax.{Program}
 use Rattle.cell_meaning.specs.Promises.Stands.{Holds}
 use Rattle.std.specs.Prelude.{Result, Ok, Err}
-use Rattle.program.specs.Refusal.{Refusal, refusal, no_refusal}
+use Rattle.program.specs.Refusal.{Refusal, refusal}
 use Rattle.program.specs.declared.Rule.{Rule}
 use Rattle.run_meaning.specs.Admission.{all_between, good_sizes, admission}
 use Rattle.program.specs.Promises.Fitting.{Sized}
 use Rattle.run_meaning.specs.declared.Reach.{Reach}
 use Rattle.run_admission.specs.Promises.Admitting.{refusal_told, cells_of, request_of, Admits}
 use Rattle.run_admission.proofs.RequestLaws.{cells_in}
+use Rattle.run_admission.proofs.Results.{err_same}
 use Rattle.list_meaning.specs.Writing.{lower, writing_admission}
-use Rattle.list_meaning.proofs.Theorems.RoundTrip.{lower_told}
 use Rattle.list_writer.specs.WriterCalls.{wanted}
-use Rattle.list_writer.specs.Promises.Admitting.{CountsCells, AdmitsGrid, AdmitsBoth}
+use Rattle.list_writer.specs.Promises.Admitting.{CountsCells, Numbered, AdmitsGrid, LowerOf, AdmitsBoth}
 
 -- ---- the number of cells
 
@@ -35,20 +35,42 @@ counts_cells sizes e = record { is = λ few each small. e ∙ cells_in sizes eac
 
 -- ---- the lower refusal
 
-module _ (m i n j : ℕ) where
-  pub lower_second : m ≡ 0 → refusal n j ≡ lower (refusal m i) (refusal n j)
-  lower_second e = rw (eq-eqb m 0 e)
+numbered_ne : {r : Result (Unit {0}) Refusal} {a : Refusal} → Numbered r → r ≡ Err a → eqb a.number 0 ≡ false
+numbered_ne {a = a} n e = ne_eqb a.number 0 (n a e)
 
-  module _ (a : m ≡ 0 → ⊥) where
-    pub lower_first : n ≡ 0 → refusal m i ≡ lower (refusal m i) (refusal n j)
-    lower_first e = rw (ne_eqb m 0 a, eq-eqb n 0 e)
+pub lower_second : {a b : Result (Unit {0}) Refusal} {u : Unit {0}} → a ≡ Ok u → LowerOf a b b
+lower_second {a} {b} e =
+    record {
+      is = λ m n. ap (λ (x : Result (Unit {0}) Refusal). lower (refusal_told x) (refusal_told b)) (sym e);
+      numbered = λ m n. n;
+      passed = λ u q. (e, q);
+    }
 
-    module _ (b : n ≡ 0 → ⊥) where
-      pub lower_less : n < m → refusal n j ≡ lower (refusal m i) (refusal n j)
-      lower_less l = rw (ne_eqb m 0 a, ne_eqb n 0 b, lt-ltb n m l)
+pub lower_alone : {a b : Result (Unit {0}) Refusal} {x : Refusal} {u : Unit {0}} → a ≡ Err x → b ≡ Ok u → LowerOf a b a
+lower_alone {a} {b} {x} e f =
+    record {
+      is = λ m n. rw (e, f, numbered_ne m e);
+      numbered = λ m n. m;
+      passed = λ u q. let no : Ok u ≡ Err x = sym q ∙ e in cc;
+    }
 
-      pub lower_more : m ≤ n → refusal m i ≡ lower (refusal m i) (refusal n j)
-      lower_more l = rw (ne_eqb m 0 a, ne_eqb n 0 b, le-ltb n m l)
+pub lower_more : {a b : Result (Unit {0}) Refusal} {x y : Refusal} → a ≡ Err x → b ≡ Err y → x.number ≤ y.number → LowerOf a b a
+lower_more {a} {b} {x} {y} e f l =
+    record {
+      is = λ m n. rw (e, f, numbered_ne m e, numbered_ne n f, le-ltb y.number x.number l);
+      numbered = λ m n. m;
+      passed = λ u q. let no : Ok u ≡ Err x = sym q ∙ e in cc;
+    }
+
+pub lower_less : {a b : Result (Unit {0}) Refusal} {x y : Refusal} → a ≡ Err x → b ≡ Err y → y.number < x.number → LowerOf a b b
+lower_less {a} {b} {x} {y} e f l =
+    record {
+      is = λ m n. rw (e, f, numbered_ne m e, numbered_ne n f, lt-ltb y.number x.number l);
+      numbered = λ m n. n;
+      passed = λ u q. let no : Ok u ≡ Err y = sym q ∙ f in cc;
+    }
+
+pub ruleset Lower = (lower_second, lower_alone, lower_more, lower_less)
 
 -- ---- one grid
 
@@ -57,23 +79,21 @@ module _ {words : List ℕ} {rule : Rule} {sizes : List ℕ} {grid : List ℤ} {
   read : Admits words rule sizes grid (length grid) count time (pos 0) a
   read = subst (λ (z : ℤ). Admits words rule sizes grid (length grid) count z (pos 0) a) (to_z-of_z f) x
 
-  pub grid_admitted : {reach : Reach} → a ≡ Ok reach → AdmitsGrid words rule sizes grid count time no_refusal
+  pub grid_admitted : {reach : Reach} → a ≡ Ok reach → AdmitsGrid words rule sizes grid count time (Ok tt)
   grid_admitted {reach} e =
       let y = read.admitted reach e in
       record {
         says = λ p h l. sym (ap refusal_told e) ∙ read.says p h l;
-        shaped = λ _. y.shaped;
-        counted = λ _. y.marks_fit;
-        timely = λ _. record { is = y.start_is; small = omega (arith, y.times) };
+        numbered = λ r q. cc;
+        ready = λ u q. record { shaped = y.shaped; counted = y.marks_fit; timely = record { is = y.start_is; small = omega (arith, y.times) } };
       }
 
-  pub grid_refused : {r : Refusal} → a ≡ Err r → AdmitsGrid words rule sizes grid count time r
-  grid_refused {r} e =
+  pub grid_refused : {r : Refusal} {b : Result (Unit {0}) Refusal} → a ≡ Err r → b ≡ Err r → AdmitsGrid words rule sizes grid count time b
+  grid_refused {r} {b} e q =
       record {
-        says = λ p h l. sym (ap refusal_told e) ∙ read.says p h l;
-        shaped = λ z. absurd (read.refused r e z);
-        counted = λ z. absurd (read.refused r e z);
-        timely = λ z. absurd (read.refused r e z);
+        says = λ p h l. ap refusal_told q ∙ sym (ap refusal_told e) ∙ read.says p h l;
+        numbered = λ k i. read.refused k (e ∙ ap Err (err_same (sym q ∙ i)));
+        ready = λ u i. let no : Err r ≡ Ok u = sym q ∙ i in cc;
       }
 
 -- ---- both grids
@@ -98,26 +118,26 @@ module _ {sizes : List ℕ} {count : ℕ} (counts : CountsCells sizes count) {wo
       by true e = ap (λ (m : ℕ). admission p (request_of sizes g (length g) m time (pos 0))) (count_true e)
       by false e = wrong_sizes count e ∙ sym (wrong_sizes (product sizes) e)
 
-both_admitted : {words : List ℕ} {rule : Rule} {n : ℕ} {sizes : List ℕ} {earlier later : List ℤ} {count : ℕ} {time : ℤ} {a b r : Refusal} → Sized n rule → CountsCells sizes count
-    → AdmitsGrid words rule sizes earlier count time a → AdmitsGrid words rule sizes later count time b
-    → refusal r.number r.place ≡ lower (refusal a.number a.place) (refusal b.number b.place) → AdmitsBoth words rule (wanted sizes earlier later time) count r
+both_admitted : {words : List ℕ} {rule : Rule} {n : ℕ} {sizes : List ℕ} {earlier later : List ℤ} {count : ℕ} {time : ℤ} {a b r : Result (Unit {0}) Refusal} → Sized n rule → CountsCells sizes count
+    → AdmitsGrid words rule sizes earlier count time a → AdmitsGrid words rule sizes later count time b → LowerOf a b r → AdmitsBoth words rule (wanted sizes earlier later time) count r
 unfolding writing_admission
-both_admitted {sizes = sizes} {earlier = earlier} {later = later} {time = time} {a = a} {b = b} sized counts x y e =
+both_admitted {sizes = sizes} {earlier = earlier} {later = later} {time = time} sized counts x y low =
     record {
-      says = λ p h l. e ∙ ap₂ lower (x.says p h l ∙ counted counts sized p h earlier time) (y.says p h l ∙ counted counts sized p h later time);
-      ready = λ z.
-          let both = lower_told (refusal a.number a.place) (refusal b.number b.place) (sym (ap (λ (k : Refusal). k.number) e) ∙ z) in
-          let s = x.shaped both.0 in
+      says = λ p h l. low.is x.numbered y.numbered ∙ ap₂ lower (x.says p h l ∙ counted counts sized p h earlier time) (y.says p h l ∙ counted counts sized p h later time);
+      numbered = low.numbered x.numbered y.numbered;
+      ready = λ u q.
+          let both = low.passed u q in
+          let s = x.ready tt both.0 in
+          let t = y.ready tt both.1 in
           record {
-            grids = record { dims = omega (arith, s.dims, sized.dims); positive = s.positive; cells = s.cells; fields_few = sized.fields; earlier_entries = s.entries; later_entries = (y.shaped both.1).entries };
-            counted = x.counted both.0;
-            timely = x.timely both.0;
+            grids = record { dims = omega (arith, s.shaped.dims, sized.dims); positive = s.shaped.positive; cells = s.shaped.cells; fields_few = sized.fields; earlier_entries = s.shaped.entries; later_entries = t.shaped.entries };
+            counted = s.counted;
+            timely = s.timely;
           };
     }
 
 -- the time as the machine reads it
-pub admits_both : {words : List ℕ} {rule : Rule} {n : ℕ} {sizes : List ℕ} {earlier later : List ℤ} {count : ℕ} {time : ℤ} {a b r : Refusal} → SFits w64 time → Sized n rule → CountsCells sizes count
-    → AdmitsGrid words rule sizes earlier count (to_z w64 (of_z w64 time)) a → AdmitsGrid words rule sizes later count (to_z w64 (of_z w64 time)) b
-    → refusal r.number r.place ≡ lower (refusal a.number a.place) (refusal b.number b.place) → AdmitsBoth words rule (wanted sizes earlier later time) count r
-admits_both {words} {rule} {sizes = sizes} {earlier = earlier} {later = later} {count = count} {r = r} f sized counts x y e =
-    subst (λ (t : ℤ). AdmitsBoth words rule (wanted sizes earlier later t) count r) (to_z-of_z f) (both_admitted sized counts x y e)
+pub admits_both : {words : List ℕ} {rule : Rule} {n : ℕ} {sizes : List ℕ} {earlier later : List ℤ} {count : ℕ} {time : ℤ} {a b r : Result (Unit {0}) Refusal} → SFits w64 time → Sized n rule → CountsCells sizes count
+    → AdmitsGrid words rule sizes earlier count (to_z w64 (of_z w64 time)) a → AdmitsGrid words rule sizes later count (to_z w64 (of_z w64 time)) b → LowerOf a b r → AdmitsBoth words rule (wanted sizes earlier later time) count r
+admits_both {words} {rule} {sizes = sizes} {earlier = earlier} {later = later} {count = count} {r = r} f sized counts x y low =
+    subst (λ (t : ℤ). AdmitsBoth words rule (wanted sizes earlier later t) count r) (to_z-of_z f) (both_admitted sized counts x y low)

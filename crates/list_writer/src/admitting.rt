@@ -1,10 +1,8 @@
 // The writer's checks: both grids as for a run of 0 steps, under each number the earlier one first.
 ghost use Rattle.std.specs.Prelude.{◌≡◌, ◌<◌, length};
-ghost use Rattle.program.specs.Refusal.{refusal};
 ghost use Rattle.program.specs.Promises.Fitting.{Sized};
-ghost use Rattle.list_meaning.specs.Writing.{lower};
 ghost use Rattle.list_writer.specs.WriterCalls.{wanted};
-ghost use Rattle.list_writer.specs.Promises.Admitting.{CountsCells, AdmitsGrid, AdmitsBoth};
+ghost use Rattle.list_writer.specs.Promises.Admitting.{CountsCells, AdmitsGrid, LowerOf, AdmitsBoth};
 
 use program::Rule;
 use program::reply::Refusal;
@@ -22,7 +20,6 @@ pub fn cell_count(sizes: &[u32]) -> usize
 }
 
 // A grid is checked. `count` is the number of cells.
-#[tactic(auto, using(crate::proofs::AdmittingLaws::grid_admitted, crate::proofs::AdmittingLaws::grid_refused))]
 fn admit_grid(
     words: &[u32],
     rule: Rule,
@@ -30,33 +27,26 @@ fn admit_grid(
     grid: &[i32],
     count: usize,
     time: i64,
-) -> Refusal
+) -> Result<(), Refusal>
     requires { (Sized (length words.now) rule) × (0 < rule.fields) }
     ensures { AdmitsGrid words.now rule sizes.now grid.now count time result }
 {
-    match admit(words, rule, sizes, grid, grid.len(), count, time, 0) {
-        Ok(_) => Refusal {
-            number: 0,
-            place: 0,
-        },
-        Err(refusal) => refusal,
-    }
+    admit(words, rule, sizes, grid, grid.len(), count, time, 0)?;
+    Ok(())
 }
 
-// The refusal with the lower number, the first where they are the same; number 0 is none.
-fn lower_of(a: Refusal, b: Refusal) -> Refusal
-    ensures { refusal result.number result.place ≡ lower (refusal a.number a.place) (refusal b.number b.place) }
+// The refusal with the lower number, the first where they are the same.
+#[tactic(auto, using(crate::proofs::AdmittingLaws::Lower))]
+fn lower_of(first: Result<(), Refusal>, second: Result<(), Refusal>) -> Result<(), Refusal>
+    ensures { LowerOf first second result }
 {
-    if a.number == 0 {
-        return b;
+    let Err(a) = first else {
+        return second;
+    };
+    match second {
+        Err(b) if b.number < a.number => second,
+        _ => first,
     }
-    if b.number == 0 {
-        return a;
-    }
-    if b.number < a.number {
-        return b;
-    }
-    a
 }
 
 // Both grids are checked.
@@ -68,7 +58,7 @@ pub fn admit_both(
     later: &[i32],
     count: usize,
     time: i64,
-) -> Refusal
+) -> Result<(), Refusal>
     requires { (Sized (length words.now) rule) × (0 < rule.fields) × CountsCells sizes.now count }
     ensures { AdmitsBoth words.now rule (wanted sizes.now earlier.now later.now time) count result }
 {

@@ -20,18 +20,11 @@ use admitting::{admit_both, cell_count};
 use lines::{put_list, text_length};
 use move_profile::flag_of;
 use program::Rule;
+use program::reply::{Reason, Refusal};
 use read_source::load;
 use spelling::is_built_in;
 
-// What the writer returns: the reply's number and place, and the text's length.
-#[derive(Clone, Copy)]
-pub struct Written {
-    pub number: u32,
-    pub place: u32,
-    pub length: u64,
-}
-
-// Puts the text into a room that is long enough; 57 if it is not.
+// Puts the text into a room that is long enough, and returns its length.
 fn write_text(
     sizes: &[u32],
     fields: usize,
@@ -41,24 +34,16 @@ fn write_text(
     count: usize,
     time: u32,
     room: &mut [u8],
-) -> Written
+) -> Result<u64, Refusal>
     requires { Grids sizes.now fields earlier.now later.now × (count ≡ product sizes.now) }
     ensures { wrote_of result room.new ≡ put_text (written_text sizes.now fields (some flag) earlier.now later.now time) room.old }
 {
     let length = text_length(sizes, fields, flag, earlier, later, count, time);
     if room.len() < length {
-        return Written {
-            number: 57,
-            place: 0,
-            length: 0,
-        };
+        return Err(Refusal::new(Reason::ShortRoom, 0));
     }
     put_list(room, sizes, fields, flag, earlier, later, count, time);
-    Written {
-        number: 0,
-        place: 0,
-        length: length as u64,
-    }
+    Ok(length as u64)
 }
 
 // Checks the grids, and writes the text. `flag` is the number of the field that serves as flag, or the number of fields for none.
@@ -71,19 +56,12 @@ fn write_loaded(
     later: &[i32],
     time: i64,
     room: &mut [u8],
-) -> Written
+) -> Result<u64, Refusal>
     requires { (Sized (length words.now) rule) × (0 < rule.fields) }
     ensures { WritesLoaded words.now rule flag (wanted sizes.now earlier.now later.now time) room.old result room.new }
 {
     let count = cell_count(sizes);
-    let refused = admit_both(words, rule, sizes, earlier, later, count, time);
-    if refused.number != 0 {
-        return Written {
-            number: refused.number,
-            place: refused.place,
-            length: 0,
-        };
-    }
+    admit_both(words, rule, sizes, earlier, later, count, time)?;
     write_text(
         sizes,
         rule.fields as usize,
@@ -106,26 +84,17 @@ fn write_listed(
     later: &[i32],
     time: i64,
     room: &mut [u8],
-) -> Written
+) -> Result<u64, Refusal>
     ensures { WritesSource (rooms_fit (length words.old) (length names.old)) source.now (wanted sizes.now earlier.now later.now time) words.old names.old room.old result words.new names.new room.new }
 {
-    let rule = match load(source, words, names) {
-        Ok(rule) => rule,
-        Err(refusal) => {
-            return Written {
-                number: refusal.number,
-                place: refusal.place,
-                length: 0,
-            };
-        }
-    };
+    let rule = load(source, words, names)?;
     let flag = flag_of(source, words, names, rule);
     write_loaded(words, rule, flag, sizes, earlier, later, time, room)
 }
 
 // Writes the list that leads from the grid at the last block, `earlier`, to the grid now, `later`, at a time: the text at the front of the room, which
-// keeps its rest. For a source that moves a pixel once, a flag that is 0 is left missing. After a refusal the room is as it was; 57: it is shorter than
-// the text. Word table and name list are left as after a run.
+// keeps its rest. Returns the text's length. For a source that moves a pixel once, a flag that is 0 is left missing. After a refusal the room is as it was;
+// `Reason::ShortRoom`: it is shorter than the text. Word table and name list are left as after a run.
 pub fn write_list(
     source: &[u8],
     list: &[u8],
@@ -136,15 +105,11 @@ pub fn write_list(
     later: &[i32],
     time: i64,
     room: &mut [u8],
-) -> Written
+) -> Result<u64, Refusal>
     ensures { WriterLeaves flat_names (source_lent source.now list.now words.old names.old) (wanted sizes.now earlier.now later.now time) room.old result words.new names.new room.new }
 {
     if !is_built_in(list) {
-        return Written {
-            number: 1,
-            place: 0,
-            length: 0,
-        };
+        return Err(Refusal::new(Reason::Buffers, 0));
     }
     write_listed(source, words, names, sizes, earlier, later, time, room)
 }
