@@ -84,12 +84,15 @@ module _ (source : List ℕ) (number place : ℕ) where
 
 -- ---- the built-in list
 
-pub same_is : (a b : List ℕ) → pointwise eqb a b ≡ same a b
+same_is : (a b : List ℕ) → pointwise eqb a b ≡ same a b
 unfolding same
 same_is [] [] = refl
 same_is [] (y ∷ b) = refl
 same_is (x ∷ a) [] = refl
 same_is (x ∷ a) (y ∷ b) = ap (λ (t : Bool). eqb x y && t) (same_is a b)
+
+pub compared : (list : List ℕ) {x : List ℕ} {r : Bool} → r ≡ pointwise eqb list x → x ≡ built_in_names → r ≡ same list built_in_names
+compared list e q = e ∙ rw q (same_is list built_in_names)
 
 -- a list that passes the test has sixteen bytes
 same_length : (a b : List ℕ) → same a b ≡ true → length a ≡ length b
