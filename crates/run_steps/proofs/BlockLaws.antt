@@ -120,6 +120,13 @@ module _ {sizes : List ℕ} {fields : ℕ} {text : List ℕ} {now : ℕ} {next :
 
 -- ---- the ways through setting a block
 
+module _ {next : Next} {b : Block} (is : next ≡ Some b) where
+  due_here : {t : ℕ} → b.time ≡ t → is_due next t ≡ true
+  due_here {t} same = ap (λ (x : Next). is_due x t) is ∙ eq-eqb b.time t same
+
+  behind : {sizes : List ℕ} {fields : ℕ} {text : List ℕ} {at : ℕ} {grid grid' : List ℤ} → SetsLines sizes fields text b.behind at grid grid' → SetsLines sizes fields text (lines_of next) at grid grid'
+  behind {sizes} {fields} {text} {at} {grid} {grid'} s = subst (λ (x : Next). SetsLines sizes fields text (lines_of x) at grid grid') (sym is) s
+
 module _ {text sizes : List ℕ} {bounds : Bounds} {backs : List ℕ} {listed : ℕ} {all_open : Bool} {fields : ℕ} {grid scratch : List ℤ} {marks : List ℕ} {t : ℕ} {next : Next} where
   none_set : is_due next t ≡ false → DueSet text sizes bounds backs listed all_open fields grid scratch marks t next next grid scratch marks
   none_set shut = record { stays = λ _. (refl, refl, refl, refl); sets = λ d. never (sym shut ∙ d); stands = λ d. never (sym shut ∙ d); opens = λ d. never (sym shut ∙ d) }
@@ -132,23 +139,17 @@ module _ {text sizes : List ℕ} {bounds : Bounds} {backs : List ℕ} {listed : 
     other_time d = none_set (ap (λ (x : Next). is_due x t) is ∙ ne_eqb b.time t d)
 
     module _ (same : b.time ≡ t) where
-      here : is_due next t ≡ true
-      here = ap (λ (x : Next). is_due x t) is ∙ eq-eqb b.time t same
-
-      behind : {at : ℕ} {grid' : List ℤ} → SetsLines sizes fields text b.behind at grid grid' → SetsLines sizes fields text (lines_of next) at grid grid'
-      behind {at} {grid'} s = subst (λ (x : Next). SetsLines sizes fields text (lines_of x) at grid grid') (sym is) s
-
       pub all_set : all_open ≡ true → {at : ℕ} {grid' : List ℤ} {next' : Next} → SetsLines sizes fields text b.behind at grid grid' → NextTime text at next'
           → DueSet text sizes bounds backs listed all_open fields grid scratch marks t next next' grid' scratch marks
       all_set a {at} s n =
-          record { stays = λ d. never (sym d ∙ here); sets = λ _. (at, behind s, n); stands = λ _ _. (refl, refl); opens = λ _ b. never (sym b ∙ a) }
+          record { stays = λ d. never (sym d ∙ due_here is same); sets = λ _. (at, behind is s, n); stands = λ _ _. (refl, refl); opens = λ _ b. never (sym b ∙ a) }
 
       pub some_set : all_open ≡ false → {at : ℕ} {grid' scratch' : List ℤ} {marks' : List ℕ} {next' : Next} → scratch' ≡ grid → SetsLines sizes fields text b.behind at grid grid'
           → MarksChanged sizes bounds backs listed fields scratch' grid' marks marks' → NextTime text at next' → DueSet text sizes bounds backs listed all_open fields grid scratch marks t next next' grid' scratch' marks'
       some_set a {at} {grid'} {scratch'} {marks'} old s m n =
           record {
-            stays = λ d. never (sym d ∙ here);
-            sets = λ _. (at, behind s, n);
+            stays = λ d. never (sym d ∙ due_here is same);
+            sets = λ _. (at, behind is s, n);
             stands = λ _ b. never (sym a ∙ b);
             opens = λ _ _. (old, subst (λ (x : List ℤ). MarksChanged sizes bounds backs listed fields x grid' marks marks') old m);
           }

@@ -49,6 +49,7 @@ use Rattle.run_marking.specs.Promises.Noting.{Prepared}
 use Rattle.list_meaning.specs.Setting.{set_block}
 use Rattle.run_steps.specs.declared.Report.{Report}
 use Rattle.run_steps.specs.declared.Bands.{Bands}
+use Rattle.list_reader.specs.Promises.Settings.{NextTime}
 use Rattle.run_steps.specs.Promises.Blockwise.{Next, is_due, Settable, DueSet}
 use Rattle.run_steps.specs.Promises.Stepwise.{Copying, from_lent, pending_in, Started, Begins, blocks_in, Runs, Renewed, Standing, Halfway, Begun, Underway, BlockPlaced, without_fault, steps_give, report_in, RanMarked}
 use Rattle.run_steps.specs.Told.{told}

@@ -20,7 +20,7 @@ one_step-requires c = loop_step c.loop-done.invariant.0 c.set_due-next.ensures (
 
 pub returns-in-Fault : goal.returns-in-Fault
 returns-in-Fault c =
-    record { ran_marked = loop_stops c.loop-done.invariant.0 c.set_due-next.ensures (omega (arith, c.set_due-next.auto.grid)) c.if-done-steps.false c.one_step.ensures c.in-Fault.is c.set_marks.ensures; counts = counts_stop (told_by c.loop-done.invariant.0.by) c.one_step.ensures c.in-Fault.is (keep_block c.loop-done.invariant.1 c.set_due-next.ensures c.recounts-anew.ensures c.fill_asked.ensures (omega (arith, c.fill_asked.auto.counts))).tally }
+    record { ran_marked = loop_stops c.loop-done.invariant.0 c.set_due-next.ensures (omega (arith, c.set_due-next.auto.grid)) c.if-done-steps.false c.one_step.ensures c.in-Fault.is (c.fill.ensures.after (λ y e. e)); counts = counts_stop (told_by c.loop-done.invariant.0.by) c.one_step.ensures c.in-Fault.is (keep_block c.loop-done.invariant.1 c.set_due-next.ensures c.recounts-anew.ensures c.fill_asked.ensures (omega (arith, c.fill_asked.auto.counts))).tally }
 
 pub renew_marks-requires : goal.renew_marks-requires
 renew_marks-requires c = loop_mark c.loop-done.invariant.0 c.set_due-next.ensures (omega (arith, c.set_due-next.auto.grid)) c.if-done-steps.false c.one_step.ensures c.in-Done.is
