@@ -17,6 +17,7 @@ pub use admitting::admit;
 use cell_operands::table::word_at;
 use program::Rule;
 use program::reply::{Reason, Refusal};
+use run_meaning::next_coordinate;
 use value::Value;
 use value::limits::{MOST_ALONG, MOST_CELLS};
 
