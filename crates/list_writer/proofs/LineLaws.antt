@@ -4,13 +4,12 @@ use native.Mathlib.Nat.{zero-add, mul-le-mul}
 use native.Mathlib.Numerals.{add-one}
 use native.Mathlib.Omega.{arith}
 use mathlib.Core.Path.{◌≡◌, refl, sym, ap, ap₂, ◌∙◌, subst}
-use mathlib.Core.Bool.{Bool, true, false, not}
+use mathlib.Core.Bool.{Bool, true, false}
 use mathlib.Core.List.{List, [], ◌∷◌, ◌++◌, map, append_assoc, append-nil}
 use mathlib.Core.Option.{Option}
 use lib.ListN.{length, get_or, take, drop, length-append, length-drop}
 use lib.Seq.{length-take-le, ext_get_or, get_or-take, get_or-drop}
 use lib.IntN.{ℤ, pos}
-use borrow.Author.Tests.{not-true, not-false}
 use Rattle.automaton.specs.Listed.{list_of}
 use Rattle.automaton.specs.Promises.ListedLaws.{length_list_of, get_or_list_of}
 use Rattle.automaton.specs.Shape.{product, coordinates}
@@ -90,15 +89,15 @@ module _ {sizes : List ℕ} {fields : ℕ} {earlier later : List ℤ} (w : Grids
       by false = omega arith
 
   module _ (flag : Option ℕ) {t : Bool} (e : t ≡ differ (cell_of fields earlier c) (cell_of fields later c)) where
-    pub same_put : not t ≡ true → (old : List ℕ) (at : ℕ) → Puts old at (changed_line sizes fields flag earlier later c) old at
+    pub same_put : t ≡ false → (old : List ℕ) (at : ℕ) → Puts old at (changed_line sizes fields flag earlier later c) old at
     unfolding changed_line
-    same_put n old at = rw (sym e ∙ not-true t n, changed_line) (puts_nothing old at)
+    same_put n old at = rw (sym e ∙ n, changed_line) (puts_nothing old at)
 
-    pub changed_put : not t ≡ false → {old new : List ℕ} {at r : ℕ} {point : List ℕ} → (c < product sizes → point ≡ coordinates sizes c)
+    pub changed_put : t ≡ true → {old new : List ℕ} {at r : ℕ} {point : List ℕ} → (c < product sizes → point ≡ coordinates sizes c)
         → Puts old at (cell_line point (shown flag (take (c * fields + fields - c * fields) (drop (c * fields) later))) ++ 10 ∷ []) new r → Puts old at (changed_line sizes fields flag earlier later c) new r
     unfolding changed_line
     changed_put n {old} {new} {at} {r} h x =
-        rw (sym e ∙ not-false t n, changed_line)
+        rw (sym e ∙ n, changed_line)
         (subst (λ (y : List ℕ). Puts old at y new r)
         (ap₂ (λ (is : List ℕ) (vs : List ℤ). cell_line is (shown flag vs) ++ 10 ∷ []) (h l) (cell_part fields later c (cell_room c (product sizes) fields (length later) l w.later_entries))) x)
 
@@ -146,9 +145,6 @@ module _ (sizes : List ℕ) (fields : ℕ) (flag : Option ℕ) (earlier later : 
       subst (λ (t : List ℕ). Puts old at t new r)
       (ap (λ (k : ℕ). cells_text sizes fields flag earlier later c 0 ++ changed_line sizes fields flag earlier later k) (sym (zero-add c)) ∙ sym (last_cell c 0) ∙ ap (λ (n : ℕ). cells_text sizes fields flag earlier later n 0) (sym (add-one c)))
       (and_then x y)
-
-  pub cells_end : {old new : List ℕ} {at r cells : ℕ} (c : ℕ) → c ≤ cells → cells ≤ c → Puts old at (cells_text sizes fields flag earlier later c 0) new r → Puts old at (cells_text sizes fields flag earlier later cells 0) new r
-  cells_end {old} {new} {at} {r} {cells} c l m x = subst (λ (n : ℕ). Puts old at (cells_text sizes fields flag earlier later n 0) new r) (let e : c ≡ cells = omega arith in e) x
 
   -- ---- the text
 

@@ -2,15 +2,27 @@
 ghost use Rattle.std.specs.Prelude.{◌≡◌, [], ◌∷◌, ◌++◌, ◌+◌, ◌*◌, ◌<◌, ◌≤◌, length};
 ghost use Rattle.std.proofs.Math.Option.{some};
 ghost use Rattle.value.specs.Limits.{most_dims};
-ghost use Rattle.automaton.specs.Shape.{product};
-ghost use Rattle.list_meaning.specs.Writing.{cell_line, shown, cells_text, written_text};
+ghost use Rattle.list_meaning.specs.Writing.{cell_line, shown};
 ghost use Rattle.list_writer.specs.Promises.Printing.{Puts};
-ghost use Rattle.list_writer.specs.Promises.Lines.{Grids, changed_line};
+ghost use Rattle.list_writer.specs.Promises.Lines.{Leads, cell_change, all_changes, change_text};
 
 use crate::printing::{put_byte, put_digits, put_numbers, put_values};
 use run_marked_cells::points::set_point;
 use run_marking::marks::differs;
 use value::limits::MOST_DIMS;
+
+// What a list is written of: the grids that it leads between, the number of the field that serves as flag, or the number of fields for none, the number
+// of cells, and the time.
+#[derive(Clone, Copy, Debug)]
+pub struct Change<'a> {
+    pub sizes: &'a [u32],
+    pub fields: usize,
+    pub flag: usize,
+    pub earlier: &'a [i32],
+    pub later: &'a [i32],
+    pub cells: usize,
+    pub time: u32,
+}
 
 // Puts what is between the coordinates of a cell and its values.
 fn put_between(room: &mut [u8], at: usize) -> usize
@@ -40,103 +52,54 @@ fn put_changed(
     room: &mut [u8],
     at: usize,
     point: &mut [u32],
-    sizes: &[u32],
-    fields: usize,
-    flag: usize,
-    earlier: &[i32],
-    later: &[i32],
+    change: &Change<'_>,
     c: usize,
 ) -> usize
-    requires { Grids sizes.now fields earlier.now later.now × (length point.old ≡ length sizes.now) × (c < product sizes.now) × (at + 1000 ≤ 4294967296) }
-    ensures { Puts room.old at (changed_line sizes.now fields (some flag) earlier.now later.now c) room.new result }
+    requires { Leads change.now × (length point.old ≡ length change.now.sizes.now) × (c < change.now.cells) × (at + 1000 ≤ 4294967296) }
+    ensures { Puts room.old at (cell_change change.now c) room.new result }
 {
-    if !differs(earlier, later, fields, c) {
+    let fields = change.fields;
+    if !differs(change.earlier, change.later, fields, c) {
         return at;
     }
-    set_point(sizes, c as u32, point);
+    set_point(change.sizes, c as u32, point);
     let from = c * fields;
-    let end = from + fields;
-    put_line(room, at, point, &later[from..end], flag)
+    put_line(
+        room,
+        at,
+        point,
+        &change.later[from..from + fields],
+        change.flag,
+    )
 }
 
 // Puts the lines of all cells that differ.
-fn put_cells(
-    room: &mut [u8],
-    at: usize,
-    point: &mut [u32],
-    sizes: &[u32],
-    fields: usize,
-    flag: usize,
-    earlier: &[i32],
-    later: &[i32],
-    cells: usize,
-) -> usize
-    requires { Grids sizes.now fields earlier.now later.now × (length point.old ≡ length sizes.now) × (cells ≡ product sizes.now) × (at ≤ 1000) }
-    ensures { Puts room.old at (cells_text sizes.now fields (some flag) earlier.now later.now cells 0) room.new result }
+fn put_cells(room: &mut [u8], at: usize, point: &mut [u32], change: &Change<'_>) -> usize
+    requires { Leads change.now × (length point.old ≡ length change.now.sizes.now) × (at ≤ 1000) }
+    ensures { Puts room.old at (all_changes change.now change.now.cells) room.new result }
 {
     let mut here = at;
-    let mut c: usize = 0;
-    while c < cells {
-        here = put_changed(room, here, point, sizes, fields, flag, earlier, later, c);
-        c += 1;
+    for c in 0..change.cells {
+        here = put_changed(room, here, point, change, c);
     }
     here
 }
 
 // Puts the whole text at the front of a room, as far as the room goes, and returns its length.
-pub fn put_list(
-    room: &mut [u8],
-    sizes: &[u32],
-    fields: usize,
-    flag: usize,
-    earlier: &[i32],
-    later: &[i32],
-    cells: usize,
-    time: u32,
-) -> usize
-    requires { Grids sizes.now fields earlier.now later.now × (cells ≡ product sizes.now) }
-    ensures { Puts room.old 0 (written_text sizes.now fields (some flag) earlier.now later.now time) room.new result }
+pub fn put_list(room: &mut [u8], change: &Change<'_>) -> usize
+    requires { Leads change.now }
+    ensures { Puts room.old 0 (change_text change.now) room.new result }
 {
     let mut point = [0u32; MOST_DIMS];
-    let dims = sizes.len();
-    let a = put_digits(room, 0, time);
+    let a = put_digits(room, 0, change.time);
     let b = put_byte(room, a, b'\n');
-    put_cells(
-        room,
-        b,
-        &mut point[..dims],
-        sizes,
-        fields,
-        flag,
-        earlier,
-        later,
-        cells,
-    )
+    put_cells(room, b, &mut point[..change.sizes.len()], change)
 }
 
 // The length of the text: it is put into a room without a byte, which only counts it.
-pub fn text_length(
-    sizes: &[u32],
-    fields: usize,
-    flag: usize,
-    earlier: &[i32],
-    later: &[i32],
-    cells: usize,
-    time: u32,
-) -> usize
-    requires { Grids sizes.now fields earlier.now later.now × (cells ≡ product sizes.now) }
-    ensures { result ≡ length (written_text sizes.now fields (some flag) earlier.now later.now time) }
+pub fn text_length(change: &Change<'_>) -> usize
+    requires { Leads change.now }
+    ensures { result ≡ length (change_text change.now) }
 {
-    let mut one = [0u8; 1];
-    let none: usize = 0;
-    put_list(
-        &mut one[..none],
-        sizes,
-        fields,
-        flag,
-        earlier,
-        later,
-        cells,
-        time,
-    )
+    put_list(&mut [], change)
 }

@@ -15,7 +15,6 @@ pub fn put_byte(room: &mut [u8], at: usize, b: u8) -> usize
 {
     if at < room.len() {
         room[at] = b;
-        return at + 1;
     }
     at + 1
 }
@@ -70,11 +69,9 @@ pub fn put_numbers(room: &mut [u8], at: usize, numbers: &[u32]) -> usize
     ensures { Puts room.old at (listed (map print_number numbers.now)) room.new result }
 {
     let mut here = at;
-    let mut k: usize = 0;
-    while k < numbers.len() {
+    for (k, &n) in numbers.iter().enumerate() {
         here = put_separator(room, here, k);
-        here = put_digits(room, here, numbers[k]);
-        k += 1;
+        here = put_digits(room, here, n);
     }
     here
 }
@@ -99,11 +96,9 @@ pub fn put_values(room: &mut [u8], at: usize, values: &[i32], flag: usize) -> us
     ensures { Puts room.old at (listed (map print_field (shown (some flag) values.now))) room.new result }
 {
     let mut here = at;
-    let mut k: usize = 0;
-    while k < values.len() {
+    for (k, &z) in values.iter().enumerate() {
         here = put_separator(room, here, k);
-        here = put_field(room, here, values[k], k == flag);
-        k += 1;
+        here = put_field(room, here, z, k == flag);
     }
     here
 }

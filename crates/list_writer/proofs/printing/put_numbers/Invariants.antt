@@ -1,13 +1,8 @@
-use Prim.Native.Nat.{◌≤◌, ◌-◌}
-use mathlib.Core.Path.{◌≡◌}
 use mathlib.Core.List.{map}
-use lib.ListN.{length, take}
+use lib.ListN.{take}
 use Rattle.list_meaning.specs.Writing.{print_number, listed}
 use Rattle.list_writer.specs.Promises.Printing.{Puts}
 use Rattle.list_writer.proofs.printing.put_numbers.Given as goal
 
 abbrev pub invariant-loop-k : goal.invariant-loop-k
-invariant-loop-k l = Puts l.initial.room l.at (listed (map print_number (take l.k l.numbers))) l.room l.here × (l.k ≤ length l.numbers) × (length l.room ≡ length l.initial.room)
-
-abbrev pub decreases-loop-k : goal.decreases-loop-k
-decreases-loop-k l = length l.numbers - l.k
+invariant-loop-k l = Puts l.initial.room l.at (listed (map print_number (take l.k l.numbers))) l.room l.here

@@ -1,14 +1,9 @@
-use Prim.Native.Nat.{◌≤◌, ◌-◌}
-use mathlib.Core.Path.{◌≡◌}
 use mathlib.Core.List.{map}
 use mathlib.Core.Option.{some}
-use lib.ListN.{length, take}
+use lib.ListN.{take}
 use Rattle.list_meaning.specs.Writing.{print_field, listed, shown}
 use Rattle.list_writer.specs.Promises.Printing.{Puts}
 use Rattle.list_writer.proofs.printing.put_values.Given as goal
 
 abbrev pub invariant-loop-k : goal.invariant-loop-k
-invariant-loop-k l = Puts l.initial.room l.at (listed (map print_field (take l.k (shown (some l.flag) l.values)))) l.room l.here × (l.k ≤ length l.values) × (length l.room ≡ length l.initial.room)
-
-abbrev pub decreases-loop-k : goal.decreases-loop-k
-decreases-loop-k l = length l.values - l.k
+invariant-loop-k l = Puts l.initial.room l.at (listed (map print_field (take l.k (shown (some l.flag) l.values)))) l.room l.here
