@@ -54,13 +54,13 @@ use Rattle.cellang.specs.Promises.Told.{Tells, TellsSource, TellsRoom, reply_ent
 
 -- ---- a reply and a report
 
-pub tells_reply : {source : List ℕ} {number place : ℕ} {reply reply' : List ℕ} {t : Told} → told_entries t ≡ part_entries (part_at source number place) → reply' ≡ over (number ∷ place ∷ told_entries t) reply
+pub tells_reply : (source : List ℕ) {number place : ℕ} {reply reply' : List ℕ} {t : Told} → told_entries t ≡ part_entries (part_at source number place) → reply' ≡ over (number ∷ place ∷ told_entries t) reply
     → Tells (reply_entries source number place) reply number reply'
-tells_reply {number = number} {place} {reply} p e = record { number = refl; told = e ∙ ap (λ (l : List ℕ). over (number ∷ place ∷ l) reply) p }
+tells_reply source {number} {place} {reply} p e = record { number = refl; told = e ∙ ap (λ (l : List ℕ). over (number ∷ place ∷ l) reply) p }
 
-pub tells_report : {source : List ℕ} {said : Report} {entries entries' : List ℕ} {t : Told} → told_entries t ≡ part_entries (part_at source said.number said.place)
+pub tells_report : (source : List ℕ) (said : Report) {entries entries' : List ℕ} {t : Told} → told_entries t ≡ part_entries (part_at source said.number said.place)
     → entries' ≡ over (said.number ∷ said.place ∷ said.cell ∷ said.steps ∷ said.count ∷ told_entries t ++ said.line ∷ []) entries → Tells (report_entries source (told said [])) entries said.number entries'
-tells_report {said = said} {entries} p e = record { number = refl; told = e ∙ ap (λ (l : List ℕ). over (said.number ∷ said.place ∷ said.cell ∷ said.steps ∷ said.count ∷ l ++ said.line ∷ []) entries) p }
+tells_report source said {entries} p e = record { number = refl; told = e ∙ ap (λ (l : List ℕ). over (said.number ∷ said.place ∷ said.cell ∷ said.steps ∷ said.count ∷ l ++ said.line ∷ []) entries) p }
 
 -- ---- calls that read a source
 
@@ -138,61 +138,56 @@ pub read_time : {source list sizes : List ℕ} {earlier later : List ℤ} {time 
 read_time {source} {list} {sizes} {earlier} {later} {time} {ws} {ns} {room} {ws'} {ns'} {room'} {said} a =
     subst (λ (z : ℤ). WriterLeaves flat_names (source_lent source list ws ns) (wanted sizes earlier later z) room said ws' ns' room') (to_z-of_z {w = w64} a)
 
--- what is told of a result: the reply and the length
-told_written : (source : List ℕ) (r : Result ℕ Refusal) (room : List ℕ) {reply reply' : List ℕ} {e : Refusal} {n : ℕ} {t : Told} → e ≡ refusal_told r → n ≡ result_unwrap_or r 0 → told_entries t ≡ part_entries (part_at source e.number e.place)
-    → reply' ≡ over (e.number ∷ e.place ∷ n ∷ told_entries t) reply → Tells (written_entries source (wrote_of r room)) reply e.number reply'
-told_written source (Ok length) room {reply} {e = e} {n} f k p h =
-    record { number = ap (λ (x : Refusal). x.number) f; told = h ∙ ap (λ (l : List ℕ). over (e.number ∷ e.place ∷ n ∷ l) reply) p ∙ (λ i. over (written_entries source (record { number = (f i).number; place = (f i).place; length = k i; room = room })) reply) }
-told_written source (Err x) room {reply} {e = e} {n} f k p h =
-    record { number = ap (λ (x : Refusal). x.number) f; told = h ∙ ap (λ (l : List ℕ). over (e.number ∷ e.place ∷ n ∷ l) reply) p ∙ (λ i. over (written_entries source (record { number = (f i).number; place = (f i).place; length = k i; room = room })) reply) }
+-- what is written is told by its reply and its length
+written_by : (r : Result ℕ Refusal) (room : List ℕ) → record { number = (refusal_told r).number; place = (refusal_told r).place; length = result_unwrap_or r 0; room = room } ≡ wrote_of r room
+written_by (Ok n) room = refl
+written_by (Err e) room = refl
 
 pub tells_written : {source list : List ℕ} {sizes : List ℕ} {earlier later : List ℤ} {time : ℤ} {ws ns room entries ws' ns' room' entries' : List ℕ} {said : Result ℕ Refusal} {e : Refusal} {n : ℕ} {t : Told} → SFits w64 time
     → WriterLeaves flat_names (source_lent source list ws ns) (wanted sizes earlier later (to_z w64 (of_z w64 time))) room said ws' ns' room' → e ≡ refusal_told said → n ≡ result_unwrap_or said 0
     → told_entries t ≡ part_entries (part_at source e.number e.place) → entries' ≡ over (e.number ∷ e.place ∷ n ∷ told_entries t) entries
     → TellsRoom (writer_left flat_names (source_lent source list ws ns) (wanted sizes earlier later time) room) (written_entries source) (λ (x : Wrote). x.room) entries e.number ws' ns' room' entries'
-tells_written {source} {room' = room'} {said = said} a h f k p o =
-    let l = read_time a h in
-    record { tells = tells_source (written_entries source) l.is (told_written source said room' f k p o); room_is = room_of said room' ∙ ap (λ x. x.answer.room) l.is }
-  where
-    room_of : (r : Result ℕ Refusal) (room : List ℕ) → room ≡ (wrote_of r room).room
-    room_of (Ok n) room = refl
-    room_of (Err x) room = refl
+tells_written {source} {entries = entries} {ws'} {ns'} {room'} {said = said} {e} {n} a h f k p o =
+    let answer = (λ i. record { number = (f i).number; place = (f i).place; length = k i; room = room' }) ∙ written_by said room' in
+    let is = (λ i. record { answer = answer i; words = ws'; names = ns' }) ∙ (read_time a h).is in
+    record {
+      tells = tells_source (written_entries source) is (record { number = refl; told = o ∙ ap (λ (l : List ℕ). over (e.number ∷ e.place ∷ n ∷ l) entries) p });
+      room_is = ap (λ x. x.answer.room) is;
+    }
 
 -- ---- bands of rows
 
-told_borders : (source : List ℕ) (r : Result Border Refusal) {reply reply' : List ℕ} {e : Refusal} {b : Border} {t : Told} → e ≡ refusal_told r → b ≡ result_unwrap_or r (record { before = 0; behind = 0 })
-    → told_entries t ≡ part_entries (part_at source e.number e.place) → reply' ≡ over (e.number ∷ e.place ∷ b.before ∷ b.behind ∷ told_entries t) reply → Tells (border_entries source (borders_in r)) reply e.number reply'
-told_borders source (Ok x) {reply} {e = e} {b} f k p h =
-    record { number = ap (λ (x : Refusal). x.number) f; told = h ∙ ap (λ (l : List ℕ). over (e.number ∷ e.place ∷ b.before ∷ b.behind ∷ l) reply) p ∙ (λ i. over (border_entries source (record { number = (f i).number; place = (f i).place; before = (k i).before; behind = (k i).behind })) reply) }
-told_borders source (Err x) {reply} {e = e} {b} f k p h =
-    record { number = ap (λ (x : Refusal). x.number) f; told = h ∙ ap (λ (l : List ℕ). over (e.number ∷ e.place ∷ b.before ∷ b.behind ∷ l) reply) p ∙ (λ i. over (border_entries source (record { number = (f i).number; place = (f i).place; before = (k i).before; behind = (k i).behind })) reply) }
+borders_by : (r : Result Border Refusal) → (let b = result_unwrap_or r (record { before = 0; behind = 0 }) in record { number = (refusal_told r).number; place = (refusal_told r).place; before = b.before; behind = b.behind }) ≡ borders_in r
+borders_by (Ok b) = refl
+borders_by (Err e) = refl
 
 pub tells_borders : {l : SourceLent ℕ} {sizes reply ws' ns' reply' : List ℕ} {said : Result Border Refusal} {e : Refusal} {b : Border} {t : Told} → BordersLeaves flat_names l sizes said ws' ns' → e ≡ refusal_told said
     → b ≡ result_unwrap_or said (record { before = 0; behind = 0 }) → told_entries t ≡ part_entries (part_at l.source e.number e.place) → reply' ≡ over (e.number ∷ e.place ∷ b.before ∷ b.behind ∷ told_entries t) reply
     → TellsSource (borders_left flat_names l sizes) (border_entries l.source) reply e.number ws' ns' reply'
-tells_borders {l} {said = said} h f k p o = tells_source (border_entries l.source) h.is (told_borders l.source said f k p o)
+tells_borders {l} {reply = reply} {ws'} {ns'} {said = said} {e} {b} h f k p o =
+    let answer = (λ i. record { number = (f i).number; place = (f i).place; before = (k i).before; behind = (k i).behind }) ∙ borders_by said in
+    tells_source (border_entries l.source) ((λ i. record { answer = answer i; words = ws'; names = ns' }) ∙ h.is)
+    (record { number = refl; told = o ∙ ap (λ (xs : List ℕ). over (e.number ∷ e.place ∷ b.before ∷ b.behind ∷ xs) reply) p })
 
 pub tells_plan_check : {l : SourceLent ℕ} {sizes : List ℕ} {held : ℕ} {plan reply ws' ns' reply' : List ℕ} {said : Result (Unit {0}) Refusal} {e : Refusal} {r : ℕ} → CheckLeaves flat_names l sizes held plan said ws' ns' → e ≡ refusal_told said
     → Tells (reply_entries l.source e.number e.place) reply r reply' → TellsSource (plan_check_left flat_names l sizes held plan) (λ c. reply_entries l.source c.number c.place) reply r ws' ns' reply'
 tells_plan_check {l} {reply = reply} {reply' = reply'} {r = r} h f t =
     tells_source (λ (c : Refusal). reply_entries l.source c.number c.place) h.is (subst (λ (x : Refusal). Tells (reply_entries l.source x.number x.place) reply r reply') f t)
 
-told_planned : (source : List ℕ) (r : Result ℕ Refusal) (room : List ℕ) {reply reply' : List ℕ} {e : Refusal} {n : ℕ} {t : Told} → e ≡ refusal_told r → n ≡ result_unwrap_or r 0 → told_entries t ≡ part_entries (part_at source e.number e.place)
-    → reply' ≡ over (e.number ∷ e.place ∷ n ∷ told_entries t) reply → Tells (planned_entries source (planned_of r room)) reply e.number reply'
-told_planned source (Ok x) room {reply} {e = e} {n} f k p h =
-    record { number = ap (λ (x : Refusal). x.number) f; told = h ∙ ap (λ (l : List ℕ). over (e.number ∷ e.place ∷ n ∷ l) reply) p ∙ (λ i. over (planned_entries source (record { number = (f i).number; place = (f i).place; bands = k i; room = room })) reply) }
-told_planned source (Err x) room {reply} {e = e} {n} f k p h =
-    record { number = ap (λ (x : Refusal). x.number) f; told = h ∙ ap (λ (l : List ℕ). over (e.number ∷ e.place ∷ n ∷ l) reply) p ∙ (λ i. over (planned_entries source (record { number = (f i).number; place = (f i).place; bands = k i; room = room })) reply) }
+planned_by : (r : Result ℕ Refusal) (room : List ℕ) → record { number = (refusal_told r).number; place = (refusal_told r).place; bands = result_unwrap_or r 0; room = room } ≡ planned_of r room
+planned_by (Ok n) room = refl
+planned_by (Err e) room = refl
 
 pub tells_planned : {l : SourceLent ℕ} {sizes : List ℕ} {held : ℕ} {room reply ws' ns' room' reply' : List ℕ} {said : Result ℕ Refusal} {e : Refusal} {n : ℕ} {t : Told} → PlannerLeaves flat_names l sizes held room said ws' ns' room'
     → e ≡ refusal_told said → n ≡ result_unwrap_or said 0 → told_entries t ≡ part_entries (part_at l.source e.number e.place) → reply' ≡ over (e.number ∷ e.place ∷ n ∷ told_entries t) reply
     → TellsRoom (planner_left flat_names l sizes held room) (planned_entries l.source) (λ (x : plans.Planned). x.room) reply e.number ws' ns' room' reply'
-tells_planned {l} {room' = room'} {said = said} h f k p o =
-    record { tells = tells_source (planned_entries l.source) h.is (told_planned l.source said room' f k p o); room_is = room_of said room' ∙ ap (λ x. x.answer.room) h.is }
-  where
-    room_of : (r : Result ℕ Refusal) (room : List ℕ) → room ≡ (planned_of r room).room
-    room_of (Ok n) room = refl
-    room_of (Err x) room = refl
+tells_planned {l} {reply = reply} {ws'} {ns'} {room'} {said = said} {e} {n} h f k p o =
+    let answer = (λ i. record { number = (f i).number; place = (f i).place; bands = k i; room = room' }) ∙ planned_by said room' in
+    let is = (λ i. record { answer = answer i; words = ws'; names = ns' }) ∙ h.is in
+    record {
+      tells = tells_source (planned_entries l.source) is (record { number = refl; told = o ∙ ap (λ (xs : List ℕ). over (e.number ∷ e.place ∷ n ∷ xs) reply) p });
+      room_is = ap (λ x. x.answer.room) is;
+    }
 
 pub tells_band : {source list ws ns sizes : List ℕ} {first last held : ℕ} {rows room : List ℤ} {time : ℤ} {r : ℕ} {entries ws' ns' entries' : List ℕ} {room' : List ℤ} {said : Report} → SFits w64 time
     → BandLeaves flat_names (source_lent source list ws ns) (band_asked sizes first last held rows room (to_z w64 (of_z w64 time))) said ws' ns' room' → Tells (report_entries source (told said [])) entries r entries'
