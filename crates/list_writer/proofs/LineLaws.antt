@@ -1,5 +1,5 @@
 -- The lines of the cells that differ, and the whole text.
-use Prim.Native.Nat.{ℕ, zero, suc, ◌+◌, ◌-◌, ◌*◌, ◌^◌, ◌≤◌, ◌<◌}
+use Prim.Native.Nat.{ℕ, zero, suc, ◌+◌, ◌-◌, ◌*◌, ◌≤◌, ◌<◌}
 use native.Mathlib.Nat.{zero-add, mul-le-mul}
 use native.Mathlib.Numerals.{add-one}
 use native.Mathlib.Omega.{arith}
@@ -19,9 +19,9 @@ use Rattle.automaton.proofs.Theorems.GridLaws.{cell_room}
 use Rattle.tool_reply_line.proofs.Lines.{digits_length}
 use Rattle.list_meaning.specs.Writing.{print_number, print_field, listed, cell_line, shown, cells_text, written_text}
 use Rattle.list_meaning.specs.Promises.Showing.{length_shown}
-use Rattle.list_writer.specs.Promises.Printing.{Puts, PutsDigits}
+use Rattle.list_writer.specs.Promises.Printing.{Puts}
 use Rattle.list_writer.specs.Promises.Lines.{Grids, changed_line}
-use Rattle.list_writer.proofs.PrintingLaws.{puts_nothing, and_then, number_put, field_length, listed_length}
+use Rattle.list_writer.proofs.PrintingLaws.{puts_nothing, and_then, field_length, listed_length}
 
 -- ---- a cell's line
 
@@ -148,10 +148,10 @@ module _ (sizes : List ℕ) (fields : ℕ) (flag : Option ℕ) (earlier later : 
 
   -- ---- the text
 
-  pub text_put : {old a b new : List ℕ} {time i j r : ℕ} (cells : ℕ) → cells ≡ product sizes → time < 2 ^ 32 → PutsDigits old 0 time a i → Puts a i (10 ∷ []) b j → Puts b j (cells_text sizes fields flag earlier later cells 0) new r
-      → Puts old 0 (written_text sizes fields flag earlier later time) new r
+  pub text_put : {old a b new : List ℕ} {at i j r : ℕ} (time cells : ℕ) → cells ≡ product sizes → Puts old at (print_number time) a i → Puts a i (10 ∷ []) b j → Puts b j (cells_text sizes fields flag earlier later cells 0) new r
+      → Puts old at (written_text sizes fields flag earlier later time) new r
   unfolding written_text
-  text_put {old} {a} {b} {new} {time} {i} {j} {r} cells e l x y z =
-      subst (λ (t : List ℕ). Puts old 0 t new r)
+  text_put {old} {new = new} {at = at} {r = r} time cells e x y z =
+      subst (λ (t : List ℕ). Puts old at t new r)
       (append_assoc (print_number time) (10 ∷ []) (cells_text sizes fields flag earlier later cells 0) ∙ ap (λ (n : ℕ). print_number time ++ 10 ∷ cells_text sizes fields flag earlier later n 0) e)
-      (and_then (and_then (number_put l x) y) z)
+      (and_then (and_then x y) z)

@@ -67,13 +67,13 @@ number_put h x = x.puts 9 (omega arith)
 
 -- ---- values
 
-pub word_plain : {old new : List ℕ} {at w r : ℕ} → w < 2147483648 → PutsDigits old at w new r → Puts old at (print_value (decode_of w)) new r
-word_plain {w = w} h x = rw (lt-ltb w 2147483648 h) (number_put (omega arith) x)
+pub word_plain : {old new : List ℕ} {at w r : ℕ} → w < 2147483648 → Puts old at (print_number w) new r → Puts old at (print_value (decode_of w)) new r
+word_plain {w = w} h x = rw (lt-ltb w 2147483648 h) x
 
-pub word_signed : {old mid new : List ℕ} {at w m r : ℕ} → 2147483648 ≤ w → w < 2 ^ 32 → Puts old at (45 ∷ []) mid m → PutsDigits mid m (4294967295 - w + 1) new r → Puts old at (print_value (decode_of w)) new r
+pub word_signed : {old mid new : List ℕ} {at w m r : ℕ} → 2147483648 ≤ w → w < 2 ^ 32 → Puts old at (45 ∷ []) mid m → Puts mid m (print_number (4294967295 - w + 1)) new r → Puts old at (print_value (decode_of w)) new r
 word_signed {old} {mid} {new} {at} {w} {m} {r} h l x y =
     let e : 4294967295 - w + 1 ≡ suc (4294967296 - suc w) = omega arith in
-    let z : Puts mid m (print_number (suc (4294967296 - suc w))) new r = subst (λ (k : ℕ). Puts mid m (print_number k) new r) e (number_put (omega arith) y) in
+    let z : Puts mid m (print_number (suc (4294967296 - suc w))) new r = subst (λ (k : ℕ). Puts mid m (print_number k) new r) e y in
     rw (le-ltb w 2147483648 h, sub_lt w 4294967296 (omega arith)) (and_then x z)
 
 small_range : (z : ℤ) → SFits w32 z → in_range z ≡ true

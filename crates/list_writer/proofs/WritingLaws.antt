@@ -14,7 +14,7 @@ use lib.Signed.{non_neg}
 use mir.Syntax.{w32, w64}
 use mir.Val.{Fits, SFits, to_z, of_z}
 use mir.Facts.{to_z-of_z}
-use borrow.Author.Tests.{eq-eqb, ne_eqb, lt-ltb, le-ltb, not-true, not-false}
+use borrow.Author.Tests.{ne_eqb, lt-ltb, le-ltb, not-true, not-false}
 use Rattle.std.specs.Prelude.{Result, Ok, Err}
 use Rattle.value.proofs.Theorems.Laws.{never}
 use Rattle.token.specs.Lexeme.{is_built_in}
