@@ -1,6 +1,6 @@
 -- The lines of the cells that differ, and the whole text.
 use Prim.Native.Nat.{ℕ, zero, suc, ◌+◌, ◌-◌, ◌*◌, ◌≤◌, ◌<◌}
-use native.Mathlib.Nat.{zero-add, mul-le-mul}
+use native.Mathlib.Nat.{zero-add}
 use native.Mathlib.Numerals.{add-one}
 use native.Mathlib.Omega.{arith}
 use mathlib.Core.Path.{◌≡◌, refl, sym, ap, ap₂, ◌∙◌, subst}
@@ -30,10 +30,6 @@ numbers_length is l = omega (arith, listed_length 10 print_number (digits_length
 
 pub values_length : (flag : Option ℕ) (vs : List ℤ) → length vs ≤ 64 → length (listed (map print_field (shown flag vs))) ≤ 832
 values_length flag vs l = omega (arith, listed_length 11 print_field field_length (shown flag vs), length_shown flag vs)
-
-pub between_put : {old a b c new : List ℕ} {at i j k r : ℕ} → Puts old at (93 ∷ []) a i → Puts a i (32 ∷ []) b j → Puts b j (61 ∷ []) c k → Puts c k (32 ∷ []) new r
-    → Puts old at (93 ∷ 32 ∷ 61 ∷ 32 ∷ []) new r
-between_put p q s t = and_then (and_then (and_then p q) s) t
 
 -- its parts, one behind another
 line_text : (is : List ℕ) (vs : List (Option ℤ))
@@ -70,9 +66,6 @@ cell_part fields g c l =
     at k h = get_or-take fields (drop (c * fields) g) k (pos 0) h ∙ get_or-drop (c * fields) g k (pos 0) ∙ sym (get_or_list_of _ fields k (pos 0) h)
 
 module _ {sizes : List ℕ} {fields : ℕ} {earlier later : List ℤ} (w : Grids sizes fields earlier later) {c : ℕ} (l : c < product sizes) where
-  pub changed_within : (c * fields + fields ≤ length earlier) × (length earlier ≤ 8388608) × (length later ≡ length earlier)
-  changed_within = (cell_room c (product sizes) fields (length earlier) l w.earlier_entries, subst (λ (n : ℕ). n ≤ 8388608) w.earlier_entries (mul-le-mul w.cells w.fields_few), sym w.later_entries ∙ w.earlier_entries)
-
   dims_few : length (coordinates sizes c) ≤ 3
   dims_few = omega (arith, w.dims, inside_length sizes (coordinates sizes c) (coordinates_inside sizes c w.positive l))
 
