@@ -84,6 +84,7 @@ fn write_listed(
 // Writes the list that leads from the grid at the last block, `earlier`, to the grid now, `later`, at a time: the text at the front of the room, which
 // keeps its rest. Returns the text's length. For a source that moves a pixel once, a flag that is 0 is left missing. After a refusal the room is as it was;
 // `Reason::ShortRoom`: it is shorter than the text. Word table and name list are left as after a run.
+// Kept: the arguments stand one by one, as docs/CALLS.md has this call and as C passes them.
 pub fn write_list(
     source: &[u8],
     list: &[u8],

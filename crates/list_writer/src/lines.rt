@@ -13,6 +13,7 @@ use value::limits::MOST_DIMS;
 
 // What a list is written of: the grids that it leads between, the number of the field that serves as flag, or the number of fields for none, the number
 // of cells, and the time.
+// Kept: a number for no flag, as `flag_of` promises it.
 #[derive(Clone, Copy, Debug)]
 pub struct Change<'a> {
     pub sizes: &'a [u32],
