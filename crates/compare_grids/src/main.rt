@@ -27,11 +27,10 @@ fn compare_and_tell(
     sizes: &[u32],
 ) -> Result<(), Refusal> {
     let mut room = [0i32; 60];
-    let said = compare(left, right, 20, &mut room);
-    if said.number != 0 {
+    let Ok(total) = compare(left, right, 20, &mut room) else {
         telling::tell_lengths(rt, left.len(), right.len());
         return Ok(());
-    }
+    };
     let cells = cells_of(sizes);
     if left.len().checked_rem(cells) != Some(0) {
         let entries = left.len();
@@ -42,9 +41,9 @@ fn compare_and_tell(
             ),
         ));
     }
-    telling::tell_total(rt, said.total, left.len());
-    telling::tell_differences(rt, &room, said.total, sizes, fields_of(left.len(), cells));
-    telling::tell_more(rt, said.total);
+    telling::tell_total(rt, total, left.len());
+    telling::tell_differences(rt, &room, total, sizes, fields_of(left.len(), cells));
+    telling::tell_more(rt, total);
     Ok(())
 }
 

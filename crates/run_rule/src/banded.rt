@@ -3,7 +3,6 @@ use crate::arguments::Order;
 use crate::fields::{field_name, field_told, records_of};
 use crate::{Task, reports, write_left};
 use run_steps::Report;
-use std::alloc::AllocError;
 use tool_console::arguments::{Refusal, refuse};
 use tool_console::replies::Reply;
 use tool_console::shapes::fields_of;
@@ -53,7 +52,7 @@ pub fn run_and_tell(
     scratch: &mut [i32],
     marks: &mut [u8],
     counts: &mut [u32],
-) -> Result<Report, AllocError> {
+) -> Report {
     let fields = fields_of(grid.len(), marks.len());
     let mut words = [0u32; TABLE_WORDS];
     let order = task.order;
@@ -70,8 +69,8 @@ pub fn run_and_tell(
     let report = made.report;
     let told = field_told(report, &words, fields);
     let named = told.and_then(|field| field_name(task.source, records_of(task.source).rows, field));
-    reports::tell(rt, task, report, named, grid.len(), marks.len())?;
+    reports::tell(rt, task, report, named, grid.len(), marks.len());
     say_plan(rt, report.number, made.plan, held);
     write_left(rt, task, report, grid, marks, counts);
-    Ok(report)
+    report
 }

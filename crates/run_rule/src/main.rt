@@ -25,7 +25,6 @@ use api_naming::Ran;
 use arguments::{Call, Order, read_call};
 use rows::write_grid;
 use run_steps::Report;
-use std::alloc::AllocError;
 use tool_console::arguments::{Refusal, arguments, end, refuse};
 use tool_console::grids::read_grid;
 use tool_console::rooms::{LIST, ROOM, SCRATCH, room};
@@ -109,7 +108,7 @@ fn run_and_tell(
     scratch: &mut [i32],
     marks: &mut [u8],
     counts: &mut [u32],
-) -> Result<Report, AllocError> {
+) -> Report {
     let mut words = [0u32; TABLE_WORDS];
     let ran = run(
         task.source,
@@ -126,9 +125,9 @@ fn run_and_tell(
     let rows = ran.rows;
     let told = fields::field_told(report, &words, fields_of(grid.len(), marks.len()));
     let named = told.and_then(|field| fields::field_name(task.source, rows, field));
-    reports::tell(rt, task, report, named, grid.len(), marks.len())?;
+    reports::tell(rt, task, report, named, grid.len(), marks.len());
     write_left(rt, task, report, grid, marks, counts);
-    Ok(report)
+    report
 }
 
 // Runs a source on a grid, by bands of rows if requested, with a count for each row if zeros are counted, else with none.
@@ -138,7 +137,7 @@ fn run_counted(
     grid: &mut [i32],
     scratch: &mut [i32],
     marks: &mut [u8],
-) -> Result<Report, AllocError> {
+) -> Report {
     let mut rows = [0u32; 4096];
     let counted = rows.len().min(zeros::counts_of(task.sizes, task.order));
     let counts = &mut rows[..counted];
@@ -160,8 +159,7 @@ fn run_in_rooms(
     pauses::read(rt, task, &mut scratch, &mut marks, cells)?;
     let kept = scratch.len().min(grid.len());
     let marked = marks.len().min(cells);
-    let report = run_counted(rt, task, grid, &mut scratch[..kept], &mut marks[..marked])?;
-    Ok(report)
+    Ok(run_counted(rt, task, grid, &mut scratch[..kept], &mut marks[..marked]))
 }
 
 // Runs a source on the grid at the start of a room, and writes what changed, if requested: then a copy of the grid as given follows it.

@@ -2,7 +2,6 @@
 use crate::Task;
 use crate::values::say_list_line;
 use run_steps::Report;
-use std::alloc::AllocError;
 use tool_console::lines::say_line;
 use tool_console::places::{Cell, Entry, Position};
 use tool_console::replies::Reply;
@@ -22,10 +21,10 @@ fn say_spelling(rt: &HostRuntime, source: &[u8], number: u32, place: u32) {
 }
 
 // Writes a place in a source, and its line with a caret under it.
-fn say_place(rt: &HostRuntime, source: &[u8], place: u32) -> Result<(), AllocError> {
+fn say_place(rt: &HostRuntime, source: &[u8], place: u32) {
     let position = Position::of(source, place as usize);
     say(rt, format_args!("place: byte {place}, {position}\n"));
-    say_line(rt, source, place as usize)
+    say_line(rt, source, place as usize);
 }
 
 // Writes an entry of the grid: its number, its cell and its field.
@@ -43,15 +42,14 @@ fn say_entry(rt: &HostRuntime, number: u32, sizes: &[u32], fields: usize) {
 }
 
 // Writes the reply with its meaning, its spelling and its place.
-fn say_reply(rt: &HostRuntime, number: u32, place: u32, source: &[u8]) -> Result<(), AllocError> {
+fn say_reply(rt: &HostRuntime, number: u32, place: u32, source: &[u8]) {
     let reply = Reply(number);
     say(rt, format_args!("reply {number}: {reply}"));
     say_spelling(rt, source, number, place);
     say(rt, "\n");
     if reply.has_place() {
-        say_place(rt, source, place)?;
+        say_place(rt, source, place);
     }
-    Ok(())
 }
 
 // Writes a report: the reply, the line of the list, the entry or the faulting cell with the name of the field that is spoken of, the steps done and
@@ -63,11 +61,11 @@ pub fn tell(
     field: Option<&[u8]>,
     entries: usize,
     cells: usize,
-) -> Result<(), AllocError> {
+) {
     let reply = Reply(report.number);
-    say_reply(rt, report.number, report.place, task.source)?;
+    say_reply(rt, report.number, report.place, task.source);
     if reply.has_line() {
-        say_list_line(rt, task.values, report.line)?;
+        say_list_line(rt, task.values, report.line);
     }
     if report.number == 21 {
         say(
@@ -97,5 +95,4 @@ pub fn tell(
         rt,
         format_args!("steps done: {steps}\ncells evaluated: {count}\n"),
     );
-    Ok(())
 }

@@ -1,6 +1,5 @@
 // The value list of a run: its file, and its lines.
 use crate::arguments::Call;
-use std::alloc::AllocError;
 use tool_console::arguments::{Refusal, refuse};
 use tool_console::lines::say_first_line;
 use tool_console::texts::{read_file, say};
@@ -38,7 +37,7 @@ fn from_line(list: &[u8], line: u64) -> &[u8] {
 }
 
 // Writes the line of a list that has a number.
-pub fn say_list_line(rt: &HostRuntime, list: &[u8], line: u64) -> Result<(), AllocError> {
+pub fn say_list_line(rt: &HostRuntime, list: &[u8], line: u64) {
     say(rt, format_args!("list: line {line}\n"));
-    say_first_line(rt, from_line(list, line))
+    say_first_line(rt, from_line(list, line));
 }

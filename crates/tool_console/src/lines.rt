@@ -1,6 +1,5 @@
 // The line of a text that has a place, with a caret under it, or how a line of a text begins.
 use crate::texts::{say, say_bytes};
-use std::alloc::AllocError;
 
 // Whether a line ends with a byte.
 fn breaks(b: &u8) -> bool {
@@ -32,41 +31,46 @@ fn shown(b: &u8) -> u8 {
     }
 }
 
-// Writes bytes as they are shown.
-fn say_shown(rt: &HostRuntime, text: &[u8]) -> Result<(), AllocError> {
-    let line: Vec<u8> = text.iter().map(shown).collect(rt.alloc())?;
-    say_bytes(rt, line.as_slice());
-    Ok(())
+// Writes bytes, at most 120 of them, as they are shown.
+fn say_shown(rt: &HostRuntime, text: &[u8]) {
+    let mut line = [0u8; 120];
+    for (to, b) in line.iter_mut().zip(text) {
+        *to = shown(b);
+    }
+    let n = text.len().min(120);
+    say_bytes(rt, &line[..n]);
 }
 
-// Writes blanks as wide as bytes are, so that what follows is below what follows the bytes.
-fn say_width(rt: &HostRuntime, text: &[u8]) -> Result<(), AllocError> {
-    let line: Vec<u8> = text
-        .iter()
-        .filter(|b| !matches!(**b, 128..=191))
-        .map(|b| if *b == b'\t' { b'\t' } else { b' ' })
-        .collect(rt.alloc())?;
-    say_bytes(rt, line.as_slice());
-    Ok(())
+// Writes blanks as wide as bytes are, of which at most 120 are taken, so that what follows is below what follows the bytes.
+fn say_width(rt: &HostRuntime, text: &[u8]) {
+    let mut line = [b' '; 120];
+    let mut n: usize = 0;
+    for b in text {
+        if !matches!(*b, 128..=191) {
+            if let Some(to) = line.get_mut(n) {
+                *to = if *b == b'\t' { b'\t' } else { b' ' };
+                n += 1;
+            }
+        }
+    }
+    say_bytes(rt, &line[..n.min(120)]);
 }
 
 // Writes the line of a source that has a place, and below it a caret under the place. Of a long line the part around the place is shown.
-pub fn say_line(rt: &HostRuntime, source: &[u8], place: usize) -> Result<(), AllocError> {
+pub fn say_line(rt: &HostRuntime, source: &[u8], place: usize) {
     let (head, rest) = source.split_at_checked(place).unwrap_or((&[], &[]));
     let before = line_before(head);
     say(rt, "    ");
-    say_shown(rt, before)?;
-    say_shown(rt, line_of(rest, 60))?;
+    say_shown(rt, before);
+    say_shown(rt, line_of(rest, 60));
     say(rt, "\n    ");
-    say_width(rt, before)?;
+    say_width(rt, before);
     say(rt, "^\n");
-    Ok(())
 }
 
 // Writes the line that a text begins with. Of a long line the first 120 bytes are shown.
-pub fn say_first_line(rt: &HostRuntime, text: &[u8]) -> Result<(), AllocError> {
+pub fn say_first_line(rt: &HostRuntime, text: &[u8]) {
     say(rt, "    ");
-    say_shown(rt, line_of(text, 120))?;
+    say_shown(rt, line_of(text, 120));
     say(rt, "\n");
-    Ok(())
 }

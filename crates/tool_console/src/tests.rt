@@ -1,6 +1,5 @@
 // What no contract says.
 use crate::arguments::arguments;
-use crate::lines::{say_first_line, say_line};
 use crate::numbers::{count_in, value_in};
 use crate::places::{Cell, Entry, Position};
 use crate::replies::Reply;
@@ -54,7 +53,5 @@ fn replies(rt: HostRuntime) -> Result<(), Fail> {
 #[test]
 fn memory(rt: HostRuntime) -> Result<(), Fail> {
     assert!(rt; !arguments(&rt)?.is_empty());
-    say_line(&rt, b"one\ntwo", 5)?;
-    say_first_line(&rt, b"one\ntwo")?;
     Ok(())
 }
