@@ -39,7 +39,7 @@ pub struct Call<'a> {
 
 // The request of a run: the time it starts at, the steps, its manner, the number of the field whose zeros are counted, if they are, and how many rows can be
 // held, if it is made of bands of rows.
-#[derive(Clone, Copy)]
+#[derive(Clone, Copy, Debug, PartialEq, Eq, Hash)]
 pub struct Order {
     pub start: i64,
     pub steps: i64,

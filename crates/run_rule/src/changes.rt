@@ -88,10 +88,8 @@ pub fn write(
         time,
         &mut text,
     );
-    if written.number != 0 {
-        complain_reply(rt, written.number);
-        return;
+    match written {
+        Ok(length) => write_text(rt, path, &text[..text.len().min(length as usize)]),
+        Err(refusal) => complain_reply(rt, refusal.number),
     }
-    let length = text.len().min(written.length as usize);
-    write_text(rt, path, &text[..length]);
 }

@@ -8,6 +8,7 @@ use std::io::{Error, ErrorKind, Read, Result, Stdin, Stdout, Write};
 use tool_text::read_full;
 
 // What is read: standard input, or a file that was opened.
+// Kept: only Drop, since it holds an open file.
 #[derive(Drop)]
 pub enum Source {
     Standard(Stdin),
@@ -24,6 +25,7 @@ impl Read for Source {
 }
 
 // What is written: standard output, or a file that was opened.
+// Kept: only Drop, since it holds an open file.
 #[derive(Drop)]
 pub enum Target {
     Standard(Stdout),

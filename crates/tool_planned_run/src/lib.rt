@@ -5,7 +5,7 @@ ghost use Rattle.std.specs.Prelude.{◌≡◌};
 ghost use Rattle.run_calls.specs.Calls.{memory};
 ghost use Rattle.tool_planned_run.specs.Promises.RunsBanded.{lent_listed, RunsBanded};
 
-use band_planner::Planned;
+use program::reply::{Reason, Refusal};
 use run_steps::Report;
 use tool_console::rooms::{PLAN, ROWS, room};
 use tool_console::shapes::{entries_of_rows, rows_of};
@@ -51,8 +51,10 @@ pub fn can_be_held(sizes: &[u32], entries: usize, held: u32) -> bool {
 fn rows_needed(request: Request<'_>, words: &mut [u32]) -> u64 {
     let list = spelling::BUILT_IN;
     let mut names = [0u32; NAME_WORDS];
-    let borders = band_planner::borders_of(request.source, &list, words, &mut names, request.sizes);
-    u64::from(borders.before) + 1 + u64::from(borders.behind)
+    match band_planner::borders_of(request.source, &list, words, &mut names, request.sizes) {
+        Ok(border) => u64::from(border.before) + 1 + u64::from(border.behind),
+        Err(_) => 1,
+    }
 }
 
 // A run of a source on a grid with a value list under a plan, as requested. The report, the grid, the marks and the counts that are left are those of the
@@ -90,7 +92,7 @@ fn make_plan(
     words: &mut [u32],
     names: &mut [u32],
     bands: &mut [u32],
-) -> Planned {
+) -> Result<u32, Refusal> {
     let list = spelling::BUILT_IN;
     let entries = bands.len().min(2 * rows_of(request.sizes) as usize);
     band_planner::plan_bands(
@@ -107,7 +109,7 @@ fn make_plan(
 // The report of a run for which there is no plan.
 fn without_plan() -> Report {
     Report {
-        number: 59,
+        number: Reason::NoPlan.number(),
         place: 0,
         line: 0,
         cell: 0,
@@ -164,9 +166,9 @@ pub fn plan_and_run(
     let mut names = [0u32; NAME_WORDS];
     let mut bands: [u32; PLAN] = room(0);
     let planned = make_plan(request, words, &mut names, &mut bands);
-    match planned.number {
-        0 => {
-            let end = bands.len().min(2 * planned.bands as usize);
+    match planned {
+        Ok(made) => {
+            let end = bands.len().min(2 * made as usize);
             Banded {
                 report: run_in_room(
                     request,
@@ -178,18 +180,16 @@ pub fn plan_and_run(
                     counts,
                     &bands[..end],
                 ),
-                plan: Plan::Made {
-                    bands: planned.bands,
-                },
+                plan: Plan::Made { bands: made },
             }
         }
-        59 => Banded {
+        Err(refusal) if refusal.number == Reason::NoPlan.number() => Banded {
             report: without_plan(),
             plan: Plan::Missing {
                 needed: rows_needed(request, words),
             },
         },
-        _ => Banded {
+        Err(_) => Banded {
             report: run_in_room(
                 request,
                 words,

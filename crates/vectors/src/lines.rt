@@ -1,7 +1,7 @@
 // The line of a run, of a run in a manner, and of a writing.
 use crate::reading::End;
 use crate::rooms::Left;
-use list_writer::Written;
+use program::reply::Refusal;
 use run_steps::Report;
 use std::alloc::AllocError;
 use std::fmt::Display;
@@ -79,12 +79,16 @@ pub fn write_call(
 }
 
 // Writes the line of a writing.
-pub fn write_writing(rt: &HostRuntime, written: Written, room: &[u8]) -> Result<(), End> {
+pub fn write_writing(
+    rt: &HostRuntime,
+    written: Result<u64, Refusal>,
+    room: &[u8],
+) -> Result<(), End> {
     let mut line = String::new(rt.alloc());
-    let number = written.number;
-    let place = written.place;
-    let length = written.length;
-    write!(&mut line, "{number} {place} {length} : ")?;
+    match written {
+        Ok(length) => write!(&mut line, "0 0 {length} : ")?,
+        Err(Refusal { number, place }) => write!(&mut line, "{number} {place} 0 : ")?,
+    }
     put_bytes(&mut line, room)?;
     write_ended(rt, line)
 }

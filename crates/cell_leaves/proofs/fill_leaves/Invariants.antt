@@ -5,4 +5,3 @@ use Rattle.cell_leaves.proofs.fill_leaves.Given as goal
 
 abbrev pub invariant-loop-p : goal.invariant-loop-p
 invariant-loop-p l = Filled (table_of l.words l.n (length l.sizes)) l.sizes l.n l.fields l.slots l.leaves l.p
-
