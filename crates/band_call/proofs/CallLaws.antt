@@ -12,7 +12,7 @@ use mir.Syntax.{w64}
 use mir.Val.{SFits, to_z, of_z}
 use mir.Facts.{to_z-of_z}
 use borrow.Author.Tests.{eq-eqb, ne_eqb, eqb-false, not-true, not-false}
-use Rattle.std.specs.Prelude.{None, Some, Result, Ok, Err, if◌then◌else◌}
+use Rattle.std.specs.Prelude.{⊤, None, Some, Result, Ok, Err, if◌then◌else◌}
 use Rattle.automaton.specs.Step.{Fault, no_fault, fault_at}
 use Rattle.automaton.specs.Shape.{product, Bound}
 use Rattle.automaton.specs.Promises.ShapeLaws.{Positive}
@@ -43,8 +43,8 @@ use Rattle.band_planner.specs.Promises.Borders.{border_of}
 use Rattle.band_planner.specs.Promises.Opening.{far_told, RowsOpen, OpensRows}
 use Rattle.band_planner.proofs.OpeningLaws.{refused_only}
 use Rattle.run_step.specs.declared.Step.{Step}
-use Rattle.run_step.specs.declared.Step.TheVariants as Gives
-use Rattle.run_step.specs.Promises.Stepping.{fault_in, count_in}
+use Rattle.run_step.specs.declared.CellFault.{CellFault}
+use Rattle.run_step.specs.Promises.Stepping.{fault_told}
 use Rattle.run_step.specs.Promises.Rows.{RowsReady, RowsStepped}
 use Rattle.band_step.proofs.OneBand.{by_rows, rest_positive}
 use Rattle.run_steps.specs.declared.Report.{Report}
@@ -118,37 +118,37 @@ module _ {words : List ℕ} {rule : Rule} {sizes : List ℕ} {row : ℕ} {border
       cells_are : product (n ∷ drop 1 sizes) ≡ rows_with border b * row
       cells_are = ap₂ (λ (y z : ℕ). y * z) f (sym x.row_is)
 
-  module _ {shape : List ℕ} {own n : ℕ} (sh : shape ≡ n ∷ drop 1 sizes) (e : own ≡ rows_in b) (f : n ≡ rows_with border b) {rows next : List ℤ} {r : Step} (s : RowsStepped words rule shape border.back own rows time 0 r next) where
+  module _ {shape : List ℕ} {own n : ℕ} (sh : shape ≡ n ∷ drop 1 sizes) (e : own ≡ rows_in b) (g : n ≡ rows_with border b) {rows next : List ℤ} {r : Step} (s : RowsStepped words rule shape border.back own rows time 0 r next) where
     s_is : RowsStepped words rule (rows_with border b ∷ drop 1 sizes) border.back (rows_in b) rows time 0 r next
-    s_is = subst (λ (ss : List ℕ). RowsStepped words rule ss border.back (rows_in b) rows time 0 r next) (sh ∙ ap (λ (y : ℕ). y ∷ drop 1 sizes) f)
+    s_is = subst (λ (ss : List ℕ). RowsStepped words rule ss border.back (rows_in b) rows time 0 r next) (sh ∙ ap (λ (y : ℕ). y ∷ drop 1 sizes) g)
         (subst (λ (y : ℕ). RowsStepped words rule shape border.back y rows time 0 r next) e s)
 
-    pub lent_done : (room₀ : List ℤ) {c : ℕ} → r ≡ Gives.Done c → LentStepped words rule sizes border b rows room₀ time (record { number = 0; place = 0; line = 0; cell = 0; steps = 1; count = c }) next
-    lent_done room₀ {c} q = record {
+    pub lent_done : (room₀ : List ℤ) {done : ⊤} → r.outcome ≡ Ok done → LentStepped words rule sizes border b rows room₀ time (record { number = 0; place = 0; line = 0; cell = 0; steps = 1; count = r.count }) next
+    lent_done room₀ {done} q = record {
       says = λ p h.
           let S = stepped_by p rule.fields sizes border b rows time in
-          let none : S.fault ≡ no_fault = sym (s_is.fault p h) ∙ ap fault_in q in
-          let counts : c ≡ S.count = sym (ap count_in q) ∙ s_is.count_is p h ∙ omega arith in
-          (λ i. record { number = 0; place = 0; line = 0; cell = 0; steps = 1; count = counts i; grid = s_is.next_is (ap fault_in q) p h i })
+          let none : S.fault ≡ no_fault = sym (s_is.fault p h) ∙ ap fault_told q in
+          let counts : r.count ≡ S.count = s_is.count_is p h ∙ omega arith in
+          (λ i. record { number = 0; place = 0; line = 0; cell = 0; steps = 1; count = counts i; grid = s_is.next_is (ap fault_told q) p h i })
           ∙ ap (λ (a : Fault). band_ended (b.first * row_cells sizes) (length room₀) a S) (sym none);
     }
 
     -- the faulting cell is one of the band's
-    pub fault_inside : {c k q m : ℕ} → r ≡ Gives.Fault c k q m → b.first * row + c ≤ 1048576
-    fault_inside {c} {k} {q} {m} z =
-        let counts : m ≡ 0 + suc c = sym (ap count_in z) ∙ s_is.evaluated ∙ ap (λ (a : Fault). 0 + reached (rows_in b * row_cells sizes) a) (ap fault_in z) in
-        let most : m ≤ 0 + rows_in b * row_cells sizes = subst (λ (y : Step). count_in y ≤ 0 + rows_in b * row_cells sizes) z s_is.counted in
+    pub fault_inside : {f : CellFault} → r.outcome ≡ Err f → b.first * row + f.cell ≤ 1048576
+    fault_inside {f} z =
+        let counts : r.count ≡ 0 + suc f.cell = s_is.evaluated ∙ ap (λ (a : Fault). 0 + reached (rows_in b * row_cells sizes) a) (ap fault_told z) in
+        let most : r.count ≤ 0 + rows_in b * row_cells sizes = s_is.counted in
         omega (arith, cells_inside, ap (λ (y : ℕ). rows_in b * y) x.row_is)
 
-    pub lent_fault : (room₀ : List ℤ) {c k q m d : ℕ} {next' : List ℤ} → r ≡ Gives.Fault c k q m → d ≡ b.first * row + c → (j : ℕ) → next' ≡ replicate j (pos 0) → j ≡ length room₀
-        → LentStepped words rule sizes border b rows room₀ time (record { number = k; place = q; line = 0; cell = d; steps = 0; count = m }) next'
-    lent_fault room₀ {c} {k} {q} {m} {d} {next'} z at j zeros size = record {
+    pub lent_fault : (room₀ : List ℤ) {f : CellFault} {d : ℕ} {next' : List ℤ} → r.outcome ≡ Err f → d ≡ b.first * row + f.cell → (j : ℕ) → next' ≡ replicate j (pos 0) → j ≡ length room₀
+        → LentStepped words rule sizes border b rows room₀ time (record { number = f.fault.number; place = f.fault.place; line = 0; cell = d; steps = 0; count = r.count }) next'
+    lent_fault room₀ {f} {d} {next'} z at j zeros size = record {
       says = λ p h.
           let S = stepped_by p rule.fields sizes border b rows time in
-          let is : S.fault ≡ fault_at c k q = sym (s_is.fault p h) ∙ ap fault_in z in
-          let counts : m ≡ S.count = sym (ap count_in z) ∙ s_is.count_is p h ∙ omega arith in
-          let cell : d ≡ b.first * row_cells sizes + c = at ∙ ap (λ (y : ℕ). b.first * y + c) x.row_is in
-          (λ i. record { number = k; place = q; line = 0; cell = cell i; steps = 0; count = counts i; grid = (zeros ∙ ap (λ (n : ℕ). replicate n (pos 0)) size) i })
+          let is : S.fault ≡ fault_at f.cell f.fault.number f.fault.place = sym (s_is.fault p h) ∙ ap fault_told z in
+          let counts : r.count ≡ S.count = s_is.count_is p h ∙ omega arith in
+          let cell : d ≡ b.first * row_cells sizes + f.cell = at ∙ ap (λ (y : ℕ). b.first * y + f.cell) x.row_is in
+          (λ i. record { number = f.fault.number; place = f.fault.place; line = 0; cell = cell i; steps = 0; count = counts i; grid = (zeros ∙ ap (λ (n : ℕ). replicate n (pos 0)) size) i })
           ∙ ap (λ (a : Fault). band_ended (b.first * row_cells sizes) (length room₀) a S) (sym is);
     }
 

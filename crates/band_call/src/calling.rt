@@ -18,7 +18,6 @@ use cell_leaves::fill_leaves;
 use program::Rule;
 use program::reply::{Reason, Refusal};
 use run_admission::out_of_field;
-use run_step::Step;
 use run_step::rows::step_rows;
 use run_steps::Report;
 use spelling::is_built_in;
@@ -115,24 +114,24 @@ fn step_lent(
         time,
         0,
     );
-    match step {
-        Step::Done(count) => Report {
+    match step.outcome {
+        Ok(()) => Report {
             number: 0,
             place: 0,
             line: 0,
             cell: 0,
             steps: 1,
-            count,
+            count: step.count,
         },
-        Step::Fault(cell, number, place, count) => {
+        Err(stop) => {
             room.fill(0);
             Report {
-                number,
-                place,
+                number: stop.fault.number,
+                place: stop.fault.place,
                 line: 0,
-                cell: band.first * row as u32 + cell,
+                cell: band.first * row as u32 + stop.cell,
                 steps: 0,
-                count,
+                count: step.count,
             }
         }
     }

@@ -11,6 +11,7 @@ use lib.ListN.{length, get_or, drop}
 use lib.Dec.{eqb, leb}
 use lib.IntN.{ℤ}
 use borrow.Author.Tests.{eqb-true, leb-true}
+use Rattle.std.specs.Prelude.{⊤, Ok, Err}
 use Rattle.value.specs.Promises.Buffers.{most_room}
 use Rattle.value.proofs.Theorems.Laws.{and_both}
 use Rattle.automaton.specs.Step.{Outcome, result, fault, Fault, no_fault, fault_at, fault_of, first_fault, how_many, marked, up_to, quiet_step}
@@ -26,8 +27,8 @@ use Rattle.run_meaning.specs.Reach.{running}
 use Rattle.band_meaning.specs.Plans.{band, before_others, bands_in, accepts_some, plan_right}
 use Rattle.run_marked_cells.proofs.ScanLaws.{below_or}
 use Rattle.run_step.specs.declared.Step.{Step}
-use Rattle.run_step.specs.declared.Step.TheVariants as Gives
-use Rattle.run_step.specs.Promises.Stepping.{fault_in, count_in}
+use Rattle.run_step.specs.declared.CellFault.{CellFault}
+use Rattle.run_step.specs.Promises.Stepping.{fault_told, fault_in}
 use Rattle.run_step.specs.Promises.Turns.{given, FilledFor}
 use Rattle.run_step.proofs.FillLaws.{skip_fault, outcome, of_marked, cells_are}
 use Rattle.band_step.specs.Promises.Bandwise.{Grounds, BandFits, BandEvaluated, AllEvaluated, PlanRuns, AllMarked}
@@ -127,40 +128,40 @@ module _ (Held : Program → Type 0) (rule : Rule) (sizes : List ℕ) (grid : Li
   reached_start i scratch e = rw e (record { clear = λ p h. refl; total_is = omega arith; next = λ p h c l. absurd (omega arith) })
 
   module _ (i cells total : ℕ) (scratch scratch' : List ℤ) {r : Step} (w : Reached i total scratch) (b : BandEvaluated Held rule sizes i cells grid scratch time total r scratch') where
-    pub reached_more : {n j : ℕ} → r ≡ Gives.Done n → i + cells ≡ j → Reached j n scratch'
-    reached_more {n} {j} e q = rw (sym q) (record {
+    pub reached_more : {j : ℕ} → fault_in r ≡ no_fault → i + cells ≡ j → Reached j r.count scratch'
+    reached_more {j} clean q = rw (sym q) (record {
       clear = λ p h. skip_fault (gives p) i (i + cells) (omega arith) (w.clear p h) (λ c l m. rw (at p h c (inr l) m) refl);
-      total_is = let s = sym (ap count_in e) ∙ b.count_is ∙ ap (λ (a : Fault). total + reached cells a) none in let t = w.total_is in omega arith;
+      total_is = let s = b.count_is ∙ ap (λ (a : Fault). total + reached cells a) clean in let t = w.total_is in omega arith;
       next = λ p h c l. at p h c (below_or c i) l;
     })
       where
-        none : fault_in r ≡ no_fault
-        none = ap fault_in e
-
         at : (p : Program) → Held p → (c : ℕ) → (c < i) ⊎ (i ≤ c) → c < i + cells → gives p c ≡ result (cell_of rule.fields scratch' c)
         at p h c (inl m) l = w.next p h c m ∙ ap (λ (x : List ℤ). result x) (sym (b.kept c m))
         at p h c (inr m) l =
             let same : i + (c - i) ≡ c = omega arith in
-            subst (λ (x : ℕ). gives p x ≡ result (cell_of rule.fields scratch' x)) same (b.next none p h (c - i) (omega arith))
+            subst (λ (x : ℕ). gives p x ≡ result (cell_of rule.fields scratch' x)) same (b.next clean p h (c - i) (omega arith))
 
-    pub reached_stop : {c k q n d : ℕ} → r ≡ Gives.Fault c k q n → i + cells ≤ product sizes → d ≡ i + c → AllEvaluated Held rule sizes grid time count (Gives.Fault d k q n) scratch'
-    reached_stop {c} {k} {q} {n} {d} e l at = rw at (record {
-      fault = λ p h. sym (first p h);
-      count_is = let s = sym (ap count_in e) ∙ b.count_is ∙ ap (λ (a : Fault). total + reached cells a) (ap fault_in e) in let t = w.total_is in omega arith;
-      counted = let s = subst (λ (x : Step). count_in x ≤ total + cells) e b.counted in let t = w.total_is in omega arith;
-      next = λ none. absurd (let z : ◌≡◌ {A = ℕ} 0 1 = cc in omega arith);
-    })
+    pub reached_stop : {c k q : ℕ} → fault_in r ≡ fault_at c k q → i + cells ≤ product sizes → {s : Step} → s.count ≡ r.count → fault_in s ≡ fault_at (i + c) k q → AllEvaluated Held rule sizes grid time count s scratch'
+    reached_stop {c} {k} {q} e l {s} same is = record {
+      fault = λ p h. is ∙ sym (first p h);
+      count_is = all ∙ ap (λ (a : Fault). count + reached (product sizes) a) (sym is);
+      counted = let y = same in let x = b.counted in let t = w.total_is in omega arith;
+      next = λ none. absurd (let y = sym is ∙ none in let z : ◌≡◌ {A = ℕ} 0 1 = cc in omega arith);
+    }
       where
+        all : s.count ≡ count + suc (i + c)
+        all = let x = same ∙ b.count_is ∙ ap (λ (a : Fault). total + reached cells a) e in let t = w.total_is in omega arith
+
         first : (p : Program) → Held p → first_fault (gives p) (product sizes) ≡ fault_at (i + c) k q
         first p h =
-            let f = first_fault_at (λ j. gives p (i + j)) cells c k q (sym (b.fault p h) ∙ ap fault_in e) in
+            let f = first_fault_at (λ j. gives p (i + j)) cells c k q (sym (b.fault p h) ∙ e) in
             first_fault_here (gives p) (product sizes) (i + c) k q
             (skip_fault (gives p) i (i + c) (omega arith) (w.clear p h) (λ x u v.
             let same : i + (x - i) ≡ x = omega arith in
             subst (λ (y : ℕ). fault_of y (gives p y) ≡ no_fault) same (fault_any (x - i) (i + (x - i)) (gives p (i + (x - i))) (f.2 (x - i) (omega arith)))))
             f.1 (omega (arith, f.0))
 
-  pub reached_done : (i total : ℕ) (scratch : List ℤ) → Reached i total scratch → i ≡ product sizes → AllEvaluated Held rule sizes grid time count (Gives.Done total) scratch
+  pub reached_done : (i total : ℕ) (scratch : List ℤ) → Reached i total scratch → i ≡ product sizes → AllEvaluated Held rule sizes grid time count (record { count = total; outcome = Ok tt }) scratch
   reached_done i total scratch w e = record {
     fault = λ p h. sym (ap (first_fault (gives p)) (sym e) ∙ w.clear p h);
     count_is = w.total_is ∙ ap (λ (x : ℕ). count + x) e;
@@ -232,33 +233,34 @@ module _ {leaves words : List ℕ} {rule : Rule} {sizes shape : List ℕ} {row :
         from_here =
             subst (λ (x : ℕ). BandEvaluated Held rule sizes (x * row) ((suc (get_or plan (suc k) 0) - get_or plan k 0) * row) grid scratch time total r scratch') under_next.begins (rw e at b)
 
-        pub under_more : {room' : List ℤ} {n k' : ℕ} → length scratch' ≡ length scratch → length room' ≡ length room → r ≡ Gives.Done n → k' ≡ suc (suc k) → Underway Held rule sizes shape row border plan grid scratch₀ room₀ time count k' n scratch' room'
-        under_more {room'} {n} {k'} size room_size q s =
+        pub under_more : {room' : List ℤ} {k' : ℕ} {done : ⊤} → length scratch' ≡ length scratch → length room' ≡ length room → r.outcome ≡ Ok done → k' ≡ suc (suc k) → Underway Held rule sizes shape row border plan grid scratch₀ room₀ time count k' r.count scratch' room'
+        under_more {room'} {k'} {done} size room_size q s =
             let m = under_next in
             rw s (record {
               from = suc (get_or plan (suc k) 0);
               left = m.left;
-              cells = reached_more Held rule sizes grid time count (u.from * row) _ total scratch scratch' u.cells from_here q (behind m.begins m.order);
+              cells = reached_more Held rule sizes grid time count (u.from * row) _ total scratch scratch' u.cells from_here (ap fault_told q) (behind m.begins m.order);
               scratch_size = size ∙ u.scratch_size;
               room_size = room_size ∙ u.room_size;
             })
 
         -- the faulting cell's number is small
-        pub under_cell : {c j q n : ℕ} → r ≡ Gives.Fault c j q n → get_or plan k 0 * row + c ≤ 1048576
-        under_cell {c} {j} {q} {n} s =
+        pub under_cell : {f : CellFault} → r.outcome ≡ Err f → get_or plan k 0 * row + f.cell ≤ 1048576
+        under_cell {f} s =
             let m = under_next in
-            let x : n ≡ total + suc c = sym (ap count_in s) ∙ from_here.count_is ∙ ap (λ (a : Fault). total + reached ((suc (get_or plan (suc k) 0) - get_or plan k 0) * row) a) (ap fault_in s) in
-            let y = subst (λ (z : Step). count_in z ≤ total + (suc (get_or plan (suc k) 0) - get_or plan k 0) * row) s from_here.counted in
+            let x : r.count ≡ total + suc f.cell = from_here.count_is ∙ ap (λ (a : Fault). total + reached ((suc (get_or plan (suc k) 0) - get_or plan k 0) * row) a) (ap fault_told s) in
+            let y = from_here.counted in
             let z = ap (λ (a : ℕ). a * row) m.begins in
             omega (arith, behind m.begins m.order, fits_in m.inside, g.shaped.cells)
 
-        pub under_stop : {c j q n d : ℕ} → r ≡ Gives.Fault c j q n → d ≡ get_or plan k 0 * row + c → AllEvaluated Held rule sizes grid time count (Gives.Fault d j q n) scratch'
-        under_stop {c} {j} {q} {n} {d} s t =
+        pub under_stop : {f : CellFault} → r.outcome ≡ Err f
+            → AllEvaluated Held rule sizes grid time count (record { count = r.count; outcome = Err (record { cell = get_or plan k 0 * row + f.cell; fault = f.fault }) }) scratch'
+        under_stop {f} s =
             let m = under_next in
-            reached_stop Held rule sizes grid time count (u.from * row) _ total scratch scratch' u.cells from_here s
-            (subst (λ (x : ℕ). x ≤ product sizes) (sym (behind m.begins m.order)) (fits_in m.inside)) (t ∙ ap (λ (x : ℕ). x * row + c) m.begins)
+            reached_stop Held rule sizes grid time count (u.from * row) _ total scratch scratch' u.cells from_here (ap fault_told s)
+            (subst (λ (x : ℕ). x ≤ product sizes) (sym (behind m.begins m.order)) (fits_in m.inside)) refl (ap (λ (x : ℕ). fault_at (x * row + f.cell) f.fault.number f.fault.place) m.begins)
 
-    pub under_done : length plan ≤ k → AllEvaluated Held rule sizes grid time count (Gives.Done total) scratch
+    pub under_done : length plan ≤ k → AllEvaluated Held rule sizes grid time count (record { count = total; outcome = Ok tt }) scratch
     under_done l =
         reached_done Held rule sizes grid time count (u.from * row) total scratch u.cells
         (ap (λ (x : ℕ). x * row) (plan_end (get_or sizes 0 0) border (get_or shape 0 0) u.from plan k l u.left) ∙ sym (grid_rows g))

@@ -7,7 +7,7 @@ ghost use Rattle.band_step.specs.Promises.Bandwise.{Bordered, Grounds, BandFits,
 use crate::lending::fill_room;
 use program::Rule;
 use run_marked_cells::exchange::exchange_marked;
-use run_step::Step;
+use run_step::{CellFault, Step};
 use run_step::rows::step_rows;
 use value::limits::LEAF_WORDS;
 
@@ -83,17 +83,22 @@ fn evaluate_bands(
             leaves, words, rule, sizes, shape, row, before, behind, first, last, grid, scratch,
             room, time, total,
         );
-        match band {
-            Step::Done(n) => {
-                total = n;
-            }
-            Step::Fault(cell, number, at, n) => {
-                return Step::Fault((first * row) as u32 + cell, number, at, n);
-            }
+        if let Err(stop) = band.outcome {
+            return Step {
+                count: band.count,
+                outcome: Err(CellFault {
+                    cell: (first * row) as u32 + stop.cell,
+                    fault: stop.fault,
+                }),
+            };
         }
+        total = band.count;
         k += 2;
     }
-    Step::Done(total)
+    Step {
+        count: total,
+        outcome: Ok(()),
+    }
 }
 
 // One step of a grid under an accepted plan, at a given time, made of steps of its bands. `row` is the number of cells of a row, `before` and `behind` are
@@ -123,11 +128,8 @@ pub fn step_under(
         leaves, words, rule, sizes, shape, row, before, behind, plan, grid, scratch, room, time,
         count,
     );
-    match done {
-        Step::Done(n) => {
-            exchange_marked(grid, scratch, marks, rule.fields as usize);
-            Step::Done(n)
-        }
-        Step::Fault(cell, number, at, n) => Step::Fault(cell, number, at, n),
+    if done.outcome.is_ok() {
+        exchange_marked(grid, scratch, marks, rule.fields as usize);
     }
+    done
 }

@@ -19,12 +19,15 @@ use Rattle.program.specs.declared.Rule.{Rule}
 use Rattle.cell_meaning.specs.Promises.Stands.{Holds}
 use Rattle.run_meaning.specs.Reach.{running}
 use Rattle.run_meaning.specs.Promises.Fitting.{held_fields}
-use Rattle.run_step.specs.declared.Evaluation.TheVariants as Gave
-use Rattle.run_step.specs.declared.Step.TheVariants as Gives
+use Rattle.std.specs.Prelude.{⊤, Ok, Err}
+use Rattle.program.specs.Refusal.{Refusal}
+use Rattle.cell_statements.specs.Promises.Running as running_of
+use Rattle.cell_statements.specs.Promises.Running.{outcome_is}
+use Rattle.run_step.specs.declared.Step.{Step}
 use Rattle.run_step.specs.declared.Evaluation.{Evaluation}
-use Rattle.run_step.specs.Promises.Stepping.{StepReady}
+use Rattle.run_step.specs.Promises.Stepping.{fault_in, StepReady}
 use Rattle.run_marked_cells.specs.Promises.Marked.{NextMarked, PointSet}
-use Rattle.run_step.specs.Promises.Turns.{given, outcome_in, count_after, Turning, CellTurned, FilledFor}
+use Rattle.run_step.specs.Promises.Turns.{given, Turning, CellTurned, FilledFor}
 use Rattle.run_marked_cells.proofs.ScanLaws.{below_or}
 use Rattle.run_step.proofs.TurnLaws.{roomed}
 
@@ -116,57 +119,58 @@ module _ (sizes : List ℕ) (grid : List ℤ) (marks : List ℕ) (time : ℕ) wh
           by p h c l m (inl q) = f.next p h c q m
           by p h c l m (inr q) = absurd (let e : true ≡ false = sym m ∙ n.skipped c q l in let z : ◌≡◌ {A = ℕ} 0 1 = cc in omega arith)
 
-      module _ (i total : ℕ) (scratch scratch' : List ℤ) {r : Evaluation} (f : Filling Held rule old count i total scratch) (is_on : marked marks i ≡ true)
+      module _ (i total : ℕ) (scratch scratch' : List ℤ) {r : Evaluation} (g : Filling Held rule old count i total scratch) (is_on : marked marks i ≡ true)
           (w : CellTurned words rule sizes i i grid scratch scratch' time total r) where
         other : (c : ℕ) → marked marks c ≡ false → c ≡ i → ⊥
         other c m q = let e : true ≡ false = sym is_on ∙ ap (marked marks) (sym q) ∙ m in let z : ◌≡◌ {A = ℕ} 0 1 = cc in omega arith
 
         still : (c : ℕ) → marked marks c ≡ false → cell_of rule.fields scratch' c ≡ cell_of rule.fields old c
-        still c m = w.kept c (other c m) ∙ f.kept c m
+        still c m = w.kept c (other c m) ∙ g.kept c m
 
         -- one more cell is counted
         one_more : how_many (marked marks) (suc i) ≡ how_many (marked marks) i + 1
         unfolding how_many
         one_more = rw is_on refl
 
-        pub fill_turn : {n : ℕ} → r ≡ Gave.Done n → Filling Held rule old count (i + 1) n scratch'
+        pub fill_turn : {n : ⊤} → r.outcome ≡ Ok n → Filling Held rule old count (i + 1) r.count scratch'
         unfolding first_fault
         fill_turn {n} e = rw (add-one i) (record {
-          clear = λ p h. rw (f.clear p h, of_marked p h i is_on, sym (here p h)) refl;
-          counted = let a = ap count_after (sym e) ∙ w.count_is in let b = f.counted in let s = one_more in omega arith;
+          clear = λ p h. rw (g.clear p h, of_marked p h i is_on, sym (here p h)) refl;
+          counted = let a = w.count_is in let b = g.counted in let s = one_more in omega arith;
           next = λ p h c l m. by p h c (last_or_below l) m;
           kept = still;
         })
           where
             here : (p : Program) → Held p → result (cell_of rule.fields scratch' i) ≡ given p rule.fields sizes grid time i
-            here p h = ap (λ (x : Evaluation). outcome_in x (cell_of rule.fields scratch' i)) (sym e) ∙ w.says p (holds p h)
+            here p h = ap (λ (x : running_of.Outcome). outcome_is x (cell_of rule.fields scratch' i)) (sym e) ∙ w.says p (holds p h)
 
             by : (p : Program) → Held p → (c : ℕ) → (c ≡ i) ⊎ (c < i) → marked marks c ≡ true
                 → given p rule.fields sizes grid time c ≡ result (cell_of rule.fields scratch' c)
             by p h c (inl q) m = subst (λ (x : ℕ). given p rule.fields sizes grid time x ≡ result (cell_of rule.fields scratch' x)) (sym q) (sym (here p h))
-            by p h c (inr q) m = f.next p h c q m ∙ ap (λ (a : List ℤ). result a) (sym (w.kept c (λ k. absurd (let u = k in omega arith))))
+            by p h c (inr q) m = g.next p h c q m ∙ ap (λ (a : List ℤ). result a) (sym (w.kept c (λ k. absurd (let u = k in omega arith))))
 
-        pub fill_stop : {k q n : ℕ} → r ≡ Gave.Fault k q n → i < product sizes → FilledFor Held rule sizes grid old marks time count (Gives.Fault i k q n) scratch'
+        pub fill_stop : {f : Refusal} → r.outcome ≡ Err f → i < product sizes → {s : Step} → s.count ≡ r.count → fault_in s ≡ fault_at i f.number f.place
+            → FilledFor Held rule sizes grid old marks time count s scratch'
         unfolding quiet_step
-        fill_stop {k} {q} {n} e l = record {
-          fault = λ p h. sym (first p h);
-          count_is = λ p h. all ∙ ap (λ (a : Fault). count + how_many (marked marks) (up_to (running p sizes) a)) (sym (first p h));
-          counted = let a = all in let s = one_more in omega (arith, how_many_le (marked marks) i);
-          next = λ none. absurd (let z : ◌≡◌ {A = ℕ} 0 1 = cc in omega arith);
+        fill_stop {f} e l {s} same is = record {
+          fault = λ p h. is ∙ sym (first p h);
+          count_is = λ p h. same ∙ all ∙ ap (λ (a : Fault). count + how_many (marked marks) (up_to (running p sizes) a)) (sym (first p h));
+          counted = let a = same ∙ all in let o = one_more in omega (arith, how_many_le (marked marks) i);
+          next = λ none. absurd (let y = sym is ∙ none in let z : ◌≡◌ {A = ℕ} 0 1 = cc in omega arith);
           kept = λ c m. still c;
         }
           where
-            here : (p : Program) → Held p → outcome p i ≡ fault k q
-            here p h = of_marked p h i is_on ∙ sym (ap (λ (x : Evaluation). outcome_in x (cell_of rule.fields scratch' i)) (sym e) ∙ w.says p (holds p h))
+            here : (p : Program) → Held p → outcome p i ≡ fault f.number f.place
+            here p h = of_marked p h i is_on ∙ sym (ap (λ (x : running_of.Outcome). outcome_is x (cell_of rule.fields scratch' i)) (sym e) ∙ w.says p (holds p h))
 
-            first : (p : Program) → Held p → first_fault (outcome p) (running p sizes).cells ≡ fault_at i k q
-            first p h = first_fault_here (outcome p) (running p sizes).cells i k q (f.clear p h) (here p h) (rw (cells_are p) l)
+            first : (p : Program) → Held p → first_fault (outcome p) (running p sizes).cells ≡ fault_at i f.number f.place
+            first p h = first_fault_here (outcome p) (running p sizes).cells i f.number f.place (g.clear p h) (here p h) (rw (cells_are p) l)
 
-            all : n ≡ count + how_many (marked marks) (suc i)
-            all = let a = ap count_after (sym e) ∙ w.count_is in let b = f.counted in let s = one_more in omega arith
+            all : r.count ≡ count + how_many (marked marks) (suc i)
+            all = let a = w.count_is in let b = g.counted in let o = one_more in omega arith
 
       pub fill_done : (i total : ℕ) (scratch : List ℤ) → Filling Held rule old count i total scratch → product sizes ≤ i → i ≤ product sizes
-          → FilledFor Held rule sizes grid old marks time count (Gives.Done total) scratch
+          → FilledFor Held rule sizes grid old marks time count (record { count = total; outcome = Ok tt }) scratch
       unfolding quiet_step
       fill_done i total scratch f l m = record {
         fault = λ p h. sym (first p h);

@@ -10,7 +10,7 @@ use lib.ListN.{length, get_or, drop, take}
 use lib.Seq.{length-take-le}
 use lib.IntN.{ℤ}
 use Rattle.automaton.specs.Promises.ListedLaws.{last_or_below}
-use Rattle.automaton.specs.Step.{Outcome, result, Fault, no_fault, state_or, first_fault}
+use Rattle.automaton.specs.Step.{Outcome, result, Fault, no_fault, fault_at, state_or, first_fault}
 use Rattle.automaton.proofs.Theorems.Quiet.{first_fault_here}
 use Rattle.automaton.specs.Shape.{product}
 use Rattle.automaton.specs.Grid.{cell_of}
@@ -21,11 +21,14 @@ use Rattle.program.specs.declared.Rule.{Rule}
 use Rattle.cell_meaning.specs.Promises.Stands.{Holds}
 use Rattle.run_marked_cells.specs.Promises.Marked.{PointSet, Moving}
 use Rattle.run_marked_cells.proofs.PartLaws.{flat_ext}
-use Rattle.run_step.specs.declared.Evaluation.TheVariants as Gave
+use Rattle.std.specs.Prelude.{⊤, Ok, Err}
+use Rattle.program.specs.Refusal.{Refusal}
+use Rattle.cell_statements.specs.Promises.Running as running_of
+use Rattle.cell_statements.specs.Promises.Running.{outcome_is}
 use Rattle.run_step.specs.declared.Evaluation.{Evaluation}
 use Rattle.run_step.specs.declared.Step.{Step}
-use Rattle.run_step.specs.declared.Step.TheVariants as Gives
-use Rattle.run_step.specs.Promises.Turns.{given, outcome_in, count_after, Turning, CellTurned}
+use Rattle.run_step.specs.Promises.Stepping.{fault_in}
+use Rattle.run_step.specs.Promises.Turns.{given, Turning, CellTurned}
 use Rattle.run_step.specs.Promises.Rows.{CellsReady, CellsStepped, RowsReady, RowsStepped}
 
 -- ---- cells in rising order
@@ -84,33 +87,34 @@ module _ (words : List ℕ) (rule : Rule) (sizes : List ℕ) (from : ℕ) (grid 
         }
 
   module _ (i total : ℕ) (next next' : List ℤ) {r : Evaluation} (w : Rowing i total next) (t : CellTurned words rule sizes (from + i) i grid next next' time total r) where
-    pub rowing_turn : {n : ℕ} → r ≡ Gave.Done n → Rowing (i + 1) n next'
+    pub rowing_turn : {n : ⊤} → r.outcome ≡ Ok n → Rowing (i + 1) r.count next'
     unfolding first_fault
     rowing_turn {n} e = rw (add-one i) (record {
       clear = λ p h. rw (w.clear p h, sym (here p h)) refl;
-      counted = let a = ap count_after (sym e) ∙ t.count_is in let b = w.counted in omega arith;
+      counted = let a = t.count_is in let b = w.counted in omega arith;
       done = λ p h c l. by p h c (last_or_below l);
     })
       where
         here : (p : Program) → Holds words rule p → result (cell_of rule.fields next' i) ≡ gives p i
-        here p h = ap (λ (x : Evaluation). outcome_in x (cell_of rule.fields next' i)) (sym e) ∙ t.says p h
+        here p h = ap (λ (x : running_of.Outcome). outcome_is x (cell_of rule.fields next' i)) (sym e) ∙ t.says p h
 
         by : (p : Program) → Holds words rule p → (c : ℕ) → (c ≡ i) ⊎ (c < i) → gives p c ≡ result (cell_of rule.fields next' c)
         by p h c (inl q) = subst (λ (x : ℕ). gives p x ≡ result (cell_of rule.fields next' x)) (sym q) (sym (here p h))
         by p h c (inr q) = w.done p h c q ∙ ap (λ (a : List ℤ). result a) (sym (t.kept c (λ k. absurd (let u = k in omega arith))))
 
-    pub rowing_stop : {cells k q n : ℕ} → r ≡ Gave.Fault k q n → i < cells → CellsStepped words rule sizes from cells grid time count (Gives.Fault i k q n) next'
-    rowing_stop {cells} {k} {q} {n} e l = record {
-      fault = λ p h. sym (first_fault_here (gives p) cells i k q (w.clear p h) (sym (ap (λ (x : Evaluation). outcome_in x (cell_of rule.fields next' i)) (sym e) ∙ t.says p h)) l);
-      count_is = all;
-      counted = let a = all in omega arith;
-      next = λ none. absurd (let z : ◌≡◌ {A = ℕ} 0 1 = cc in omega arith);
+    pub rowing_stop : {cells : ℕ} {f : Refusal} → r.outcome ≡ Err f → i < cells → {s : Step} → s.count ≡ r.count → fault_in s ≡ fault_at i f.number f.place
+        → CellsStepped words rule sizes from cells grid time count s next'
+    rowing_stop {cells} {f} e l {s} same is = record {
+      fault = λ p h. is ∙ sym (first_fault_here (gives p) cells i f.number f.place (w.clear p h) (sym (ap (λ (x : running_of.Outcome). outcome_is x (cell_of rule.fields next' i)) (sym e) ∙ t.says p h)) l);
+      count_is = same ∙ all ∙ ap (λ (a : Fault). count + reached cells a) (sym is);
+      counted = let a = same ∙ all in omega arith;
+      next = λ none. absurd (let y = sym is ∙ none in let z : ◌≡◌ {A = ℕ} 0 1 = cc in omega arith);
     }
       where
-        all : n ≡ count + suc i
-        all = let a = ap count_after (sym e) ∙ t.count_is in let b = w.counted in omega arith
+        all : r.count ≡ count + suc i
+        all = let a = t.count_is in let b = w.counted in omega arith
 
-  pub rowing_done : (cells i total : ℕ) (next : List ℤ) → Rowing i total next → i ≤ cells → cells ≤ i → CellsStepped words rule sizes from cells grid time count (Gives.Done total) next
+  pub rowing_done : (cells i total : ℕ) (next : List ℤ) → Rowing i total next → i ≤ cells → cells ≤ i → CellsStepped words rule sizes from cells grid time count (record { count = total; outcome = Ok tt }) next
   rowing_done cells i total next w l m =
       let end : i ≡ cells = omega arith in
       let t = w.counted in

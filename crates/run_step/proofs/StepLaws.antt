@@ -1,7 +1,7 @@
 -- What a step comes to: the evaluation of the marked cells, and the exchange.
 use Prim.Native.Nat.{ℕ, ◌+◌, ◌*◌, ◌≤◌, ◌<◌}
 use native.Mathlib.Omega.{arith}
-use mathlib.Core.Path.{◌≡◌, refl, sym, ap, ◌∙◌, subst}
+use mathlib.Core.Path.{◌≡◌, refl, sym, ap, ◌∙◌}
 use mathlib.Core.Bool.{Bool, true, false, cond}
 use mathlib.Core.List.{List}
 use lib.ListN.{length, take}
@@ -18,9 +18,11 @@ use Rattle.cell_meaning.specs.Promises.Stands.{Holds}
 use Rattle.run_meaning.specs.Reach.{running}
 use Rattle.program.specs.Promises.Fitting.{Sized}
 use Rattle.run_meaning.specs.Promises.Fitting.{held_fields}
+use Rattle.std.specs.Prelude.{⊤, Result, Ok, Err}
+use Rattle.std.specs.Result.{is_ok}
+use Rattle.run_step.specs.declared.CellFault.{CellFault}
 use Rattle.run_step.specs.declared.Step.{Step}
-use Rattle.run_step.specs.declared.Step.TheVariants as Gives
-use Rattle.run_step.specs.Promises.Stepping.{fault_in, count_in, StepReady, SteppedFor}
+use Rattle.run_step.specs.Promises.Stepping.{fault_told, fault_in, StepReady, SteppedFor}
 use Rattle.run_marked_cells.specs.Promises.Marked.{NextMarked, PointSet, Moving, Exchanging, Exchanged}
 use Rattle.run_step.specs.Promises.Turns.{FilledFor}
 use Rattle.run_marked_cells.proofs.PartLaws.{flat_ext}
@@ -60,6 +62,15 @@ exchanging {words} {rule} sized shaped alike all e = record {
   most = sized.fields;
 }
 
+-- an outcome without a fault, and one with a fault
+told_none : (o : Result ⊤ CellFault) → is_ok o ≡ true → fault_told o ≡ no_fault
+told_none (Ok done) e = refl
+told_none (Err f) e = absurd (let z : ◌≡◌ {A = ℕ} 0 1 = cc in omega arith)
+
+faulty : (o : Result ⊤ CellFault) → is_ok o ≡ false → (f : CellFault) × (o ≡ Err f)
+faulty (Ok done) e = absurd (let z : ◌≡◌ {A = ℕ} 0 1 = cc in omega arith)
+faulty (Err f) e = (f, refl)
+
 module _ {words : List ℕ} {rule : Rule} {sizes : List ℕ} {grid scratch : List ℤ} {marks : List ℕ} {time count : ℕ} (shaped : Shaped rule.dims rule.fields most_cells sizes (length grid)) (marks_fit : length marks ≡ product sizes)
     {Held : Program → Type 0} (holds : (p : Program) → Held p → Holds words rule p) {r : Step} {filled : List ℤ} (f : FilledFor Held rule sizes grid scratch marks time count r filled) where
   -- the grid after a step without a fault, by its cells
@@ -75,13 +86,13 @@ module _ {words : List ℕ} {rule : Rule} {sizes : List ℕ} {grid scratch : Lis
   unfolding quiet_step
   after_fault p h e = ap (λ (a : Fault). grid_after (running p sizes) a grid (outcome sizes grid marks time p)) (sym (f.fault p h) ∙ e)
 
-  pub stepped_done : {n : ℕ} {grid' scratch' : List ℤ} → r ≡ Gives.Done n → Exchanged rule.fields marks grid filled grid' → Exchanged rule.fields marks filled grid scratch'
-      → length filled ≡ length scratch → SteppedFor Held rule sizes grid scratch marks time count (Gives.Done n) grid' scratch'
-  stepped_done {n} {grid'} {scratch'} e x y size = record {
-    fault = λ p h. ap fault_in (sym e) ∙ f.fault p h;
+  pub stepped_done : {grid' scratch' : List ℤ} → is_ok r.outcome ≡ true → Exchanged rule.fields marks grid filled grid' → Exchanged rule.fields marks filled grid scratch'
+      → length filled ≡ length scratch → SteppedFor Held rule sizes grid scratch marks time count r grid' scratch'
+  stepped_done {grid'} {scratch'} e x y size = record {
+    fault = f.fault;
     grid_is = λ p h. flat_ext rule.fields (product sizes) grid' _ (x.size ∙ sym shaped.entries) (λ c l. at p h c l (marked marks c) refl) ∙ sym (after_none p h none);
-    count_is = λ p h. ap count_in (sym e) ∙ f.count_is p h;
-    counted = subst (λ (s : Step). count_in s ≤ count + product sizes) e f.counted;
+    count_is = f.count_is;
+    counted = f.counted;
     grid_size = x.size;
     scratch_size = y.size ∙ size;
     kept = λ c l m. x.cells c (in_marks c l) ∙ ap (λ (b : Bool). cond b (cell_of rule.fields filled c) (cell_of rule.fields grid c)) m;
@@ -89,7 +100,7 @@ module _ {words : List ℕ} {rule : Rule} {sizes : List ℕ} {grid scratch : Lis
   }
     where
       none : fault_in r ≡ no_fault
-      none = ap fault_in e
+      none = told_none r.outcome e
 
       in_marks : (c : ℕ) → c < product sizes → c < length marks
       in_marks c l = let m = marks_fit in omega arith
@@ -108,18 +119,20 @@ module _ {words : List ℕ} {rule : Rule} {sizes : List ℕ} {grid scratch : Lis
       before c l true m = y.cells c (in_marks c l) ∙ rw m refl
       before c l false m = y.cells c (in_marks c l) ∙ rw m (f.kept c l m)
 
-  pub stepped_fault : {c k q n : ℕ} → r ≡ Gives.Fault c k q n → length filled ≡ length scratch
-      → SteppedFor Held rule sizes grid scratch marks time count (Gives.Fault c k q n) grid filled
-  stepped_fault {c} {k} {q} {n} e size = record {
-    fault = λ p h. ap fault_in (sym e) ∙ f.fault p h;
-    grid_is = λ p h. sym (after_fault p h (ap fault_in e));
-    count_is = λ p h. ap count_in (sym e) ∙ f.count_is p h;
-    counted = subst (λ (s : Step). count_in s ≤ count + product sizes) e f.counted;
+  pub stepped_fault : is_ok r.outcome ≡ false → length filled ≡ length scratch → SteppedFor Held rule sizes grid scratch marks time count r grid filled
+  stepped_fault e size = record {
+    fault = f.fault;
+    grid_is = λ p h. sym (after_fault p h is);
+    count_is = f.count_is;
+    counted = f.counted;
     grid_size = refl;
     scratch_size = size;
     kept = λ c l m. refl;
-    old = λ no. absurd (let z : ◌≡◌ {A = ℕ} 0 1 = cc in omega arith);
+    old = λ no. absurd (let y = sym is ∙ no in let z : ◌≡◌ {A = ℕ} 0 1 = cc in omega arith);
   }
+    where
+      is : fault_in r ≡ fault_at (faulty r.outcome e).0.cell (faulty r.outcome e).0.fault.number (faulty r.outcome e).0.fault.place
+      is = ap fault_told (faulty r.outcome e).1
 
 -- the same of fewer programs
 pub stepped_of : {Held Held' : Program → Type 0} {rule : Rule} {sizes : List ℕ} {grid scratch : List ℤ} {marks : List ℕ} {time count : ℕ} {r : Step} {grid' scratch' : List ℤ} → ((p : Program) → Held' p → Held p)

@@ -1,7 +1,7 @@
 -- A cell's turn in a step.
 use Prim.Native.Nat.{ℕ, ◌+◌, ◌-◌, ◌*◌, ◌≤◌}
 use native.Mathlib.Omega.{arith}
-use mathlib.Core.Path.{◌≡◌, refl, sym, ap, ◌∙◌}
+use mathlib.Core.Path.{◌≡◌, sym, ap, ◌∙◌}
 use mathlib.Core.List.{List, ◌++◌}
 use lib.ListN.{length, take, drop, length-drop}
 use lib.Seq.{length-take-le}
@@ -10,21 +10,10 @@ use Rattle.value.specs.Limits.{most_cells}
 use Rattle.value.specs.Promises.Buffers.{most_room}
 use Rattle.automaton.specs.Promises.ShapeLaws.{Shaped}
 use Rattle.program.specs.declared.Rule.{Rule}
-use Rattle.std.specs.Prelude.{Ok, Err}
-use Rattle.program.specs.Refusal.{Refusal}
-use Rattle.cell_statements.specs.Promises.Running.{Fit, Outcome, outcome_is, Evaluates}
+use Rattle.cell_statements.specs.Promises.Running.{Fit}
 use Rattle.run_step.specs.declared.Evaluation.{Evaluation}
-use Rattle.run_step.specs.declared.Evaluation.TheVariants as Gave
 use Rattle.run_step.specs.Promises.Turns.{CellsCounted, outcome_in, Turning, CellTurned}
 use Rattle.run_marked_cells.proofs.PartLaws.{part_own, part_kept}
-
--- an evaluated cell, counted
-module _ {words : List ℕ} {rule : Rule} {sizes : List ℕ} {cell : ℕ} {grid next : List ℤ} {time count : ℕ} {r : Outcome} (e : Evaluates words rule sizes cell grid next time r) where
-  pub counted_done : r ≡ Ok tt → CellsCounted words rule sizes cell grid next time count (Gave.Done (count + 1))
-  counted_done q = record { says = λ p h. ap (λ (o : Outcome). outcome_is o next) (sym q) ∙ e.says p h; count_is = refl }
-
-  pub counted_fault : {f : Refusal} → r ≡ Err f → CellsCounted words rule sizes cell grid next time count (Gave.Fault f.number f.place (count + 1))
-  counted_fault q = record { says = λ p h. ap (λ (o : Outcome). outcome_is o next) (sym q) ∙ e.says p h; count_is = refl }
 
 -- a grid is small enough
 pub roomed : {n fields : ℕ} {sizes : List ℕ} {lent : ℕ} → Shaped n fields most_cells sizes lent → Shaped n fields most_room sizes lent

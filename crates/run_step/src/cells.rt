@@ -30,9 +30,9 @@ fn evaluate_counted(
     let outcome = evaluate_cell(
         leaves, words, rule, sizes, point, cell, grid, next, vars, index, time,
     );
-    match outcome {
-        Ok(()) => Evaluation::Done(count + 1),
-        Err(fault) => Evaluation::Fault(fault.number, fault.place, count + 1),
+    Evaluation {
+        count: count + 1,
+        outcome,
     }
 }
 

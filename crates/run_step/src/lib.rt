@@ -6,16 +6,25 @@ mod cells;
 pub mod rows;
 pub mod steps;
 
-// What evaluating one cell returns: the count, one higher; and at a fault its number and place.
-#[derive(Clone, Copy)]
-pub enum Evaluation {
-    Done(u64),
-    Fault(u32, u32, u64),
+use program::reply::Refusal;
+
+// What evaluating one cell returns: the count, one higher; and the outcome, at a fault the fault's number and place.
+#[derive(Clone, Copy, Debug, PartialEq, Eq)]
+pub struct Evaluation {
+    pub count: u64,
+    pub outcome: Result<(), Refusal>,
 }
 
-// What a step returns: the count; and at a fault the cell, and the fault's number and place.
-#[derive(Clone, Copy)]
-pub enum Step {
-    Done(u64),
-    Fault(u32, u32, u32, u64),
+// A fault of a step: the cell, and the fault's number and place.
+#[derive(Clone, Copy, Debug, PartialEq, Eq)]
+pub struct CellFault {
+    pub cell: u32,
+    pub fault: Refusal,
+}
+
+// What a step returns: the count; and the outcome.
+#[derive(Clone, Copy, Debug, PartialEq, Eq)]
+pub struct Step {
+    pub count: u64,
+    pub outcome: Result<(), CellFault>,
 }

@@ -3,7 +3,7 @@ ghost use Rattle.std.specs.Prelude.{◌≡◌, length};
 ghost use Rattle.run_step.specs.Promises.Rows.{CellsReady, CellsStepped, RowsReady, RowsStepped};
 
 use crate::cells::evaluate_into;
-use crate::{Evaluation, Step};
+use crate::{CellFault, Step};
 use program::Rule;
 use run_marked_cells::points::{move_point, set_point};
 use value::limits::{LEAF_WORDS, MOST_DIMS, MOST_NAMES, MOST_OPEN};
@@ -47,18 +47,23 @@ fn evaluate_cells(
             time,
             total,
         );
-        match turn {
-            Evaluation::Done(n) => {
-                total = n;
-            }
-            Evaluation::Fault(number, at, n) => {
-                return Step::Fault(i as u32, number, at, n);
-            }
+        if let Err(fault) = turn.outcome {
+            return Step {
+                count: turn.count,
+                outcome: Err(CellFault {
+                    cell: i as u32,
+                    fault,
+                }),
+            };
         }
+        total = turn.count;
         move_point(sizes, from + i, from + i + 1, point);
         i += 1;
     }
-    Step::Done(total)
+    Step {
+        count: total,
+        outcome: Ok(()),
+    }
 }
 
 // One step of a band, at a given time, by the rows that it is passed: `before` border rows, the `own` rows of the band, and those after them. They are a

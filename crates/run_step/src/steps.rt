@@ -4,7 +4,7 @@ ghost use Rattle.run_step.specs.Promises.Turns.{Filled};
 ghost use Rattle.run_step.specs.Promises.Stepping.{StepReady, Stepped};
 
 use crate::cells::evaluate_open;
-use crate::{Evaluation, Step};
+use crate::{CellFault, Step};
 use program::Rule;
 use run_marked_cells::exchange::exchange_marked;
 use run_marked_cells::points::{move_point, set_point};
@@ -36,19 +36,24 @@ fn evaluate_marked(
         let turn = evaluate_open(
             leaves, words, rule, sizes, point, cell, old, new, marks, vars, index, time, total,
         );
-        match turn {
-            Evaluation::Done(n) => {
-                total = n;
-            }
-            Evaluation::Fault(number, at, n) => {
-                return Step::Fault(cell as u32, number, at, n);
-            }
+        if let Err(fault) = turn.outcome {
+            return Step {
+                count: turn.count,
+                outcome: Err(CellFault {
+                    cell: cell as u32,
+                    fault,
+                }),
+            };
         }
+        total = turn.count;
         let after = next_marked(marks, cell + 1);
         move_point(sizes, cell, after, point);
         cell = after;
     }
-    Step::Done(total)
+    Step {
+        count: total,
+        outcome: Ok(()),
+    }
 }
 
 // One step, at a given time: the marked cells (their mark is not 0) get what evaluating them on the old grid returns, all at once, and `scratch` is left
@@ -85,11 +90,8 @@ pub fn step(
         time,
         count,
     );
-    match done {
-        Step::Done(n) => {
-            exchange_marked(grid, scratch, marks, rule.fields as usize);
-            Step::Done(n)
-        }
-        Step::Fault(cell, number, at, n) => Step::Fault(cell, number, at, n),
+    if done.outcome.is_ok() {
+        exchange_marked(grid, scratch, marks, rule.fields as usize);
     }
+    done
 }

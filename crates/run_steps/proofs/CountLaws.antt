@@ -16,7 +16,9 @@ use Rattle.run_meaning.specs.declared.Bounds.{Bounds}
 use Rattle.run_meaning.specs.declared.Reach.{Reach}
 use Rattle.run_meaning.specs.Reach.{running}
 use Rattle.run_step.specs.declared.Step.{Step}
-use Rattle.run_step.specs.declared.Step.TheVariants as Gives
+use Rattle.std.specs.Prelude.{⊤, Ok, Err}
+use Rattle.run_step.specs.declared.CellFault.{CellFault}
+use Rattle.run_step.specs.Promises.Stepping.{fault_told}
 use Rattle.run_step.specs.Promises.Stepping.{SteppedFor}
 use Rattle.run_row_counts.specs.Promises.Counting.{Countable, Movable}
 use Rattle.run_steps.specs.Promises.Blockwise.{Next, is_due, DueSet}
@@ -55,22 +57,19 @@ module _ {words : List ℕ} {rule : Rule} {sizes : List ℕ} {r : Reach} {grid�
   }
 
   -- the counts for a step that did not fault
-  pub movable : {Held : Program → Type 0} {grid scratch grid' scratch' : List ℤ} {marks counts : List ℕ} {time count done : ℕ} {said : Step} → length counts ≡ rows → length grid ≡ length grid₀ → length scratch ≡ length grid₀ → length marks ≡ product sizes
-      → SteppedFor Held rule sizes grid scratch marks time count said grid' scratch' → said ≡ Gives.Done done → {counts₀ : List ℕ} → CountsFilled counted sizes rule.fields field grid counts₀ counts
+  pub movable : {Held : Program → Type 0} {grid scratch grid' scratch' : List ℤ} {marks counts : List ℕ} {time count : ℕ} {said : Step} {whole : ⊤} → length counts ≡ rows → length grid ≡ length grid₀ → length scratch ≡ length grid₀ → length marks ≡ product sizes
+      → SteppedFor Held rule sizes grid scratch marks time count said grid' scratch' → said.outcome ≡ Ok whole → {counts₀ : List ℕ} → CountsFilled counted sizes rule.fields field grid counts₀ counts
       → counted ≡ true → Movable marks sizes rule.fields field scratch' grid' counts
-  movable {Held} {grid} {scratch} {grid'} {scratch'} {marks} {counts} {time} {count} {done} {said} n g s m step e tally c =
+  movable {Held} {grid} {scratch} {grid'} {scratch'} {marks} {counts} {time} {count} {said} {whole} n g s m step e tally c =
       record {
         countable = subst (Countable sizes rule.fields field (length grid')) (sym n) (countable c (step.grid_size ∙ g));
         old_fits = step.scratch_size ∙ s ∙ sym g ∙ sym step.grid_size;
         marks_fit = m;
         before = grid;
-        had = λ x l t. over.old refl x l ∙ ap (λ (b : Bool). cond b (cell_of rule.fields grid x) (cell_of rule.fields scratch x)) t;
+        had = λ x l t. step.old (ap fault_told e) x l ∙ ap (λ (b : Bool). cond b (cell_of rule.fields grid x) (cell_of rule.fields scratch x)) t;
         kept = step.kept;
         counted = tally.fills c;
       }
-    where
-      over : SteppedFor Held rule sizes grid scratch marks time count (Gives.Done done) grid' scratch'
-      over = subst (λ (x : Step). SteppedFor Held rule sizes grid scratch marks time count x grid' scratch') e step
 
 module _ {counted : Bool} {sizes : List ℕ} {fields field : ℕ} {counts₀ counts : List ℕ} where
   -- behind the block of a time
@@ -102,17 +101,14 @@ module _ {words : List ℕ} {rule : Rule} {sizes : List ℕ} {r : Reach} {all_op
   counts_from first rest = record { tells = λ p runs. counts_moved first (rest.tells p runs) }
 
   -- a step that faults leaves the grid, and so the counts
-  pub counts_stop : {Held : Program → Type 0} → ((p : Program) → Runs words rule r all_open p → Held p) → {grid scratch grid' scratch' : List ℤ} {marks : List ℕ} {time count cell number place total : ℕ} {said : Step} → SteppedFor Held rule sizes grid scratch marks time count said grid' scratch' → said ≡ Gives.Fault cell number place total
+  pub counts_stop : {Held : Program → Type 0} → ((p : Program) → Runs words rule r all_open p → Held p) → {grid scratch grid' scratch' : List ℤ} {marks : List ℕ} {time count : ℕ} {said : Step} {f : CellFault} → SteppedFor Held rule sizes grid scratch marks time count said grid' scratch' → said.outcome ≡ Err f
       → CountsFilled counted sizes rule.fields field grid counts₀ counts → Tallied words rule sizes r all_open counted field grid' counts₀ counts
   unfolding quiet_step
-  counts_stop {Held} tells {grid} {scratch} {grid'} {scratch'} {marks} {time} {count} {cell} {number} {place} {total} {said} step e tally =
+  counts_stop {Held} tells {grid} {scratch} {grid'} {scratch'} {marks} {time} {count} {said} {f} step e tally =
       record { tells = λ p runs. record { fills = λ c. tally.fills c ∙ ap (row_counts sizes rule.fields field) (sym (same p runs)); stays = tally.stays } }
     where
-      over : SteppedFor Held rule sizes grid scratch marks time count (Gives.Fault cell number place total) grid' scratch'
-      over = subst (λ (x : Step). SteppedFor Held rule sizes grid scratch marks time count x grid' scratch') e step
-
       same : (p : Program) → Runs words rule r all_open p → grid' ≡ grid
-      same p runs = over.grid_is p (tells p runs) ∙ ap (λ (f : Fault). grid_after (running p sizes) f grid (quiet_outcome (running p sizes) marks grid time)) (sym (over.fault p (tells p runs)))
+      same p runs = step.grid_is p (tells p runs) ∙ ap (λ (x : Fault). grid_after (running p sizes) x grid (quiet_outcome (running p sizes) marks grid time)) (sym (step.fault p (tells p runs)) ∙ ap fault_told e)
 
 -- ---- the loop
 

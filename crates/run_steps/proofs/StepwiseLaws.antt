@@ -39,7 +39,9 @@ use Rattle.run_meaning.proofs.Theorems.Covering.{reach_covers}
 use Rattle.run_meaning.proofs.Theorems.PlacesLaws.{places_box}
 use Rattle.run_meaning.specs.Promises.Fitting.{held_fields}
 use Rattle.run_step.specs.declared.Step.{Step}
-use Rattle.run_step.specs.declared.Step.TheVariants as Gives
+use Rattle.std.specs.Prelude.{⊤, Ok, Err}
+use Rattle.run_step.specs.declared.CellFault.{CellFault}
+use Rattle.run_step.specs.Promises.Stepping.{fault_told}
 use Rattle.run_step.specs.Promises.Stepping as stepping
 use Rattle.run_step.specs.Promises.Stepping.{SteppedFor}
 use Rattle.run_step.proofs.StepLaws.{stepped_of}
@@ -482,36 +484,30 @@ module _ {words : List ℕ} {rule : Rule} {sizes : List ℕ} {r : Reach} {all_op
     module _ (more : done < steps) where
       -- ---- a step that faults
 
-      pub stops : {said : Step} {cell number place counted : ℕ} {grid' scratch' : List ℤ} {marks' : List ℕ} → SteppedFor (Runs words rule r all_open) rule sizes grid scratch marks (start + done) count said grid' scratch' → said ≡ Gives.Fault cell number place counted
+      pub stops : {said : Step} {f : CellFault} {grid' scratch' : List ℤ} {marks' : List ℕ} → SteppedFor (Runs words rule r all_open) rule sizes grid scratch marks (start + done) count said grid' scratch' → said.outcome ≡ Err f
           → marks' ≡ replicate (length marks) 0
-          → RanMarked words rule sizes r all_open text start steps grid₀ marks₀ (record { number = number; place = place; line = 0; cell = cell; steps = done; count = counted }) grid' marks'
-      stops {said} {cell} {number} {place} {counted} {grid'} {scratch'} {marks'} s₀ e cleared =
+          → RanMarked words rule sizes r all_open text start steps grid₀ marks₀ (record { number = f.fault.number; place = f.fault.place; line = 0; cell = f.cell; steps = done; count = said.count }) grid' marks'
+      stops {said} {f} {grid'} {scratch'} {marks'} s e cleared =
           record { from = λ o b. record { says = λ p runs. report_is o b p runs; stand = λ p runs. none p ∙ ap (λ (q : Quiet (List ℤ)). q.marks) (sym (is o b p runs)) } }
         where
-          s : SteppedFor (Runs words rule r all_open) rule sizes grid scratch marks (start + done) count (Gives.Fault cell number place counted) grid' scratch'
-          s = subst (λ (t : Step). SteppedFor (Runs words rule r all_open) rule sizes grid scratch marks (start + done) count t grid' scratch') e s₀
-
           none : (p : Program) → marks' ≡ marks_of no_cell (running p sizes).cells
           none p = unfold running automaton in cleared ∙ ap (λ (n : ℕ). replicate n 0) so.marks_size ∙ all_alike false (product sizes)
 
           is : (o : ℕ → Bool) → Begun sizes all_open marks₀ o → (p : Program) (runs : Runs words rule r all_open p)
-              → steps_give p sizes (blocks_in sizes rule text) o steps start grid₀ ≡ record { run = record { fault = fault_at cell number place; steps = done; grid = (quiet_step (running p sizes) marks grid (start + done)).grid }; count = count + (quiet_step (running p sizes) marks grid (start + done)).count; marks = marks_of no_cell (running p sizes).cells }
+              → steps_give p sizes (blocks_in sizes rule text) o steps start grid₀ ≡ record { run = record { fault = fault_at f.cell f.fault.number f.fault.place; steps = done; grid = (quiet_step (running p sizes) marks grid (start + done)).grid }; count = count + (quiet_step (running p sizes) marks grid (start + done)).count; marks = marks_of no_cell (running p sizes).cells }
           is o b p runs =
               let g = now.goes.is p runs o b in
-              going_stop (running p sizes) (blocks_in sizes rule text) o steps start grid₀ g.2 grid now.set_is marks (unfold running automaton in g.1) more cell number place (sym (s.fault p runs))
+              going_stop (running p sizes) (blocks_in sizes rule text) o steps start grid₀ g.2 grid now.set_is marks (unfold running automaton in g.1) more f.cell f.fault.number f.fault.place (sym (s.fault p runs) ∙ ap fault_told e)
 
           report_is : (o : ℕ → Bool) → Begun sizes all_open marks₀ o → (p : Program) (runs : Runs words rule r all_open p)
-              → told (record { number = number; place = place; line = 0; cell = cell; steps = done; count = counted }) grid' ≡ report_in (steps_give p sizes (blocks_in sizes rule text) o steps start grid₀)
+              → told (record { number = f.fault.number; place = f.fault.place; line = 0; cell = f.cell; steps = done; count = said.count }) grid' ≡ report_in (steps_give p sizes (blocks_in sizes rule text) o steps start grid₀)
           report_is o b p runs =
-              (λ i. record { number = number; place = place; line = 0; cell = cell; steps = done; count = s.count_is p runs i; grid = s.grid_is p runs i })
+              (λ i. record { number = f.fault.number; place = f.fault.place; line = 0; cell = f.cell; steps = done; count = s.count_is p runs i; grid = s.grid_is p runs i })
               ∙ ap report_in (sym (is o b p runs))
 
       -- ---- a step that does not
 
-      module _ {said : Step} {counted : ℕ} {grid' scratch' : List ℤ} (s₀ : SteppedFor (Runs words rule r all_open) rule sizes grid scratch marks (start + done) count said grid' scratch') (is_done : said ≡ Gives.Done counted) where
-        s : SteppedFor (Runs words rule r all_open) rule sizes grid scratch marks (start + done) count (Gives.Done counted) grid' scratch'
-        s = subst (λ (t : Step). SteppedFor (Runs words rule r all_open) rule sizes grid scratch marks (start + done) count t grid' scratch') is_done s₀
-
+      module _ {said : Step} {whole : ⊤} {grid' scratch' : List ℤ} (s : SteppedFor (Runs words rule r all_open) rule sizes grid scratch marks (start + done) count said grid' scratch') (is_done : said.outcome ≡ Ok whole) where
         chosen : ℕ → Bool → List ℤ
         chosen c b = cond b (cell_of rule.fields grid c) (cell_of rule.fields scratch c)
 
@@ -521,8 +517,8 @@ module _ {words : List ℕ} {rule : Rule} {sizes : List ℕ} {r : Reach} {all_op
         old_cell c l = by (marked marks c) refl
           where
             by : (b : Bool) → marked marks c ≡ b → cell_of rule.fields scratch' c ≡ cell_of rule.fields grid c
-            by true e = s.old refl c l ∙ ap (chosen c) e
-            by false e = s.old refl c l ∙ ap (chosen c) e ∙ so.standing.still c l (marked_is false marks c e refl)
+            by true e = s.old (ap fault_told is_done) c l ∙ ap (chosen c) e
+            by false e = s.old (ap fault_told is_done) c l ∙ ap (chosen c) e ∙ so.standing.still c l (marked_is false marks c e refl)
 
         pub mark_ready : {backs : List ℕ} {listed : ℕ} → WayOf sizes r backs listed → marking.MarksReady sizes r.bounds backs listed rule.fields scratch' grid' marks
         mark_ready way =
@@ -576,7 +572,7 @@ module _ {words : List ℕ} {rule : Rule} {sizes : List ℕ} {r : Reach} {all_op
                       ∙ opened_is begins way p runs grid grid' c
                       ∙ sym (open_pending p sizes (touched (running p sizes) grid grid') grid' c (runs.timed ∙ e)))
 
-          one_more : Underway words rule sizes r all_open text grid₀ marks₀ start steps (suc done) counted grid' scratch' marks'
+          one_more : Underway words rule sizes r all_open text grid₀ marks₀ start steps (suc done) said.count grid' scratch' marks'
           one_more =
               record {
                 so_far = record {
@@ -593,12 +589,12 @@ module _ {words : List ℕ} {rule : Rule} {sizes : List ℕ} {r : Reach} {all_op
                       let g = now.goes.is p runs o b in (
                         touched M grid grid',
                         next.opens p runs,
-                        going_on M (blocks_in sizes rule text) o steps start grid₀ g.2 grid now.set_is marks (unfold running automaton in g.1) more counted grid' (sym (s.fault p runs)) (s.grid_is p runs) (s.count_is p runs),
+                        going_on M (blocks_in sizes rule text) o steps start grid₀ g.2 grid now.set_is marks (unfold running automaton in g.1) more said.count grid' (sym (s.fault p runs) ∙ ap fault_told is_done) (s.grid_is p runs) (s.count_is p runs),
                       );
                 };
               }
 
-          pub again : Underway words rule sizes r all_open text grid₀ marks₀ start steps (done + 1) counted grid' scratch' marks'
+          pub again : Underway words rule sizes r all_open text grid₀ marks₀ start steps (done + 1) said.count grid' scratch' marks'
           again = rw (add-one done) one_more
 
 -- ---- one turn of the loop: the block is set, and then the step is done
@@ -684,16 +680,16 @@ module _ {words : List ℕ} {rule : Rule} {sizes : List ℕ} {r : Reach} {all_op
           stepped : SteppedFor (Runs words rule r all_open) rule sizes grid' scratch' marks' (start + done) count said grid'' scratch''
           stepped = stepped_of (told_by now.by) told
 
-          pub loop_stops : {cell number place counted : ℕ} → said ≡ Gives.Fault cell number place counted → {marks'' : List ℕ} → marks'' ≡ replicate (length marks') 0
-              → RanMarked words rule sizes r all_open text start steps grid₀ marks₀ (record { number = number; place = place; line = 0; cell = cell; steps = done; count = counted }) grid'' marks''
+          pub loop_stops : {f : CellFault} → said.outcome ≡ Err f → {marks'' : List ℕ} → marks'' ≡ replicate (length marks') 0
+              → RanMarked words rule sizes r all_open text start steps grid₀ marks₀ (record { number = f.fault.number; place = f.fault.place; line = 0; cell = f.cell; steps = done; count = said.count }) grid'' marks''
           loop_stops e m = stops now.begins after.placed more stepped e m
 
-          module _ {counted : ℕ} (e : said ≡ Gives.Done counted) where
+          module _ {whole : ⊤} (e : said.outcome ≡ Ok whole) where
             pub loop_mark : marking.MarksReady sizes r.bounds backs listed rule.fields scratch'' grid'' marks'
             loop_mark = mark_ready now.begins after.placed more stepped e now.way
 
             pub loop_again : {marks'' : List ℕ} → Renewed sizes r.bounds backs listed all_open rule.fields scratch'' grid'' marks' marks''
-                → Looping words rule sizes r all_open text grid₀ scratch₀ marks₀ start steps leaves backs listed shape bands plan lent next' (done + 1) counted grid'' scratch'' marks''
+                → Looping words rule sizes r all_open text grid₀ scratch₀ marks₀ start steps leaves backs listed shape bands plan lent next' (done + 1) said.count grid'' scratch'' marks''
             loop_again renewed = record {
               begins = now.begins;
               underway = again now.begins after.placed more stepped e now.way renewed;

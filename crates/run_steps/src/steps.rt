@@ -18,7 +18,6 @@ use run_marked_cells::rooms::flag_marks;
 use run_marking::mark_open;
 use run_marking::ways::set_ways;
 use run_meaning::{Bounds, Reach};
-use run_step::Step;
 use value::limits::{LEAF_WORDS, PLACE_WORDS};
 
 // The report of a run without a fault.
@@ -131,7 +130,7 @@ fn run_marked(
         if done == steps {
             return ended(steps, count);
         }
-        match one_step(
+        let made = one_step(
             leaves,
             words,
             rule,
@@ -145,22 +144,19 @@ fn run_marked(
             marks,
             start + done,
             count,
-        ) {
-            Step::Done(counted) => {
-                count = counted;
-            }
-            Step::Fault(cell, number, place, counted) => {
-                marks.fill(0);
-                return Report {
-                    number,
-                    place,
-                    line: 0,
-                    cell,
-                    steps: done,
-                    count: counted,
-                };
-            }
+        );
+        if let Err(stop) = made.outcome {
+            marks.fill(0);
+            return Report {
+                number: stop.fault.number,
+                place: stop.fault.place,
+                line: 0,
+                cell: stop.cell,
+                steps: done,
+                count: made.count,
+            };
         }
+        count = made.count;
         move_asked(
             counted,
             marks,

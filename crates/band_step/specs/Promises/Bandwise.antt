@@ -16,7 +16,7 @@ use Rattle.run_meaning.proofs.Theorems.Locality.{Flagged}
 use Rattle.band_meaning.specs.Edge.{edge}
 use Rattle.band_meaning.specs.Plans.{plan_right}
 use Rattle.run_step.specs.declared.Step.{Step}
-use Rattle.run_step.specs.Promises.Stepping.{fault_in, count_in}
+use Rattle.run_step.specs.Promises.Stepping.{fault_in}
 use Rattle.run_step.specs.Promises.Turns.{given}
 
 -- the programs for which a step by bands holds: they stand in the table, and have these border rows
@@ -52,8 +52,8 @@ pub record BandFits (sizes room-sizes : List ℕ) (row : ℕ) (border : Bound) (
 -- The parts of the cells before them stay
 pub record BandEvaluated (Held : Program → Type 0) (rule : Rule) (sizes : List ℕ) (from cells : ℕ) (grid scratch : List ℤ) (time count : ℕ) (r : Step) (scratch' : List ℤ) : Type 0 where
   pub fault : (p : Program) → Held p → fault_in r ≡ first_fault (λ i. given p rule.fields sizes grid time (from + i)) cells
-  pub count_is : count_in r ≡ count + reached cells (fault_in r)
-  pub counted : count_in r ≤ count + cells
+  pub count_is : r.count ≡ count + reached cells (fault_in r)
+  pub counted : r.count ≤ count + cells
   pub next : fault_in r ≡ no_fault → (p : Program) → Held p → (i : ℕ) → i < cells
       → given p rule.fields sizes grid time (from + i) ≡ result (cell_of rule.fields scratch' (from + i))
   pub kept : (c : ℕ) → c < from → cell_of rule.fields scratch' c ≡ cell_of rule.fields scratch c
@@ -63,8 +63,8 @@ pub record BandEvaluated (Held : Program → Type 0) (rule : Rule) (sizes : List
 -- all cells are evaluated
 pub record AllEvaluated (Held : Program → Type 0) (rule : Rule) (sizes : List ℕ) (grid : List ℤ) (time count : ℕ) (r : Step) (scratch' : List ℤ) : Type 0 where
   pub fault : (p : Program) → Held p → fault_in r ≡ first_fault (given p rule.fields sizes grid time) (product sizes)
-  pub count_is : count_in r ≡ count + reached (product sizes) (fault_in r)
-  pub counted : count_in r ≤ count + product sizes
+  pub count_is : r.count ≡ count + reached (product sizes) (fault_in r)
+  pub counted : r.count ≤ count + product sizes
   pub next : fault_in r ≡ no_fault → (p : Program) → Held p → (c : ℕ) → c < product sizes
       → given p rule.fields sizes grid time c ≡ result (cell_of rule.fields scratch' c)
 

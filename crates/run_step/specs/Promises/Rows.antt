@@ -14,7 +14,7 @@ use Rattle.cell_meaning.specs.Promises.Leaves.{Leaves}
 use Rattle.cell_meaning.specs.Promises.Stands.{Holds}
 use Rattle.program.specs.Promises.Fitting.{Sized}
 use Rattle.run_step.specs.declared.Step.{Step}
-use Rattle.run_step.specs.Promises.Stepping.{fault_in, count_in}
+use Rattle.run_step.specs.Promises.Stepping.{fault_in}
 use Rattle.run_step.specs.Promises.Turns.{given}
 
 -- ---- cells in rising order
@@ -32,8 +32,8 @@ pub record CellsReady (leaves words : List ℕ) (rule : Rule) (sizes : List ℕ)
 -- their first fault, counted from the first of them, and how many are evaluated; without a fault their next fields
 pub record CellsStepped (words : List ℕ) (rule : Rule) (sizes : List ℕ) (from cells : ℕ) (grid : List ℤ) (time count : ℕ) (r : Step) (next' : List ℤ) : Type 0 where
   pub fault : (p : Program) → Holds words rule p → fault_in r ≡ first_fault (λ i. given p rule.fields sizes grid time (from + i)) cells
-  pub count_is : count_in r ≡ count + reached cells (fault_in r)
-  pub counted : count_in r ≤ count + cells
+  pub count_is : r.count ≡ count + reached cells (fault_in r)
+  pub counted : r.count ≤ count + cells
   pub next : fault_in r ≡ no_fault → (p : Program) → Holds words rule p → (i : ℕ) → i < cells
       → given p rule.fields sizes grid time (from + i) ≡ result (cell_of rule.fields next' i)
 
@@ -58,7 +58,7 @@ band_gives p fields sizes before own room time = band_step (drop 1 sizes) fields
 -- whichever program stands in the table, fault, count and next rows are those of the definition's step of the band
 pub record RowsStepped (words : List ℕ) (rule : Rule) (sizes : List ℕ) (before own : ℕ) (room : List ℤ) (time count : ℕ) (r : Step) (next' : List ℤ) : Type 0 where
   pub fault : (p : Program) → Holds words rule p → fault_in r ≡ (band_gives p rule.fields sizes before own room time).fault
-  pub count_is : (p : Program) → Holds words rule p → count_in r ≡ count + (band_gives p rule.fields sizes before own room time).count
+  pub count_is : (p : Program) → Holds words rule p → r.count ≡ count + (band_gives p rule.fields sizes before own room time).count
   pub next_is : fault_in r ≡ no_fault → (p : Program) → Holds words rule p → next' ≡ (band_gives p rule.fields sizes before own room time).grid
-  pub evaluated : count_in r ≡ count + reached (own * product (drop 1 sizes)) (fault_in r)
-  pub counted : count_in r ≤ count + own * product (drop 1 sizes)
+  pub evaluated : r.count ≡ count + reached (own * product (drop 1 sizes)) (fault_in r)
+  pub counted : r.count ≤ count + own * product (drop 1 sizes)

@@ -1,5 +1,5 @@
 -- What one step under marks promises.
-use Rattle.std.specs.Prelude.{◌≡◌, false, cond, List, ℕ, ◌+◌, ◌<◌, ◌≤◌, length, ℤ}
+use Rattle.std.specs.Prelude.{◌≡◌, ⊤, Result, Ok, Err, false, cond, List, ℕ, ◌+◌, ◌<◌, ◌≤◌, length, ℤ}
 use Rattle.value.specs.Limits.{most_cells}
 use Rattle.automaton.specs.Step.{Fault, no_fault, fault_at, marked, quiet_step}
 use Rattle.automaton.specs.Shape.{product}
@@ -12,17 +12,16 @@ use Rattle.cell_meaning.specs.Promises.Stands.{Holds}
 use Rattle.run_meaning.specs.Reach.{running}
 use Rattle.program.specs.Promises.Fitting.{Sized}
 use Rattle.run_step.specs.declared.Step.{Step}
-use Rattle.run_step.specs.declared.Step.TheVariants as Gives
+use Rattle.run_step.specs.declared.CellFault.{CellFault}
+
+-- the fault that an outcome tells
+abbrev pub fault_told : Result ⊤ CellFault → Fault
+fault_told (Ok done) = no_fault
+fault_told (Err f) = fault_at f.cell f.fault.number f.fault.place
 
 -- the fault that a step returns
 abbrev pub fault_in : Step → Fault
-fault_in (Gives.Done count) = no_fault
-fault_in (Gives.Fault cell number place count) = fault_at cell number place
-
--- the count that a step returns
-abbrev pub count_in : Step → ℕ
-count_in (Gives.Done count) = count
-count_in (Gives.Fault cell number place count) = count
+fault_in r = fault_told r.outcome
 
 -- what a step asks of its numbers; nothing is asked of what the word table holds, but the leaf table must be its own
 pub record StepReady (leaves words : List ℕ) (rule : Rule) (sizes : List ℕ) (grid scratch : List ℤ) (marks : List ℕ) (time count : ℕ) : Type 0 where
@@ -39,8 +38,8 @@ pub record SteppedFor (Held : Program → Type 0) (rule : Rule) (sizes : List �
   -- fault, grid and count are those of the definition's step under these marks
   pub fault : (p : Program) → Held p → fault_in r ≡ (quiet_step (running p sizes) marks grid time).fault
   pub grid_is : (p : Program) → Held p → grid' ≡ (quiet_step (running p sizes) marks grid time).grid
-  pub count_is : (p : Program) → Held p → count_in r ≡ count + (quiet_step (running p sizes) marks grid time).count
-  pub counted : count_in r ≤ count + product sizes
+  pub count_is : (p : Program) → Held p → r.count ≡ count + (quiet_step (running p sizes) marks grid time).count
+  pub counted : r.count ≤ count + product sizes
   pub grid_size : length grid' ≡ length grid
   pub scratch_size : length scratch' ≡ length scratch
   -- a cell with mark 0 keeps its fields, whatever stands in the table

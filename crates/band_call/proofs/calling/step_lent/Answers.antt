@@ -13,4 +13,4 @@ pub step_rows-step-requires : goal.step_rows-step-requires
 step_rows-step-requires c = lent_ask c.requires c.room_shape-shape.ensures (omega arith) (omega arith) refl c.fill_leaves.ensures
 
 pub overflow_add-result : goal.overflow_add-result
-overflow_add-result c = omega (arith, fault_inside c.requires c.room_shape-shape.ensures (omega arith) (omega arith) c.step_rows-step.ensures c.in-Fault.is)
+overflow_add-result c = omega (arith, fault_inside c.requires c.room_shape-shape.ensures (omega arith) (omega arith) c.step_rows-step.ensures c.in-Err.is)

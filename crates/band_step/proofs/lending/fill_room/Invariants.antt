@@ -1,4 +1,4 @@
-use Prim.Native.Nat.{◌-◌, ◌≤◌}
+use Prim.Native.Nat.{◌≤◌}
 use Rattle.band_step.proofs.LendLaws.{Lent}
 use Rattle.band_step.proofs.lending.fill_room.Given as goal
 

@@ -16,13 +16,13 @@ evaluate_open-turn-requires c =
     let t = c.loop-cell-test.true in
     (l.invariant.2 t, turning _ _ _ _ l.cell l.total l.new p.0 l.invariant.5 l.invariant.3 l.invariant.0 t)
 
-pub returns-in-Fault : goal.returns-in-Fault
-returns-in-Fault c =
+pub returns-in-Err : goal.returns-in-Err
+returns-in-Err c =
     let l = c.loop-cell in
     let p = c.requires.0 in
     let t = c.loop-cell-test.true in
     let e = c.evaluate_open-turn.ensures in
-    fill_stop _ _ _ _ (λ p h. h) l.cell l.total l.new _ l.invariant.0 (l.invariant.2 t) e c.in-Fault.is (omega (arith, p.marks_fit))
+    fill_stop _ _ _ _ (λ p h. h) l.cell l.total l.new _ l.invariant.0 (l.invariant.2 t) e c.in-Err.is (omega (arith, p.marks_fit)) refl refl
 
 pub loop-cell-preserved : goal.loop-cell-preserved
 loop-cell-preserved c =
@@ -30,7 +30,7 @@ loop-cell-preserved c =
     let n = c.next_marked-after.ensures in
     let t = c.loop-cell-test.true in
     let e = c.evaluate_open-turn.ensures in
-    let f = fill_turn _ _ _ _ (λ p h. h) l.cell l.total l.new _ l.invariant.0 (l.invariant.2 t) e c.in-Done.is in
+    let f = fill_turn _ _ _ _ (λ p h. h) l.cell l.total l.new _ l.invariant.0 (l.invariant.2 t) e c.in_default.is in
     (fill_skip _ _ _ _ (λ p h. h) _ _ _ _ f n, n.within, n.found, search rules, search rules, c.move_point.ensures)
 
 pub returns : goal.returns
