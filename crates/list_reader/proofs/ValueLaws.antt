@@ -29,7 +29,8 @@ use Rattle.list_meaning.proofs.Walking.{one_value}
 use Rattle.std.proofs.Common.{Bor, Option as Optional, Some, None}
 use Rattle.list_reader.specs.declared.Lexed.{Lexed}
 use Rattle.list_reader.specs.declared.Lexed.TheVariants.{Literal, Sign, End}
-use Rattle.list_reader.specs.Promises.Promises.{NoLiteral, Lexes, ReadsLiteral}
+use Rattle.list_reader.specs.Promises.Promises.{IsEnd, NoLiteral, Lexes, ReadsLiteral}
+use Rattle.list_reader.proofs.Walks.{end_behind}
 use Rattle.list_reader.specs.declared.values.Valued.{Valued}
 use Rattle.list_reader.specs.Promises.Values.{line_values, under_in, behind_in, given_of, further, valued_of, RestOnward, ValuedOnward, ReadsSigned, ReadsBehind, ReadsValue, fields_in, count_number, StillFits, StillKept, ReadsValues}
 
@@ -143,13 +144,13 @@ pub ruleset BehindWays = (behind_unread, behind_literal, behind_end, behind_wron
 
 -- ---- a value
 
-rest_from : (line rest : List ℕ) → length rest < length line → (y : Optional (Bor (List ℕ))) → RestOnward rest y → RestOnward line y
-rest_from line rest l None h = tt
-rest_from line rest l (Some next) h = omega arith
+rest_from : (line rest : List ℕ) → length rest < length line → IsEnd line rest → (y : Optional (Bor (List ℕ))) → RestOnward rest y → RestOnward line y
+rest_from line rest l t None h = tt
+rest_from line rest l t (Some next) h = (let w = h.0 in omega arith, end_behind line rest next.now t h.1)
 
-onward_from : (line rest : List ℕ) → length rest < length line → (y : Optional Valued) → ValuedOnward rest y → ValuedOnward line y
-onward_from line rest l None h = tt
-onward_from line rest l (Some v) h = rest_from line rest l v.next h
+onward_from : (line rest : List ℕ) → length rest < length line → IsEnd line rest → (y : Optional Valued) → ValuedOnward rest y → ValuedOnward line y
+onward_from line rest l t None h = tt
+onward_from line rest l t (Some v) h = rest_from line rest l t v.next h
 
 module _ (line : List ℕ) where
   pub value_unread : Lexes line None → ReadsValue line None
@@ -168,7 +169,7 @@ module _ (line : List ℕ) where
         let p : value (decode_of n) ≡ value (pos n) = rw (lt-ltb n 2147483648 o.1) in
         record {
           is = ap line_values (it e).is ∙ values_literal n (pieces 0 rest.now) ∙ ap (λ (z : Value). behind_in (some z.n) (pieces 0 rest.now)) (sym (f ∙ p)) ∙ h.is;
-          onward = onward_from line rest.now o.0 y h.onward;
+          onward = onward_from line rest.now o.0 o.2 y h.onward;
         }
 
     module _ {b : ℕ} {rest : Bor (List ℕ)} (e : x ≡ Sign b rest) where
@@ -188,7 +189,7 @@ module _ (line : List ℕ) where
 
         pub value_signed : {v : Value} {past : Bor (List ℕ)} {y : Optional Valued} → ReadsSigned rest.now b (Some (v, past)) → ReadsBehind past.now (Some v) y → ReadsValue line y
         value_signed {y = y} h g =
-            record { is = signs ∙ h.is ∙ g.is; onward = onward_from line _ (let a = (it e).onward in let c = h.onward in omega arith) y g.onward }
+            record { is = signs ∙ h.is ∙ g.is; onward = onward_from line _ (let a = (it e).onward.0 in let c = h.onward.0 in omega arith) (end_behind line rest.now _ (it e).onward.1 h.onward.1) y g.onward }
 
 pub ruleset ValueWays = (value_unread, value_end, value_literal, value_missing, value_bad, value_signed)
 
@@ -289,7 +290,7 @@ module _ (fs : List Range) (fl : ℕ) (line : List ℕ) where
       values_more {rest} e =
           record {
             is = left r ∙ stepped (further v.next) ∙ ap (λ (o : Optional (Bor (List ℕ))). values_number (drop (k + 1) fs) fl (k + 1) (ltb (length fs) (k + 1)) fit' kept' (further o)) e;
-            few = let a : length rest.now < length here = subst (RestOnward here) e r.onward in let b = w.few in omega arith;
+            few = let a : length rest.now < length here = (subst (RestOnward here) e r.onward).0 in let b = w.few in omega arith;
           }
 
       pub values_done : {n : ℕ} → v.next ≡ None → length fs ≡ n → ReadsValues fs n fl line (Some (record { count = k + 1; fit = fit'; kept = kept' }))
@@ -301,6 +302,6 @@ module _ (fs : List Range) (fl : ℕ) (line : List ℕ) where
           }
 
 pub values_less : (here : List ℕ) {v : Valued} {rest : Bor (List ℕ)} → ReadsValue here (Some v) → v.next ≡ Some rest → length rest.now < length here
-values_less here {v} {rest} r e = subst (RestOnward here) e r.onward
+values_less here {v} {rest} r e = (subst (RestOnward here) e r.onward).0
 
 pub ruleset ValuesWays = (values_start, values_less, values_bad, values_more, values_done, fields_length)

@@ -6,6 +6,7 @@ use Rattle.run_meaning.specs.Admission.{all_between}
 use Rattle.token.specs.Promises.Promises.{too_large}
 use Rattle.list_meaning.specs.Text.{Piece, literal, sign, with_piece, pieces}
 use Rattle.list_meaning.specs.Promises.Walking.{Placed, wrong, placed, place_from}
+use Rattle.list_reader.specs.Promises.Promises.{IsEnd}
 use Rattle.list_reader.specs.declared.points.Coordinate.{Coordinate}
 use Rattle.list_reader.specs.declared.points.Point.{Point}
 
@@ -33,7 +34,7 @@ Coordinates line (Some c) = pieces 0 line ≡ with_piece (literal c.index) (with
 
 abbrev pub CoordinateOnward : List ℕ → Optional Coordinate → Type 0
 CoordinateOnward line None = Unit {0}
-CoordinateOnward line (Some c) = (length c.rest.now < length line) × (c.index < too_large)
+CoordinateOnward line (Some c) = (length c.rest.now < length line) × (c.index < too_large) × IsEnd line c.rest.now
 
 pub record ReadsCoordinate (line : List ℕ) (r : Optional Coordinate) : Type 0 where
   pub is : Coordinates line r
@@ -48,7 +49,7 @@ point_of (Some p) = point_with p.outside p.cell (pieces 0 p.rest.now)
 
 abbrev pub PointOnward : List ℕ → Optional Point → Type 0
 PointOnward line None = Unit {0}
-PointOnward line (Some p) = (length p.rest.now ≤ length line) × (p.cell ≤ 72057594037927936)
+PointOnward line (Some p) = (length p.rest.now ≤ length line) × (p.cell ≤ 72057594037927936) × IsEnd line p.rest.now
 
 -- r is the index at the head of a line
 pub record ReadsPoint (sizes line : List ℕ) (r : Optional Point) : Type 0 where

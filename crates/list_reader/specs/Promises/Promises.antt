@@ -14,10 +14,15 @@ pub record LineEnds (text : List ℕ) (at r : ℕ) : Type 0 where
   pub onward : at ≤ r
   pub within : r ≤ length text
 
--- the same tokens stand in both lines, and no separator at the head of the second
+-- the rest of a line is an end of it
+abbrev pub IsEnd : List ℕ → List ℕ → Type 0
+IsEnd line rest = (k : ℕ) × (rest ≡ drop k line)
+
+-- the second line is an end of the first, the same tokens stand in both, and no separator at the head of the second
 pub record Opens (line rest : List ℕ) : Type 0 where
   pub is : pieces 0 line ≡ pieces 0 rest
   pub within : length rest ≤ length line
+  pub ends : IsEnd line rest
   pub stops : head_kind rest ≡ 1 → ⊥
 
 -- the tokens of a line, by the first of them
@@ -27,10 +32,10 @@ line_tokens (Some (Sign b rest)) = with_piece (sign b) (pieces 0 rest.now)
 line_tokens (Some End) = some []
 line_tokens None = none
 
--- the rest after a token is shorter; a literal is at most 2147483647
+-- the rest after a token is a shorter end of the line; a literal is at most 2147483647
 abbrev pub LineOnward : List ℕ → Optional Lexed → Type 0
-LineOnward line (Some (Literal n rest)) = (length rest.now < length line) × (n < too_large)
-LineOnward line (Some (Sign b rest)) = length rest.now < length line
+LineOnward line (Some (Literal n rest)) = (length rest.now < length line) × (n < too_large) × IsEnd line rest.now
+LineOnward line (Some (Sign b rest)) = (length rest.now < length line) × IsEnd line rest.now
 LineOnward line (Some End) = Unit {0}
 LineOnward line None = Unit {0}
 
@@ -60,7 +65,7 @@ Read = ℕ × Bor (List ℕ)
 
 abbrev pub ReadOnward : List ℕ → Optional Read → Type 0
 ReadOnward line None = Unit {0}
-ReadOnward line (Some r) = length r.1.now < length line
+ReadOnward line (Some r) = (length r.1.now < length line) × IsEnd line r.1.now
 
 abbrev pub LiteralFirst : Option (List Piece) → Optional Read → Type 0
 LiteralFirst o None = NoLiteral o

@@ -11,6 +11,7 @@ use Rattle.list_meaning.specs.Promises.Walking.{head_fits, keeps_flag, values_nu
 use Rattle.value.specs.declared.Value.{Value}
 use Rattle.program.specs.Reason.{reason_number}
 use Rattle.program.specs.declared.reply.Reason.{Reason}
+use Rattle.list_reader.specs.Promises.Promises.{IsEnd}
 use Rattle.list_reader.specs.declared.values.Valued.{Valued}
 use Rattle.list_reader.specs.declared.values.Values.{Values}
 
@@ -50,11 +51,11 @@ valued_of (Some v) = before_values (given_of v.given) (further v.next)
 
 abbrev pub SignedOnward : List ℕ → Optional (Value × Bor (List ℕ)) → Type 0
 SignedOnward line None = Unit {0}
-SignedOnward line (Some r) = length r.1.now < length line
+SignedOnward line (Some r) = (length r.1.now < length line) × IsEnd line r.1.now
 
 abbrev pub RestOnward : List ℕ → Optional (Bor (List ℕ)) → Type 0
 RestOnward line None = Unit {0}
-RestOnward line (Some rest) = length rest.now < length line
+RestOnward line (Some rest) = (length rest.now < length line) × IsEnd line rest.now
 
 abbrev pub ValuedOnward : List ℕ → Optional Valued → Type 0
 ValuedOnward line None = Unit {0}
