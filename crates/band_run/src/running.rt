@@ -13,7 +13,6 @@ use band_planner::borders::border_rows;
 use band_planner::plans::plan_accepted;
 use band_step::lending::room_shape;
 use program::Rule;
-use run_marked_cells::rooms::{clear_numbers, set_marks};
 use run_meaning::Reach;
 use run_source::opening::open_run;
 use run_steps::{Bands, Report, run_by};
@@ -76,7 +75,7 @@ fn run_admitted(
         plan,
         &mut room[..used],
     );
-    clear_numbers(room);
+    room.fill(0);
     report
 }
 
@@ -160,8 +159,8 @@ fn run_planned(
         plan,
         room,
     );
-    clear_numbers(scratch);
-    set_marks(marks, 0);
+    scratch.fill(0);
+    marks.fill(0);
     report
 }
 

@@ -31,7 +31,6 @@ use Rattle.run_steps.specs.declared.Manner.{Manner as Way}
 use Rattle.run_source.specs.Promises.Public.{manner_of, RunLeaves}
 use Rattle.run_source.specs.Promises.Agreement.{AgreesFresh}
 use Rattle.run_source.proofs.RunLaws.{left_report, read_times, fresh_agrees, counts_unasked}
-use Rattle.run_row_counts.specs.declared.queries.Rows.{Rows}
 use Rattle.run_row_counts.specs.RowQueries.{RowReply}
 use Rattle.run_row_counts.specs.Promises.Queries.{row_reply_of}
 use Rattle.list_writer.specs.declared.Written.{Written}
@@ -128,8 +127,9 @@ told_plain {manner} {source} {list} {sizes} {ws} {ns} {g} {s} {k} {values} {star
     subst (λ (o : List ℕ). TellsRun manner (lent source list sizes (memory ws ns g s k []) values start steps false field) entries r (memory ws' ns' g' s' k' o) entries')
     (ap (λ x. x.counts) h.memory ∙ counts_unasked manner _ source _ [] refl) h
 
-pub tells_rows : {said : RowReply} {reply : List ℕ} {rows : Rows} {reply' : List ℕ} → row_reply_of rows ≡ said → reply' ≡ over (rows.number ∷ rows.value ∷ []) reply → Tells (row_entries said) reply rows.number reply'
-tells_rows {reply = reply} h e = record { number = ap (λ (x : RowReply). x.number) h; told = e ∙ ap (λ (x : RowReply). over (row_entries x) reply) h }
+-- what is told of one reply is told of an equal one
+pub tells_rows : {said said' : RowReply} {reply : List ℕ} {r : ℕ} {reply' : List ℕ} → said ≡ said' → Tells (row_entries said) reply r reply' → Tells (row_entries said') reply r reply'
+tells_rows {reply = reply} {r = r} {reply' = reply'} e t = subst (λ (x : RowReply). Tells (row_entries x) reply r reply') e t
 
 -- ---- the writer
 

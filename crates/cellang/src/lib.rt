@@ -25,7 +25,7 @@ pub use exports::{
 pub use list_writer::Written;
 pub use move_profile::Profile;
 pub use profiling::check_one_move;
-pub use run_row_counts::queries::{Rows, first_zero_row, zeros_in_rows};
+pub use run_row_counts::queries::{first_zero_row, zeros_in_rows};
 pub use run_steps::Manner;
 pub use running::run;
 pub use writing::write_list;

@@ -46,6 +46,7 @@ fn read_names(
     ensures { Reads (Counted got s.at) (repeat turns (field_turn kind) got) source.now scan 256 s names.old words.now result names.new words.now }
 {
     let mut here = s;
+    // Kept: a comma ends the loop, or the token where one is missing, not a count.
     let mut n = got;
     loop {
         let a = fresh(source, names, words, scan, here, true, full(n))?;

@@ -143,14 +143,12 @@ fn say_name(rt: &HostRuntime) {
 
 // Writes how many cells have 0 in the rows up to the last, and which row is the first with one.
 fn say_zeros(rt: &HostRuntime, counts: &[u32], last: u32) {
-    let total = zeros_in_rows(counts, 0, last);
-    let first = first_zero_row(counts);
-    say_number(rt, total.value);
+    say_number(rt, zeros_in_rows(counts, 0, last).unwrap_or(0));
     say(rt, b" cells in rows 0 to ");
     say_number(rt, wide(last));
-    if first.number == 0 {
+    if let Ok(row) = first_zero_row(counts) {
         say(rt, b", first in row ");
-        say_number(rt, first.value);
+        say_number(rt, row);
     }
     say(rt, b"\n");
 }

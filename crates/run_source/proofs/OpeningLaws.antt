@@ -15,7 +15,8 @@ use mir.Facts.{to_z-of_z}
 use borrow.Author.Tests.{not-true, not-false, ne_eqb, eqb-false, le-ltb, lt-ltb}
 use Rattle.value.specs.Limits.{name_words}
 use Rattle.value.proofs.Theorems.Laws.{never}
-use Rattle.std.specs.Prelude.{Result, Ok, Err, is_ok}
+use Rattle.std.proofs.lemmas.Result.{err_from_is_err_and}
+use Rattle.std.specs.Prelude.{Result, Ok, Err, is_ok, IsErrAnd}
 use Rattle.program.specs.Reason.{reason_number}
 use Rattle.program.proofs.Reasons.{never_none}
 use Rattle.program.specs.Refusal.{Refusal, refusal}
@@ -102,6 +103,10 @@ module _ (counted : Bool) (field rows fields : ℕ) (sizes : List ℕ) where
 abbrev Closed : Result Opening Stop → ℕ → ℕ → ℕ → Type 0
 Closed r number place line = r ≡ Err (stopped number place line)
 
+-- what the exit of a `?` returns
+pub stopped_by : {q : Result Opening Stop} {u : Stop} → IsErrAnd q (λ (f : Stop). f ≡ u) → q ≡ Err u
+stopped_by {q = q} h = let p = err_from_is_err_and q h in p.1 ∙ ap Err p.2
+
 same_opening : {o u : Opening} → ◌≡◌ {A = Result Opening Stop} (Ok o) (Ok u) → o ≡ u
 same_opening {o} e = ap by e
   where
@@ -125,9 +130,9 @@ module _ {source ws ns sizes : List ℕ} {grid : List ℤ} {scratch marks : ℕ}
       record {
         words = checked.words;
         names = checked.names;
-        closed = λ _. both.0;
-        refuses = λ _ manner. both.1 manner ∙ (λ i. refused (sym e.1 i) (sym e.2 i) (sym e.3 i) grid);
-        opened = λ y. never (sym e.0 ∙ y);
+        closed = λ _ _. both.0;
+        refuses = λ s h manner. both.1 manner ∙ ap (λ (x : Stop). refused x.number x.place x.line grid) (same_stop (sym e ∙ h));
+        opened = λ o h. never (ap is_ok (sym e ∙ h));
       }
 
   module _ (sure : not known ≡ false) {a : Result Reach Refusal} (admits : Admits ws' rule sizes grid scratch marks start steps a) where
@@ -148,11 +153,11 @@ module _ {source ws ns sizes : List ℕ} {grid : List ℤ} {scratch marks : ℕ}
         record {
           words = checked.words;
           names = checked.names;
-          closed = λ _. ap (run_begins source (ask (request_of sizes grid scratch marks start steps) values counts)) is.is ∙ ne_eqb _ 0 refused_by;
-          refuses = λ _ manner.
+          closed = λ _ _. ap (run_begins source (ask (request_of sizes grid scratch marks start steps) values counts)) is.is ∙ ne_eqb _ 0 refused_by;
+          refuses = λ s h manner.
               ap (run_read manner source (ask (request_of sizes grid scratch marks start steps) values counts)) is.is ∙ run_refused is.read.program flag (ask (request_of sizes grid scratch marks start steps) values counts) manner refused_by ∙ ap (λ (x : Turned). refused x.number x.place x.line grid) t
-              ∙ (λ i. refused (sym e.1 i) (sym e.2 i) (sym e.3 i) grid);
-          opened = λ y. never (sym e.0 ∙ y);
+              ∙ ap (λ (x : Stop). refused x.number x.place x.line grid) (same_stop (sym e ∙ h));
+          opened = λ o h. never (ap is_ok (sym e ∙ h));
         }
       where
         refused_by : (admitted is.read.program flag (ask (request_of sizes grid scratch marks start steps) values counts)).number ≡ 0 → ⊥
@@ -193,9 +198,9 @@ module _ {source ws ns sizes : List ℕ} {grid : List ℤ} {scratch marks : ℕ}
       not_counted counted field rows c {values} e =
           turned_down (counts_refused is.read.program flag (ask (request_of sizes grid scratch marks start steps) values (counts_of counted field rows)) admission_is (fits_are counted field rows ∙ c)) (λ k. omega (arith, k)) e
 
-      module _ (counted : Bool) (field rows : ℕ) (right : counts_right counted field rows rule.fields sizes ≡ true) {values : List ℕ} {v : judged.Verdict} {told first last : ℕ} (found : FlagOf source ws' ns' rule told) (first_is : nat_abs start ≡ first)
+      module _ (counted : Bool) (field rows : ℕ) (right : counts_right counted field rows rule.fields sizes ≡ true) {values : List ℕ} {v : Result (Unit {0}) ListRefusal} {told first last : ℕ} (found : FlagOf source ws' ns' rule told) (first_is : nat_abs start ≡ first)
           (last_is : nat_abs start + nat_abs steps ≡ last) (judges : ChecksList (limits sizes (fields_in ws' rule) told first last) values v) where
-        list_says : admitted is.read.program flag (ask (request_of sizes grid scratch marks start steps) values (counts_of counted field rows)) ≡ turned v.number 0 v.line
+        list_says : admitted is.read.program flag (ask (request_of sizes grid scratch marks start steps) values (counts_of counted field rows)) ≡ turned (answer v).number 0 (answer v).line
         list_says =
             list_decides is.read.program flag (ask (request_of sizes grid scratch marks start steps) values (counts_of counted field rows)) admission_is (fits_are counted field rows ∙ right)
             ∙ ap (λ (x : Verdict). turned x.number 0 x.line)

@@ -300,29 +300,29 @@ module _ (l : Lent ℕ) (list : is_built_in l.list ≡ true) {r : Result Opening
       (marks_kept (manner_of way l.memory.marks) _ l.source _ l.memory.marks (opens.closed s e))
       (counts_kept (manner_of way l.memory.marks) _ l.source _ l.memory.counts (opens.closed s e))
 
-  module _ {o : Opening} (e : r ≡ Ok o) where
-    is : RunBegun (fits flat_names l) l.source (asked l) ws' o.rule o.reach
-    is = opens.opened o e
+  module _ {b : Opening} (y : r ≡ Ok b) where
+    is : RunBegun (fits flat_names l) l.source (asked l) ws' b.rule b.reach
+    is = opens.opened b y
 
-    pub run_ready : Begins ws' o.rule l.sizes o.reach l.memory.grid l.memory.scratch l.memory.marks l.values (nat_abs l.start) (nat_abs l.steps)
-        × CountsFit l.counted o.rule.fields l.sizes l.field (length l.memory.counts)
+    pub run_ready : Begins ws' b.rule l.sizes b.reach l.memory.grid l.memory.scratch l.memory.marks l.values (nat_abs l.start) (nat_abs l.steps)
+        × CountsFit l.counted b.rule.fields l.sizes l.field (length l.memory.counts)
     run_ready = (begins_run is refl refl, counts_fit is l.counted l.field (length l.memory.counts) refl)
 
-    pub run_done : {all re : Bool} {said : Report} {grid' scratch' : List ℤ} {marks' marks'' counts' : List ℕ} (n : ℕ) → all ≡ every_step way o.rule.timed → re ≡ is_resumed way
-        → Ran ws' o.rule l.sizes o.reach all l.values (nat_abs l.start) (nat_abs l.steps) (pending_in re l.memory.marks) l.memory.grid said grid' marks'
+    pub run_done : {all re : Bool} {said : Report} {grid' scratch' : List ℤ} {marks' marks'' counts' : List ℕ} (n : ℕ) → all ≡ every_step way b.rule.timed → re ≡ is_resumed way
+        → Ran ws' b.rule l.sizes b.reach all l.values (nat_abs l.start) (nat_abs l.steps) (pending_in re l.memory.marks) l.memory.grid said grid' marks'
         → scratch' ≡ replicate n (pos 0) → length scratch' ≡ length l.memory.scratch → length marks' ≡ length l.memory.marks → marks'' ≡ marks_left way marks'
-        → Tallied ws' o.rule l.sizes o.reach all l.counted l.field grid' l.memory.counts counts'
+        → Tallied ws' b.rule l.sizes b.reach all l.counted l.field grid' l.memory.counts counts'
         → RunLeaves flat_names (manner_of way l.memory.marks) l said (memory ws' ns' grid' scratch' marks'' counts')
     run_done {all} {re} {said} {grid'} {scratch'} {marks'} {marks''} {counts'} n a e ran s j k m o =
         left_by (source_report is l.memory.marks way ran_is)
         opens.words names_are
         (cleared (pos 0) n l.memory.scratch s j ∙ room_cleared (pos 0) _ l.source _ l.memory.scratch (began is))
         (m ∙ marks_are is l.memory.marks way ran_is k ∙ marks_began is (manner_of way l.memory.marks) l.memory.marks)
-        (counts_are is l.memory.marks l.counted l.field (length l.memory.counts) refl way ran_is (subst (λ (x : Bool). Tallied ws' o.rule l.sizes o.reach x l.counted l.field grid' l.memory.counts counts') a o)
+        (counts_are is l.memory.marks l.counted l.field (length l.memory.counts) refl way ran_is (subst (λ (x : Bool). Tallied ws' b.rule l.sizes b.reach x l.counted l.field grid' l.memory.counts counts') a o)
         ∙ counts_began is (manner_of way l.memory.marks) l.memory.counts)
       where
-        ran_is : RanBy is (every_step way o.rule.timed) (pending_in (is_resumed way) l.memory.marks) said grid' marks'
-        ran_is = subst₂ (λ (x y : Bool). Ran ws' o.rule l.sizes o.reach x l.values (nat_abs l.start) (nat_abs l.steps) (pending_in y l.memory.marks) l.memory.grid said grid' marks') a e ran
+        ran_is : RanBy is (every_step way b.rule.timed) (pending_in (is_resumed way) l.memory.marks) said grid' marks'
+        ran_is = subst₂ (λ (x y : Bool). Ran ws' b.rule l.sizes b.reach x l.values (nat_abs l.start) (nat_abs l.steps) (pending_in y l.memory.marks) l.memory.grid said grid' marks') a e ran
 
     pub cast_start : T (non_neg l.start) × Fits w32 (nat_abs l.start)
     cast_start = cast_in l.start is.start_is (omega (arith, is.times))

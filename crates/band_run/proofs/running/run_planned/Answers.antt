@@ -30,7 +30,7 @@ returns c =
           let l = banded_lent (lent _ list _ (memory _ _ _ c.args.scratch.now c.args.marks.now c.args.counts.now) c.args.values.now _ _ c.args.counted c.args.field) c.args.held c.args.plan.now c.args.room.now in
           read_times c.ranges.start c.ranges.steps
           (planned_done l e c.tried_length-tried.ensures c.open_run-opening.ensures c.if-not-opening.false c.border_rows-border.ensures c.plan_accepted.ensures c.if-not-plan_accepted.false-raw
-          (run_done l.run e (opened_full l e c.tried_length-tried.ensures c.open_run-opening.ensures c.if-not-opening.false) Full c.if-not-opening.false (length c.run_admitted-report.new.scratch) refl refl c.run_admitted-report.ensures.ran c.clear_numbers.ensures
-          (omega (arith, c.clear_numbers.auto, c.run_admitted-report.auto.scratch)) (omega (arith, c.run_admitted-report.auto.marks)) c.set_marks.ensures c.run_admitted-report.ensures.counts)
+          (run_done l.run e (opened_full l e c.tried_length-tried.ensures c.open_run-opening.ensures c.if-not-opening.false) Full c.if-not-opening.false (length c.run_admitted-report.new.scratch) refl refl c.run_admitted-report.ensures.ran (c.fill.ensures.after (λ y e. e))
+          (omega (arith, c.fill.auto.self, c.run_admitted-report.auto.scratch)) (omega (arith, c.run_admitted-report.auto.marks)) (c.fill-2.ensures.after (λ y e. e)) c.run_admitted-report.ensures.counts)
           c.run_admitted-report.ensures.room);
     }
