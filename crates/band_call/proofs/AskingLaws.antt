@@ -1,5 +1,5 @@
 -- Whether a band's call is admitted.
-use Prim.Native.Nat.{ℕ, suc, ◌+◌, ◌-◌, ◌*◌, ◌/◌, ◌≤◌, ◌<◌}
+use Prim.Native.Nat.{ℕ, ◌*◌, ◌/◌, ◌≤◌, ◌<◌}
 use native.Mathlib.Omega.{arith}
 use native.Mathlib.Nat.{mul-div_cancel_left, mul-le-mul}
 use mathlib.Core.Path.{◌≡◌, sym, ap, ap₂, ◌∙◌}

@@ -33,7 +33,7 @@ use Rattle.run_meaning.specs.Admission.{good_times, too_far, out_of_field}
 use Rattle.run_meaning.specs.Report as report
 use Rattle.run_meaning.specs.Promises.Fitting.{held_fields}
 use Rattle.run_calls.specs.Calls.{NameForm, flat_names, SourceLent, source_fits, names_left}
-use Rattle.run_admission.specs.Promises.Admitting.{number_told, refusal_told, InFields}
+use Rattle.run_admission.specs.Promises.Admitting.{refusal_told, InFields}
 use Rattle.run_admission.proofs.Results.{err_same, ok_same}
 use Rattle.run_admission.proofs.RequestLaws.{good_start, good_total}
 use Rattle.band_meaning.specs.Edge.{edge}
@@ -298,26 +298,26 @@ module _ (q : BandAsked) {fit : Bool} {source ws ns : List ℕ} {o : Result Rows
           first_positive [] l h = absurd (omega arith)
           first_positive (n ∷ ns) l h = h.0
 
-      module _ {asked : Result (Unit {0}) Reason} (refuses : RefusesBand opened.rows row opened.rule.fields (border_of opened.border) q.held q.band (length q.rows) (length q.room) q.time (number_told asked)) where
+      module _ {number : ℕ} (refuses : RefusesBand opened.rows row opened.rule.fields (border_of opened.border) q.held q.band (length q.rows) (length q.room) q.time number) where
         fields_are : length program.fields ≡ opened.rule.fields
         unfolding program
         fields_are = held_fields open_is.read.program open_is.holds
 
-        number_is : number_told asked ≡ band_number (right_by program q) (rooms_by program q) (times_by q)
+        number_is : number ≡ band_number (right_by program q) (rooms_by program q) (times_by q)
         unfolding program
         number_is =
             refuses.is
             ∙ ap₂ (λ (n : ℕ) (e : Bound). band_number (band_right n e q.held q.band) (band_rooms row opened.rule.fields (length q.rows) (length q.room) e q.band) (good_times q.time (pos 1))) open_is.rows_are open_is.borders
             ∙ ap₂ (λ (r f : ℕ). band_number (band_right (get_or q.sizes 0 0) (edge open_is.read.program) q.held q.band) (band_rooms r f (length q.rows) (length q.room) (edge open_is.read.program) q.band) (good_times q.time (pos 1))) row_is (sym (held_fields open_is.read.program open_is.holds))
 
-        pub band_refused : {reason : Reason} → asked ≡ Err reason → {e : Refusal} → e ≡ refusal (reason_number reason) 0 → AdmitsBand fit source ws ns q (Err e) ws' ns'
-        band_refused {reason} i {e} w =
-            let some : number_told asked ≡ 0 → ⊥ = λ k. eqb-false _ _ (never_none reason) (sym (ap number_told i) ∙ k) in
-            let is : refusal (number_told asked) 0 ≡ e = ap (λ (n : ℕ). refusal n 0) (ap number_told i) ∙ sym w in
-            says e (refusal_is program q ∙ tried_first (right_by program q) (rooms_by program q) (times_by q) _ _ (number_told asked) number_is some ∙ is)
+        pub band_refused : (reason : Reason) → number ≡ reason_number reason → {e : Refusal} → e ≡ refusal (reason_number reason) 0 → AdmitsBand fit source ws ns q (Err e) ws' ns'
+        band_refused reason i {e} w =
+            let some : number ≡ 0 → ⊥ = λ k. eqb-false _ _ (never_none reason) (sym i ∙ k) in
+            let is : refusal number 0 ≡ e = ap (λ (n : ℕ). refusal n 0) i ∙ sym w in
+            says e (refusal_is program q ∙ tried_first (right_by program q) (rooms_by program q) (times_by q) _ _ number number_is some ∙ is)
             (λ k. some (ap (λ (g : Refusal). g.number) is ∙ k)) refl
 
-        module _ (n : number_told asked ≡ 0) where
+        module _ (n : number ≡ 0) where
           rest : band_refusal program q ≡ (if not (eqb (too_far q.sizes (written_in program)).number 0) then too_far q.sizes (written_in program) else out_of_field program.fields 0 q.rows)
           rest = refusal_is program q ∙ tried_rest (right_by program q) (rooms_by program q) (times_by q) _ _ (sym n ∙ number_is)
 
@@ -396,7 +396,6 @@ module _ (q : BandAsked) {fit : Bool} {source ws ns : List ℕ} {o : Result Rows
                       band_ended (q.band.first * row_cells q.sizes) (length q.room) (stepped_by open_is.read.program fs q.sizes e q.band q.rows (nat_abs q.time)).fault (stepped_by open_is.read.program fs q.sizes e q.band q.rows (nat_abs q.time))
 
                   is : {s : Report} {room' : List ℤ} → LentStepped ws' opened.rule q.sizes (border_of opened.border) q.band q.rows q.room (nat_abs q.time) s room' → told s room' ≡ band_source fit source q
-                  unfolding program band_stepped
                   is st =
                       st.says open_is.read.program open_is.holds
                       ∙ ap (λ (e : Bound). told_by e opened.rule.fields) open_is.borders ∙ ap (told_by (edge open_is.read.program)) (sym fields_are)

@@ -12,7 +12,7 @@ use mir.Syntax.{w64}
 use mir.Val.{SFits, to_z, of_z}
 use mir.Facts.{to_z-of_z}
 use borrow.Author.Tests.{eq-eqb, ne_eqb, eqb-true, eqb-false, not-true, not-false}
-use Rattle.std.specs.Prelude.{if◌then◌else◌}
+use Rattle.std.specs.Prelude.{Result, Ok, Err, if◌then◌else◌}
 use Rattle.automaton.specs.Shape.{product, Bound}
 use Rattle.token.specs.Lexeme.{is_built_in}
 use Rattle.program.specs.Syntax.{Program}
@@ -34,15 +34,15 @@ use Rattle.run_calls.specs.Services.{run_begins, run_read, run_source}
 use Rattle.run_calls.specs.Calls.{NameForm, flat_names, Memory, memory, lent, fits, asked, read_lent, names_left}
 use Rattle.run_calls.proofs.Theorems.AcceptedSources.{accepted_declared}
 use Rattle.band_meaning.specs.Edge.{edge_of, edge}
-use Rattle.band_meaning.specs.Bounds.{bound}
 use Rattle.band_meaning.specs.Plans.{plan_right, plan_fits}
 use Rattle.band_meaning.proofs.Theorems.EdgeTheorems.{edge_in_box}
 use Rattle.band_planner.specs.declared.borders.Border.{Border}
-use Rattle.band_planner.specs.Promises.Borders.{BordersOf}
+use Rattle.band_planner.specs.Promises.Borders.{border_of, BordersOf}
 use Rattle.band_planner.proofs.BorderLaws.{first_bound}
 use Rattle.run_steps.specs.declared.Report.{Report}
 use Rattle.run_steps.specs.Promises.Stepwise.{Runs}
 use Rattle.run_source.specs.declared.opening.Opening.{Opening}
+use Rattle.run_source.specs.declared.opening.Stop.{Stop}
 use Rattle.run_source.specs.Promises.Sourcewise.{RunBegun, RunOpens}
 use Rattle.run_source.specs.Promises.Public.{RunLeaves}
 use Rattle.band_run.specs.BandedRun.{room_right, admitted_under, BandedLent, banded_lent, under, left_refused, left_full, left_turned, left_read, banded_left}
@@ -123,7 +123,7 @@ module _ {N : Type 0} (form : NameForm N) (l : BandedLent N) where
 
 module _ {words : List ℕ} {rule : Rule} {r : Reach} {b : Border} (borders : BordersOf r b) (some_dims : 0 < rule.dims) where
   -- they are those of every program with this reach
-  edge_is : {timed : Bool} (p : Program) → Runs words rule r timed p → edge p ≡ bound b.before b.behind
+  edge_is : {timed : Bool} (p : Program) → Runs words rule r timed p → edge p ≡ border_of b
   unfolding edge reach
   edge_is p h = ap₂ (λ (bs : List Bound) (ps : Option (List (List ℤ))). edge_of (reach_from bs ps)) h.reaches h.lists ∙ sym (borders.is rule.dims some_dims)
 
@@ -141,7 +141,7 @@ module _ {words : List ℕ} {rule : Rule} {r : Reach} {b : Border} (borders : Bo
 -- ---- the ways through
 
 module _ (l : BandedLent ℕ) (list : is_built_in l.run.list ≡ true) {tried : ℕ}
-    (tries : TriesRoom l.run.sizes (length l.run.memory.grid) (length l.run.memory.scratch) l.held (length l.room) tried) {r : Opening} {ws' ns' : List ℕ}
+    (tries : TriesRoom l.run.sizes (length l.run.memory.grid) (length l.run.memory.scratch) l.held (length l.room) tried) {r : Result Opening Stop} {ws' ns' : List ℕ}
     (opened : RunOpens (rooms_fit (length l.run.memory.words) (length l.run.memory.names)) l.run.source l.run.memory.words l.run.memory.names (with_scratch (asked l.run) tried) r ws' ns') where
   opens : RunOpens (fits flat_names l.run) l.run.source l.run.memory.words l.run.memory.names (with_scratch (asked l.run) tried) r ws' ns'
   opens =
@@ -154,13 +154,13 @@ module _ (l : BandedLent ℕ) (list : is_built_in l.run.list ≡ true) {tried : 
   turns_away e = leaves_refused flat_names l opens.words opens.names e
 
   -- the run does not begin
-  pub closed_run : not r.begun ≡ true
-      → BandedLeaves flat_names l (refused_with r.number r.place r.line) (memory ws' ns' l.run.memory.grid l.run.memory.scratch l.run.memory.marks l.run.memory.counts) l.room
-  closed_run e = let shut = not-true r.begun e in turns_away (left_closed flat_names l tries (opens.closed shut) (opens.refuses shut full))
+  pub closed_run : {s : Stop} → r ≡ Err s
+      → BandedLeaves flat_names l (refused_with s.number s.place s.line) (memory ws' ns' l.run.memory.grid l.run.memory.scratch l.run.memory.marks l.run.memory.counts) l.room
+  closed_run {s} e = turns_away (left_closed flat_names l tries (opens.closed s e) (opens.refuses s e full))
 
-  module _ (e : not r.begun ≡ false) where
-    tried_begun : RunBegun (fits flat_names l.run) l.run.source (with_scratch (asked l.run) tried) ws' r.rule r.reach
-    tried_begun = opens.opened (not-false r.begun e)
+  module _ {o : Opening} (e : r ≡ Ok o) where
+    tried_begun : RunBegun (fits flat_names l.run) l.run.source (with_scratch (asked l.run) tried) ws' o.rule o.reach
+    tried_begun = opens.opened o e
 
     pub some_sizes : 0 < length l.run.sizes
     some_sizes = omega (arith, tried_begun.shaped.dims, tried_begun.some_dims)
@@ -169,15 +169,15 @@ module _ (l : BandedLent ℕ) (list : is_built_in l.run.list ≡ true) {tried : 
     first_size = first_some l.run.sizes some_sizes tried_begun.shaped.positive
 
     -- the room is right, since the length of scratch passed
-    rows_right : eqb (length l.room) (l.held * product (drop 1 l.run.sizes) * r.rule.fields) ≡ true
-    rows_right = by (eqb (length l.room) (l.held * product (drop 1 l.run.sizes) * r.rule.fields)) refl
+    rows_right : eqb (length l.room) (l.held * product (drop 1 l.run.sizes) * o.rule.fields) ≡ true
+    rows_right = by (eqb (length l.room) (l.held * product (drop 1 l.run.sizes) * o.rule.fields)) refl
       where
-        by : (t : Bool) → eqb (length l.room) (l.held * product (drop 1 l.run.sizes) * r.rule.fields) ≡ t → t ≡ true
+        by : (t : Bool) → eqb (length l.room) (l.held * product (drop 1 l.run.sizes) * o.rule.fields) ≡ t → t ≡ true
         by true q = refl
-        by false q = absurd (tries.wrong r.rule.fields first_size (sym tried_begun.shaped.entries) q tried_begun.scratch_fits)
+        by false q = absurd (tries.wrong o.rule.fields first_size (sym tried_begun.shaped.entries) q tried_begun.scratch_fits)
 
     tried_is : tried ≡ length l.run.memory.scratch
-    tried_is = tries.right r.rule.fields first_size (sym tried_begun.shaped.entries) rows_right
+    tried_is = tries.right o.rule.fields first_size (sym tried_begun.shaped.entries) rows_right
 
     -- so it is the run of the true length
     pub opened_full : RunOpens (rooms_fit (length l.run.memory.words) (length l.run.memory.names)) l.run.source l.run.memory.words l.run.memory.names (asked l.run) r ws' ns'
@@ -197,7 +197,7 @@ module _ (l : BandedLent ℕ) (list : is_built_in l.run.list ≡ true) {tried : 
     unfolding room_right
     room_is = ap (λ (n : ℕ). eqb (length l.room) (l.held * product (drop 1 l.run.sizes) * n)) (held_fields program tried_begun.runs.holds) ∙ rows_right
 
-    module _ {b : Border} (borders : BordersOf r.reach b) {t : Bool} (tests : t ≡ plan_right (get_or l.run.sizes 0 0) (bound b.before b.behind) l.held l.plan) where
+    module _ {b : Border} (borders : BordersOf o.reach b) {t : Bool} (tests : t ≡ plan_right (get_or l.run.sizes 0 0) (border_of b) l.held l.plan) where
       plan_is : plan_fits program l.run.sizes l.held l.plan ≡ t
       unfolding plan_fits
       plan_is = ap (λ (x : Bound). plan_right (get_or l.run.sizes 0 0) x l.held l.plan) (edge_is borders tried_begun.some_dims program tried_begun.runs) ∙ sym tests
@@ -208,7 +208,7 @@ module _ (l : BandedLent ℕ) (list : is_built_in l.run.list ≡ true) {tried : 
       other_plan f = turns_away (left_some flat_names l tried_begun.read tried_begun.is (under_60 program flag (asked l.run) (under l) room_is admits (plan_is ∙ not-true t f)) (λ z. omega (arith, z)))
 
       module _ (f : not t ≡ false) where
-        pub under_plan : UnderPlan ws' r.rule l.run.sizes r.reach (bound b.before b.behind) l.held l.plan (length l.room)
+        pub under_plan : UnderPlan ws' o.rule l.run.sizes o.reach (border_of b) l.held l.plan (length l.room)
         under_plan =
             let near = edge_near borders tried_begun.some_dims l.run.sizes program tried_begun.runs some_sizes tried_begun.near in
             record {

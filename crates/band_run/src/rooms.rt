@@ -2,6 +2,8 @@
 ghost use Rattle.std.specs.Prelude.{◌≡◌, ◌+◌, ◌*◌, ◌≤◌, min, eqb};
 ghost use Rattle.band_run.specs.Promises.Rooms.{FitsRoom, TriesRoom};
 
+use band_planner::borders::Border;
+
 // Whether a room is of as many rows as can be held, each of so many entries.
 fn rows_fit(width: usize, held: u32, room: usize) -> bool
     ensures { result ≡ eqb room (held * width) }
@@ -45,13 +47,9 @@ pub fn tried_length(sizes: &[u32], entries: usize, scratch: usize, held: u32, ro
 }
 
 // How many rows of the room are used: as many as can be held, but no more than the grid has with its border rows.
-pub fn used_rows(held: u32, rows: u32, before: u32, behind: u32) -> u32
-    requires { rows + before + behind ≤ 12288 }
-    ensures { result ≡ min held (rows + before + behind) }
+pub fn used_rows(held: u32, rows: u32, border: Border) -> u32
+    requires { rows + border.before + border.behind ≤ 12288 }
+    ensures { result ≡ min held (rows + border.before + border.behind) }
 {
-    let all = rows + before + behind;
-    if held < all {
-        return held;
-    }
-    all
+    held.min(rows + border.before + border.behind)
 }

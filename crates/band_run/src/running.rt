@@ -1,7 +1,7 @@
 // A full run under a plan.
 ghost use Rattle.std.specs.Prelude.{◌≡◌, true, false, List, ℕ, length, replicate, pos};
 ghost use Rattle.run_calls.specs.Calls.{flat_names, memory, lent};
-ghost use Rattle.band_meaning.specs.Bounds.{bound};
+ghost use Rattle.band_planner.specs.Promises.Borders.{border_of};
 ghost use Rattle.run_steps.specs.Promises.Stepwise.{pending_in, Begins, Ran};
 ghost use Rattle.run_steps.specs.Promises.Countwise.{CountsFit, Tallied};
 ghost use Rattle.band_run.specs.BandedRun.{banded_lent};
@@ -9,12 +9,13 @@ ghost use Rattle.band_run.specs.Promises.Running.{UnderPlan, BandedLeaves, Bands
 
 use crate::rooms::{tried_length, used_rows};
 use band_call::asking::row_cells;
-use band_planner::borders::border_rows;
+use band_planner::borders::{Border, border_rows};
 use band_planner::plans::plan_accepted;
 use band_step::lending::room_shape;
 use program::Rule;
+use program::reply::{Reason, Refusal};
 use run_meaning::Reach;
-use run_source::opening::open_run;
+use run_source::opening::{Stop, open_run};
 use run_steps::{Bands, Report, run_by};
 use spelling::is_built_in;
 
@@ -24,8 +25,7 @@ fn run_admitted(
     rule: Rule,
     sizes: &[u32],
     reach: Reach,
-    before: u32,
-    behind: u32,
+    border: Border,
     grid: &mut [i32],
     scratch: &mut [i32],
     marks: &mut [u8],
@@ -39,13 +39,13 @@ fn run_admitted(
     plan: &[u32],
     room: &mut [i32],
 ) -> Report
-    requires { Begins words.now rule sizes.now reach grid.old scratch.old marks.old values.now start steps × CountsFit counted rule.fields sizes.now field (length counts.old) × UnderPlan words.now rule sizes.now reach (bound before behind) held plan.now (length room.old) }
+    requires { Begins words.now rule sizes.now reach grid.old scratch.old marks.old values.now start steps × CountsFit counted rule.fields sizes.now field (length counts.old) × UnderPlan words.now rule sizes.now reach (border_of border) held plan.now (length room.old) }
     ensures ran { Ran words.now rule sizes.now reach true values.now start steps (pending_in false marks.old) grid.old result grid.new marks.new }
     ensures counts { Tallied words.now rule sizes.now reach true counted field grid.new counts.old counts.new }
     ensures room { room.new ≡ replicate (length room.old) (pos 0) }
 {
     let row = row_cells(sizes);
-    let rows = used_rows(held, sizes[0], before, behind);
+    let rows = used_rows(held, sizes[0], border);
     let shape = room_shape(sizes, rows);
     let dims = sizes.len();
     let used = rows as usize * row * rule.fields as usize;
@@ -68,9 +68,9 @@ fn run_admitted(
         &shape[..dims],
         Bands {
             banded: true,
-            row: row,
-            before: before as usize,
-            behind: behind as usize,
+            row,
+            before: border.before as usize,
+            behind: border.behind as usize,
         },
         plan,
         &mut room[..used],
@@ -101,7 +101,7 @@ fn run_planned(
     ensures { BandsListed (λ (list : List ℕ). banded_lent (lent source.now list sizes.now (memory words.old names.old grid.old scratch.old marks.old counts.old) values.now start steps counted field) held plan.now room.old) result (memory words.new names.new grid.new scratch.new marks.new counts.new) room.new }
 {
     let tried = tried_length(sizes, grid.len(), scratch.len(), held, room.len());
-    let opening = open_run(
+    let opening = match open_run(
         source,
         words,
         names,
@@ -115,37 +115,20 @@ fn run_planned(
         counts.len(),
         counted,
         field,
-    );
-    if !opening.begun {
-        return Report {
-            number: opening.number,
-            place: opening.place,
-            line: opening.line,
-            cell: 0,
-            steps: 0,
-            count: 0,
-        };
-    }
-    let rule = opening.rule;
-    let reach = opening.reach;
-    let border = border_rows(reach);
-    if !plan_accepted(plan, sizes[0], border.before, border.behind, held) {
-        return Report {
-            number: 60,
-            place: 0,
-            line: 0,
-            cell: 0,
-            steps: 0,
-            count: 0,
-        };
+    ) {
+        Ok(opening) => opening,
+        Err(stop) => return Report::from(stop),
+    };
+    let border = border_rows(opening.reach);
+    if !plan_accepted(plan, sizes[0], border, held) {
+        return Report::from(Stop::from(Refusal::new(Reason::WrongPlan, 0)));
     }
     let report = run_admitted(
         words,
-        rule,
+        opening.rule,
         sizes,
-        reach,
-        border.before,
-        border.behind,
+        opening.reach,
+        border,
         grid,
         scratch,
         marks,
@@ -190,14 +173,7 @@ pub fn run_banded(
     ensures { BandedLeaves flat_names (banded_lent (lent source.now list.now sizes.now (memory words.old names.old grid.old scratch.old marks.old counts.old) values.now start steps counted field) held plan.now room.old) result (memory words.new names.new grid.new scratch.new marks.new counts.new) room.new }
 {
     if !is_built_in(list) {
-        return Report {
-            number: 1,
-            place: 0,
-            line: 0,
-            cell: 0,
-            steps: 0,
-            count: 0,
-        };
+        return Report::from(Stop::from(Refusal::new(Reason::Buffers, 0)));
     }
     run_planned(
         source, words, names, sizes, grid, scratch, marks, values, start, steps, counts, counted,
