@@ -3,6 +3,7 @@ ghost use Rattle.std.specs.Prelude.{◌≡◌, ◌∷◌, ◌+◌, ◌%◌, ◌<
 ghost use Rattle.value.specs.Limits.{most_dims};
 ghost use Rattle.band_step.specs.Promises.Lending.{RowFits, copied, Lending, with_rows};
 
+use run_meaning::next_coordinate;
 use value::limits::MOST_DIMS;
 
 // Copies so many entries of a grid from a position on into a room.
@@ -11,14 +12,6 @@ fn copy_row(grid: &[i32], from: usize, room: &mut [i32], to: usize, width: usize
     ensures { room.new ≡ copied grid.now room.old from to width }
 {
     room[to..to + width].copy_from_slice(&grid[from..from + width]);
-}
-
-// The row after a row; the first is after the last.
-fn next_row(row: usize, rows: usize) -> usize
-    requires { row < rows }
-    ensures { result ≡ (row + 1) % rows }
-{
-    if row + 1 == rows { 0 } else { row + 1 }
 }
 
 // Copies so many rows of a grid, from `before` rows before a row on, to the front of a room. They wrap at the edges, and may repeat. `row` is
@@ -41,7 +34,8 @@ pub fn fill_room(
     let mut from = (first + rows - before) % rows;
     for k in 0..count {
         copy_row(grid, from * width, room, k * width, width);
-        from = next_row(from, rows);
+        let next = next_coordinate(from, rows);
+        from = next;
     }
 }
 

@@ -35,10 +35,8 @@ pub fn fill_leaves(
     requires { (4 * n ≤ length words.now) × (n ≤ most_tokens) × (length sizes.now ≤ most_dims) × Positive sizes.now }
     ensures { Leaves leaves.new words.now sizes.now n fields slots }
 {
-    let mut p: usize = 0;
-    while p <= n {
+    for p in 0..n + 1 {
         write_leaf(words, n, sizes, fields, slots, leaves, p);
-        p += 1;
     }
     write_shapes(leaves, n);
 }

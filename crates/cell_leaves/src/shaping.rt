@@ -54,10 +54,8 @@ pub fn write_shapes(leaves: &mut [u32; LEAF_WORDS], n: usize)
     requires { (n ≤ most_tokens) × Linked n leaves.old }
     ensures { LeafShaped (n + 1) leaves.old leaves.new }
 {
-    let mut p: usize = 0;
-    while p <= n {
+    for p in 0..n + 1 {
         let shape = shape_at(leaves, n, p);
         write_shape(leaves, p, shape);
-        p += 1;
     }
 }

@@ -35,15 +35,13 @@ fn write_offsets(words: &[u32], n: usize, sizes: &[u32], leaves: &mut [u32], p: 
 {
     let dims = sizes.len();
     let mut here = p + 1;
-    let mut k: usize = 0;
-    while k < dims {
+    for k in 0..dims {
         if is_moving(words, n, here) {
             return false;
         }
         let offset = Value::decode(word_at(words, n, 3, here));
         leaves[8 * p + 4 + k] = wrapped(0, offset, sizes[k]);
         here = element_after(words, n, dims, here);
-        k += 1;
     }
     true
 }

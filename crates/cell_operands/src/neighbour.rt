@@ -113,14 +113,12 @@ fn neighbour_number(
     let dims = sizes.len();
     let mut number: usize = 0;
     let mut here = at;
-    let mut k = 0;
-    while k < dims {
+    for k in 0..dims {
         let size = sizes[k];
         let own = point[k];
         let to = wrapped(own, element_value(words, n, dims, index, depth, here), size);
         number = number * size as usize + to as usize;
         here = element_after(words, n, dims, here);
-        k += 1;
     }
     number
 }

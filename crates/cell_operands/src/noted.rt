@@ -47,13 +47,11 @@ fn noted_number(
 {
     let dims = sizes.len();
     let mut number: usize = 0;
-    let mut k = 0;
-    while k < dims {
+    for k in 0..dims {
         let size = sizes[k] as usize;
         let own = point[k] as usize;
         let to = moved(own, leaf_word(leaves, at, 4 + k) as usize, size);
         number = number * size + to;
-        k += 1;
     }
     number
 }

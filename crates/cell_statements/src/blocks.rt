@@ -177,11 +177,10 @@ fn forall(
     if MOST_TURNS < count {
         return Ok(Flow::On);
     }
-    let mut k: u64 = 0;
-    while k < count {
+    for k in 0..count {
         set_index(index, depth, low, high, k);
         match block(&inner, vars, index, next, body)? {
-            Flow::On => k += 1,
+            Flow::On => {}
             Flow::Leaving => return Ok(Flow::On),
         }
     }

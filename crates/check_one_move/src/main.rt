@@ -6,34 +6,21 @@ use move_profile::{Missed, check_one_move};
 use tool_text::read_full;
 use value::limits::{NAME_WORDS, TABLE_WORDS};
 
-// Writes the line of check_rule for a source that is refused.
-fn tell_refused(rt: &HostRuntime, number: u32, place: u32) {
-    let mut line = [0u8; 33];
-    let end = tool_reply_line::write_line(number, place, &mut line);
-    let written = io::count(end as isize, &line);
-    let _ = rt.write_all(&line[..written]);
-}
-
-// Writes the answer.
+// Writes the answer: the line of check_rule for a source that is refused.
 fn tell(rt: &HostRuntime, answer: Result<(), Missed>) {
-    match answer {
-        Ok(()) => {
-            let _ = rt.write_all(b"in the profile\n");
-        }
-        Err(Missed::Refused(refusal)) => {
-            let _ = rt.write_all(b"misses rule 1: ");
-            tell_refused(rt, refusal.number, refusal.place);
-        }
-        Err(Missed::NoFlag) => {
-            let _ = rt.write_all(
-                b"misses rule 2: no field moved of range 0..1 that is not const\n",
-            );
-        }
+    let text = match answer {
+        Ok(()) => "in the profile\n",
+        Err(Missed::Refused(_)) => "misses rule 1: ",
+        Err(Missed::NoFlag) => "misses rule 2: no field moved of range 0..1 that is not const\n",
         Err(Missed::OtherStatements) => {
-            let _ = rt.write_all(
-                b"misses rule 3: not one statement, if cell.moved = 0 then .. cell.moved := 1 end\n",
-            );
+            "misses rule 3: not one statement, if cell.moved = 0 then .. cell.moved := 1 end\n"
         }
+    };
+    let _ = rt.print(text);
+    if let Err(Missed::Refused(refusal)) = answer {
+        let mut line = [0u8; 33];
+        let end = tool_reply_line::write_line(refusal.number, refusal.place, &mut line);
+        let _ = rt.write_all(&line[..end.min(33)]);
     }
 }
 

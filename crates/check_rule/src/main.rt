@@ -14,6 +14,5 @@ fn main(rt: HostRuntime) {
     let reply = api_naming::check(&source[..n], &list, &mut words, names);
     let mut line = [0u8; 33];
     let end = tool_reply_line::write_line(reply.number, reply.place, &mut line);
-    let written = io::count(end as isize, &line);
-    let _ = rt.write_all(&line[..written]);
+    let _ = rt.write_all(&line[..end.min(33)]);
 }

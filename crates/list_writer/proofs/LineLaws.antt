@@ -1,16 +1,15 @@
 -- The lines of the cells that differ, and the whole text.
-use Prim.Native.Nat.{ℕ, zero, suc, ◌+◌, ◌-◌, ◌*◌, ◌^◌, ◌≤◌, ◌<◌}
-use native.Mathlib.Nat.{zero-add, mul-le-mul}
+use Prim.Native.Nat.{ℕ, zero, suc, ◌+◌, ◌-◌, ◌*◌, ◌≤◌, ◌<◌}
+use native.Mathlib.Nat.{zero-add}
 use native.Mathlib.Numerals.{add-one}
 use native.Mathlib.Omega.{arith}
 use mathlib.Core.Path.{◌≡◌, refl, sym, ap, ap₂, ◌∙◌, subst}
-use mathlib.Core.Bool.{Bool, true, false, not}
+use mathlib.Core.Bool.{Bool, true, false}
 use mathlib.Core.List.{List, [], ◌∷◌, ◌++◌, map, append_assoc, append-nil}
 use mathlib.Core.Option.{Option}
 use lib.ListN.{length, get_or, take, drop, length-append, length-drop}
 use lib.Seq.{length-take-le, ext_get_or, get_or-take, get_or-drop}
 use lib.IntN.{ℤ, pos}
-use borrow.Author.Tests.{not-true, not-false}
 use Rattle.automaton.specs.Listed.{list_of}
 use Rattle.automaton.specs.Promises.ListedLaws.{length_list_of, get_or_list_of}
 use Rattle.automaton.specs.Shape.{product, coordinates}
@@ -20,9 +19,9 @@ use Rattle.automaton.proofs.Theorems.GridLaws.{cell_room}
 use Rattle.tool_reply_line.proofs.Lines.{digits_length}
 use Rattle.list_meaning.specs.Writing.{print_number, print_field, listed, cell_line, shown, cells_text, written_text}
 use Rattle.list_meaning.specs.Promises.Showing.{length_shown}
-use Rattle.list_writer.specs.Promises.Printing.{Puts, PutsDigits}
+use Rattle.list_writer.specs.Promises.Printing.{Puts}
 use Rattle.list_writer.specs.Promises.Lines.{Grids, changed_line}
-use Rattle.list_writer.proofs.PrintingLaws.{puts_nothing, and_then, number_put, field_length, listed_length}
+use Rattle.list_writer.proofs.PrintingLaws.{puts_nothing, and_then, field_length, listed_length}
 
 -- ---- a cell's line
 
@@ -31,10 +30,6 @@ numbers_length is l = omega (arith, listed_length 10 print_number (digits_length
 
 pub values_length : (flag : Option ℕ) (vs : List ℤ) → length vs ≤ 64 → length (listed (map print_field (shown flag vs))) ≤ 832
 values_length flag vs l = omega (arith, listed_length 11 print_field field_length (shown flag vs), length_shown flag vs)
-
-pub between_put : {old a b c new : List ℕ} {at i j k r : ℕ} → Puts old at (93 ∷ []) a i → Puts a i (32 ∷ []) b j → Puts b j (61 ∷ []) c k → Puts c k (32 ∷ []) new r
-    → Puts old at (93 ∷ 32 ∷ 61 ∷ 32 ∷ []) new r
-between_put p q s t = and_then (and_then (and_then p q) s) t
 
 -- its parts, one behind another
 line_text : (is : List ℕ) (vs : List (Option ℤ))
@@ -71,9 +66,6 @@ cell_part fields g c l =
     at k h = get_or-take fields (drop (c * fields) g) k (pos 0) h ∙ get_or-drop (c * fields) g k (pos 0) ∙ sym (get_or_list_of _ fields k (pos 0) h)
 
 module _ {sizes : List ℕ} {fields : ℕ} {earlier later : List ℤ} (w : Grids sizes fields earlier later) {c : ℕ} (l : c < product sizes) where
-  pub changed_within : (c * fields + fields ≤ length earlier) × (length earlier ≤ 8388608) × (length later ≡ length earlier)
-  changed_within = (cell_room c (product sizes) fields (length earlier) l w.earlier_entries, subst (λ (n : ℕ). n ≤ 8388608) w.earlier_entries (mul-le-mul w.cells w.fields_few), sym w.later_entries ∙ w.earlier_entries)
-
   dims_few : length (coordinates sizes c) ≤ 3
   dims_few = omega (arith, w.dims, inside_length sizes (coordinates sizes c) (coordinates_inside sizes c w.positive l))
 
@@ -90,15 +82,15 @@ module _ {sizes : List ℕ} {fields : ℕ} {earlier later : List ℤ} (w : Grids
       by false = omega arith
 
   module _ (flag : Option ℕ) {t : Bool} (e : t ≡ differ (cell_of fields earlier c) (cell_of fields later c)) where
-    pub same_put : not t ≡ true → (old : List ℕ) (at : ℕ) → Puts old at (changed_line sizes fields flag earlier later c) old at
+    pub same_put : t ≡ false → (old : List ℕ) (at : ℕ) → Puts old at (changed_line sizes fields flag earlier later c) old at
     unfolding changed_line
-    same_put n old at = rw (sym e ∙ not-true t n, changed_line) (puts_nothing old at)
+    same_put n old at = rw (sym e ∙ n, changed_line) (puts_nothing old at)
 
-    pub changed_put : not t ≡ false → {old new : List ℕ} {at r : ℕ} {point : List ℕ} → (c < product sizes → point ≡ coordinates sizes c)
+    pub changed_put : t ≡ true → {old new : List ℕ} {at r : ℕ} {point : List ℕ} → (c < product sizes → point ≡ coordinates sizes c)
         → Puts old at (cell_line point (shown flag (take (c * fields + fields - c * fields) (drop (c * fields) later))) ++ 10 ∷ []) new r → Puts old at (changed_line sizes fields flag earlier later c) new r
     unfolding changed_line
     changed_put n {old} {new} {at} {r} h x =
-        rw (sym e ∙ not-false t n, changed_line)
+        rw (sym e ∙ n, changed_line)
         (subst (λ (y : List ℕ). Puts old at y new r)
         (ap₂ (λ (is : List ℕ) (vs : List ℤ). cell_line is (shown flag vs) ++ 10 ∷ []) (h l) (cell_part fields later c (cell_room c (product sizes) fields (length later) l w.later_entries))) x)
 
@@ -147,15 +139,12 @@ module _ (sizes : List ℕ) (fields : ℕ) (flag : Option ℕ) (earlier later : 
       (ap (λ (k : ℕ). cells_text sizes fields flag earlier later c 0 ++ changed_line sizes fields flag earlier later k) (sym (zero-add c)) ∙ sym (last_cell c 0) ∙ ap (λ (n : ℕ). cells_text sizes fields flag earlier later n 0) (sym (add-one c)))
       (and_then x y)
 
-  pub cells_end : {old new : List ℕ} {at r cells : ℕ} (c : ℕ) → c ≤ cells → cells ≤ c → Puts old at (cells_text sizes fields flag earlier later c 0) new r → Puts old at (cells_text sizes fields flag earlier later cells 0) new r
-  cells_end {old} {new} {at} {r} {cells} c l m x = subst (λ (n : ℕ). Puts old at (cells_text sizes fields flag earlier later n 0) new r) (let e : c ≡ cells = omega arith in e) x
-
   -- ---- the text
 
-  pub text_put : {old a b new : List ℕ} {time i j r : ℕ} (cells : ℕ) → cells ≡ product sizes → time < 2 ^ 32 → PutsDigits old 0 time a i → Puts a i (10 ∷ []) b j → Puts b j (cells_text sizes fields flag earlier later cells 0) new r
-      → Puts old 0 (written_text sizes fields flag earlier later time) new r
+  pub text_put : {old a b new : List ℕ} {at i j r : ℕ} (time cells : ℕ) → cells ≡ product sizes → Puts old at (print_number time) a i → Puts a i (10 ∷ []) b j → Puts b j (cells_text sizes fields flag earlier later cells 0) new r
+      → Puts old at (written_text sizes fields flag earlier later time) new r
   unfolding written_text
-  text_put {old} {a} {b} {new} {time} {i} {j} {r} cells e l x y z =
-      subst (λ (t : List ℕ). Puts old 0 t new r)
+  text_put {old} {new = new} {at = at} {r = r} time cells e x y z =
+      subst (λ (t : List ℕ). Puts old at t new r)
       (append_assoc (print_number time) (10 ∷ []) (cells_text sizes fields flag earlier later cells 0) ∙ ap (λ (n : ℕ). print_number time ++ 10 ∷ cells_text sizes fields flag earlier later n 0) e)
-      (and_then (and_then (number_put l x) y) z)
+      (and_then (and_then x y) z)

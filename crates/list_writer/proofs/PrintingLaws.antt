@@ -4,18 +4,18 @@ use native.Mathlib.Nat.{add-zero, pow-suc, mul-suc}
 use native.Mathlib.Numerals.{add-one}
 use native.Mathlib.Omega.{arith}
 use mathlib.Core.Path.{◌≡◌, refl, sym, ap, ap₂, ◌∙◌, subst}
-use mathlib.Core.Bool.{Bool, true, false, not}
+use mathlib.Core.Bool.{Bool, true}
 use mathlib.Core.List.{List, [], ◌∷◌, ◌++◌, map, append_assoc}
 use mathlib.Core.Option.{Option, some, none}
 use lib.ListN.{length, get_or, set, take, length-append, length-map}
-use lib.Seq.{sets, set_out, take_all, take-suc, length-take-le}
+use lib.Seq.{sets, take_all, take-suc, length-take-le}
 use lib.Dec.{eqb}
 use lib.IntN.{ℤ, pos, negsuc}
 use mir.Syntax.{w32}
 use mir.Val.{SFits, to_z, of_z}
 use mir.Facts.{to_z-of_z}
-use borrow.Author.Tests.{lt-ltb, le-ltb, le-leb, not-true, not-false}
-use Rattle.value.specs.Number.{in_range, eq_z}
+use borrow.Author.Tests.{lt-ltb, le-ltb, le-leb}
+use Rattle.value.specs.Number.{in_range}
 use Rattle.value.specs.Worked.{encode_of, decode_of}
 use Rattle.value.proofs.Theorems.Laws.{decode_encode, sub_lt}
 use Rattle.grammar.specs.Decimal.{digits_of}
@@ -42,10 +42,6 @@ and_then {old} {mid} {new} {a} {b} {at} {m} {r} x y =
       end = omega (arith, length-append a b, x.end, y.end);
     }
 
--- a byte behind the end of the room
-pub byte_out : (old : List ℕ) (at b : ℕ) → length old ≤ at → Puts old at (b ∷ []) old (at + 1)
-byte_out old at b l = record { is = sym (set_out old at b l); end = refl }
-
 -- ---- digits
 
 pub one_put : {old new : List ℕ} {at n r : ℕ} → n < 10 → Puts old at ((48 + n) ∷ []) new r → PutsDigits old at n new r
@@ -67,35 +63,21 @@ number_put h x = x.puts 9 (omega arith)
 
 -- ---- values
 
-pub word_plain : {old new : List ℕ} {at w r : ℕ} → w < 2147483648 → PutsDigits old at w new r → Puts old at (print_value (decode_of w)) new r
-word_plain {w = w} h x = rw (lt-ltb w 2147483648 h) (number_put (omega arith) x)
+pub word_plain : {old new : List ℕ} {at w r : ℕ} → w < 2147483648 → Puts old at (print_number w) new r → Puts old at (print_value (decode_of w)) new r
+word_plain {w = w} h x = rw (lt-ltb w 2147483648 h) x
 
-pub word_signed : {old mid new : List ℕ} {at w m r : ℕ} → 2147483648 ≤ w → w < 2 ^ 32 → Puts old at (45 ∷ []) mid m → PutsDigits mid m (4294967295 - w + 1) new r → Puts old at (print_value (decode_of w)) new r
+pub word_signed : {old mid new : List ℕ} {at w m r : ℕ} → 2147483648 ≤ w → w < 2 ^ 32 → Puts old at (45 ∷ []) mid m → Puts mid m (print_number (4294967295 - w + 1)) new r → Puts old at (print_value (decode_of w)) new r
 word_signed {old} {mid} {new} {at} {w} {m} {r} h l x y =
     let e : 4294967295 - w + 1 ≡ suc (4294967296 - suc w) = omega arith in
-    let z : Puts mid m (print_number (suc (4294967296 - suc w))) new r = subst (λ (k : ℕ). Puts mid m (print_number k) new r) e (number_put (omega arith) y) in
+    let z : Puts mid m (print_number (suc (4294967296 - suc w))) new r = subst (λ (k : ℕ). Puts mid m (print_number k) new r) e y in
     rw (le-ltb w 2147483648 h, sub_lt w 4294967296 (omega arith)) (and_then x z)
 
 small_range : (z : ℤ) → SFits w32 z → in_range z ≡ true
 small_range (pos n) f = le-leb n 2147483647 (let x = f.sfits in omega arith)
 small_range (negsuc n) f = rw (le-leb n 2147483647 (let x = f.sfits in omega arith))
 
--- a value as the machine reads it
-pub value_read : {old new : List ℕ} {at r : ℕ} {z : ℤ} → SFits w32 z → Puts old at (print_value (to_z w32 (of_z w32 z))) new r → Puts old at (print_value z) new r
-value_read {old} {new} {at} {r} {z} f = subst (λ (y : ℤ). Puts old at (print_value y) new r) (to_z-of_z f)
-
 pub value_put : {old new : List ℕ} {at e r : ℕ} {z : ℤ} → SFits w32 z → e ≡ encode_of (to_z w32 (of_z w32 z)) → Puts old at (print_value (decode_of e)) new r → Puts old at (print_value z) new r
 value_put {old} {new} {at} {e} {r} {z} f q = subst (λ (y : ℤ). Puts old at (print_value y) new r) (ap decode_of (q ∙ ap encode_of (to_z-of_z f)) ∙ decode_encode z (small_range z f))
-
--- a field's value, by whether it is a flag and 0
-pub field_plain : {old new : List ℕ} {at r : ℕ} (flag : Bool) (z : ℤ) → SFits w32 z → not flag ≡ true → Puts old at (print_value (to_z w32 (of_z w32 z))) new r → Puts old at (print_field (field_shown flag z)) new r
-field_plain flag z f e x = rw (not-true flag e) (value_read {z = z} f x)
-
-pub field_missing : (flag : Bool) (z : ℤ) → not flag ≡ false → eq_z z (pos 0) ≡ true → (old : List ℕ) (at : ℕ) → Puts old at (print_field (field_shown flag z)) old at
-field_missing flag z e n old at = rw (not-false flag e, n) (puts_nothing old at)
-
-pub field_given : {old new : List ℕ} {at r : ℕ} (flag : Bool) (z : ℤ) → SFits w32 z → not flag ≡ false → eq_z z (pos 0) ≡ false → Puts old at (print_value (to_z w32 (of_z w32 z))) new r → Puts old at (print_field (field_shown flag z)) new r
-field_given flag z f e n x = rw (not-false flag e, n) (value_read {z = z} f x)
 
 -- as the machine reads it
 pub field_read : {old new : List ℕ} {at r : ℕ} (flag : Bool) (z : ℤ) → SFits w32 z → Puts old at (print_field (field_shown flag (to_z w32 (of_z w32 z)))) new r → Puts old at (print_field (field_shown flag z)) new r
@@ -111,13 +93,6 @@ field_length none = omega arith
 field_length (some z) = value_length z
 
 -- ---- texts with separators
-
-pub separator_none : {k : ℕ} → k ≡ 0 → (old : List ℕ) (at : ℕ) → Puts old at (separator k) old at
-separator_none e old at = rw e (puts_nothing old at)
-
-pub separator_put : (k : ℕ) {old mid new : List ℕ} {at m r : ℕ} → (k ≡ 0 → ⊥) → Puts old at (44 ∷ []) mid m → Puts mid m (32 ∷ []) new r → Puts old at (separator k) new r
-separator_put zero h x y = absurd (h refl)
-separator_put (suc k) h x y = and_then x y
 
 pub separator_length : (k : ℕ) → length (separator k) ≤ 2
 separator_length zero = omega arith

@@ -8,13 +8,12 @@ use mathlib.Core.List.{List, ◌++◌}
 use mathlib.Core.Option.{Option, some}
 use lib.ListN.{length, drop}
 use lib.Seq.{sets-eq}
-use lib.Dec.{T, eqb}
+use lib.Dec.{eqb}
 use lib.IntN.{ℤ, nat_abs}
-use lib.Signed.{non_neg}
-use mir.Syntax.{w32, w64}
-use mir.Val.{Fits, SFits, to_z, of_z}
+use mir.Syntax.{w64}
+use mir.Val.{SFits, to_z, of_z}
 use mir.Facts.{to_z-of_z}
-use borrow.Author.Tests.{eq-eqb, ne_eqb, lt-ltb, le-ltb, not-true, not-false}
+use borrow.Author.Tests.{ne_eqb, lt-ltb, le-ltb, not-true, not-false}
 use Rattle.std.specs.Prelude.{Result, Ok, Err}
 use Rattle.value.proofs.Theorems.Laws.{never}
 use Rattle.token.specs.Lexeme.{is_built_in}
@@ -34,7 +33,7 @@ use Rattle.list_meaning.proofs.Theorems.Told.{told_text}
 use Rattle.list_meaning.specs.Writing.{written_text, Wanted, Wrote, unwritten, put_text, writing_admission, write, write_read, write_source}
 use Rattle.list_writer.specs.WriterCalls.{wanted, writer_left, wrote_of}
 use Rattle.list_writer.specs.Promises.Printing.{Puts}
-use Rattle.list_writer.specs.Promises.Admitting.{Timely, AdmitsBoth}
+use Rattle.list_writer.specs.Promises.Admitting.{AdmitsBoth}
 use Rattle.list_writer.specs.Promises.Writing.{WritesLoaded, WritesSource, WriterLeaves}
 use Rattle.list_writer.proofs.SourceLaws.{Read, source_read}
 
@@ -93,10 +92,6 @@ module _ {words : List ℕ} {rule : Rule} {q : Wanted} {count : ℕ} {a : Result
             ∙ ap (λ (f : ℕ). put_text (written_text q.sizes f flag q.earlier q.later (nat_abs q.time)) room) (sym (held_fields p h))
             ∙ admitted_is p flag q room ∙ ap (write_by p flag q room) (sym (ap refusal_told i) ∙ x.says p h l) ∙ sym (write_is p flag q room);
       }
-
--- the time can be cast
-pub cast_time : (z : ℤ) → Timely z → T (non_neg z) × Fits w32 (nat_abs z)
-cast_time z t = (subst (λ (x : ℤ). T (non_neg x)) (sym t.is) tt, record { fits = omega (arith, t.small) })
 
 -- the time as the machine reads it
 pub read_loaded : {words : List ℕ} {rule : Rule} {told : ℕ} {sizes : List ℕ} {earlier later : List ℤ} {time : ℤ} {room : List ℕ} {r : Result ℕ Refusal} {room' : List ℕ} → SFits w64 time

@@ -2,14 +2,12 @@
 
 // The writer of value lists: the list that leads from one grid to another at a time.
 ghost use Rattle.std.specs.Prelude.{◌≡◌, ◌<◌, length};
-ghost use Rattle.std.proofs.Math.Option.{some};
-ghost use Rattle.automaton.specs.Shape.{product};
 ghost use Rattle.grammar.specs.Checking.{rooms_fit};
 ghost use Rattle.run_calls.specs.Calls.{flat_names, source_lent};
 ghost use Rattle.program.specs.Promises.Fitting.{Sized};
-ghost use Rattle.list_meaning.specs.Writing.{written_text, put_text};
+ghost use Rattle.list_meaning.specs.Writing.{put_text};
 ghost use Rattle.list_writer.specs.WriterCalls.{wanted, wrote_of};
-ghost use Rattle.list_writer.specs.Promises.Lines.{Grids};
+ghost use Rattle.list_writer.specs.Promises.Lines.{Leads, change_text};
 ghost use Rattle.list_writer.specs.Promises.Writing.{WritesLoaded, WritesSource, WriterLeaves};
 
 mod admitting;
@@ -17,7 +15,7 @@ mod lines;
 mod printing;
 
 use admitting::{admit_both, cell_count};
-use lines::{put_list, text_length};
+use lines::{Change, put_list, text_length};
 use move_profile::flag_of;
 use program::Rule;
 use program::reply::{Reason, Refusal};
@@ -25,24 +23,15 @@ use read_source::load;
 use spelling::is_built_in;
 
 // Puts the text into a room that is long enough, and returns its length.
-fn write_text(
-    sizes: &[u32],
-    fields: usize,
-    flag: usize,
-    earlier: &[i32],
-    later: &[i32],
-    count: usize,
-    time: u32,
-    room: &mut [u8],
-) -> Result<u64, Refusal>
-    requires { Grids sizes.now fields earlier.now later.now × (count ≡ product sizes.now) }
-    ensures { wrote_of result room.new ≡ put_text (written_text sizes.now fields (some flag) earlier.now later.now time) room.old }
+fn write_text(change: &Change<'_>, room: &mut [u8]) -> Result<u64, Refusal>
+    requires { Leads change.now }
+    ensures { wrote_of result room.new ≡ put_text (change_text change.now) room.old }
 {
-    let length = text_length(sizes, fields, flag, earlier, later, count, time);
+    let length = text_length(change);
     if room.len() < length {
         return Err(Refusal::new(Reason::ShortRoom, 0));
     }
-    put_list(room, sizes, fields, flag, earlier, later, count, time);
+    put_list(room, change);
     Ok(length as u64)
 }
 
@@ -60,18 +49,18 @@ fn write_loaded(
     requires { (Sized (length words.now) rule) × (0 < rule.fields) }
     ensures { WritesLoaded words.now rule flag (wanted sizes.now earlier.now later.now time) room.old result room.new }
 {
-    let count = cell_count(sizes);
-    admit_both(words, rule, sizes, earlier, later, count, time)?;
-    write_text(
+    let cells = cell_count(sizes);
+    admit_both(words, rule, sizes, earlier, later, cells, time)?;
+    let change = Change {
         sizes,
-        rule.fields as usize,
-        flag as usize,
+        fields: rule.fields as usize,
+        flag: flag as usize,
         earlier,
         later,
-        count,
-        time as u32,
-        room,
-    )
+        cells,
+        time: time as u32,
+    };
+    write_text(&change, room)
 }
 
 // Reads the source first, where the built-in list is the one there is.
@@ -95,6 +84,7 @@ fn write_listed(
 // Writes the list that leads from the grid at the last block, `earlier`, to the grid now, `later`, at a time: the text at the front of the room, which
 // keeps its rest. Returns the text's length. For a source that moves a pixel once, a flag that is 0 is left missing. After a refusal the room is as it was;
 // `Reason::ShortRoom`: it is shorter than the text. Word table and name list are left as after a run.
+// Kept: the arguments stand one by one, as docs/CALLS.md has this call and as C passes them.
 pub fn write_list(
     source: &[u8],
     list: &[u8],

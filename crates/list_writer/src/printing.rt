@@ -1,109 +1,142 @@
-// Numbers put into a room as text. Each function puts its text from a position on and returns the position after it; a byte after the room's end is
-// counted and not put.
-ghost use Rattle.std.specs.Prelude.{[], ◌∷◌, map, ◌+◌, ◌<◌, ◌≤◌, length};
+// A room for text: bytes and numbers are put one behind another. A byte after the room's end is counted and not put.
+ghost use Rattle.std.specs.Prelude.{◌≡◌, [], ◌∷◌, map, ◌+◌, ◌<◌, ◌≤◌, length};
 ghost use Rattle.std.proofs.Math.Option.{some};
 ghost use Rattle.value.specs.Worked.{decode_of};
 ghost use Rattle.list_meaning.specs.Writing.{print_number, print_value, print_field, listed, shown};
 ghost use Rattle.list_meaning.specs.Promises.Showing.{field_shown};
-ghost use Rattle.list_writer.specs.Promises.Printing.{Puts, PutsDigits, separator};
+ghost use Rattle.list_writer.specs.Promises.Printing.{Put, PutDigits, separator};
 
 use value::Value;
 
-pub fn put_byte(room: &mut [u8], at: usize, b: u8) -> usize
-    requires { at < 4294967296 }
-    ensures { Puts room.old at (b ∷ []) room.new result }
-{
-    if at < room.len() {
-        room[at] = b;
-        return at + 1;
-    }
-    at + 1
+// A room, and how many bytes were put.
+#[derive(Drop)]
+pub struct Room<'a> {
+    bytes: &'a mut [u8],
+    at: usize,
 }
 
-// Puts the decimal digits of a number.
-pub fn put_digits(room: &mut [u8], at: usize, n: u32) -> usize
-    requires { at + 10 ≤ 4294967296 }
-    ensures { PutsDigits room.old at n room.new result }
-{
-    if n < 10 {
-        return put_byte(room, at, (48 + n) as u8);
+impl<'a> Room<'a> {
+    // A room where nothing was put yet.
+    pub fn new(bytes: &'a mut [u8]) -> Room<'a>
+        ensures same_reference { result.bytes.ghost_name ≡ bytes.entry.ghost_name }
+        ensures bytes { result.bytes.now ≡ bytes.old }
+        ensures start { result.at ≡ 0 }
+    {
+        Room { bytes, at: 0 }
     }
-    let behind = put_digits(room, at, n / 10);
-    put_byte(room, behind, (48 + n % 10) as u8)
-}
 
-// Puts the value that a word stands for.
-fn put_word(room: &mut [u8], at: usize, word: u32) -> usize
-    requires { at + 11 ≤ 4294967296 }
-    ensures { Puts room.old at (print_value (decode_of word)) room.new result }
-{
-    if word < 2147483648 {
-        return put_digits(room, at, word);
+    // How many bytes were put.
+    pub fn count(&self) -> usize
+        ensures { result ≡ self.now.at }
+    {
+        self.at
     }
-    let behind = put_byte(room, at, b'-');
-    put_digits(room, behind, 4294967295 - word + 1)
-}
 
-fn put_value(room: &mut [u8], at: usize, z: i32) -> usize
-    requires { at + 11 ≤ 4294967296 }
-    ensures { Puts room.old at (print_value z) room.new result }
-{
-    let v = Value { n: z };
-    put_word(room, at, v.encode())
-}
+    // Puts a byte.
+    pub fn push(&mut self, b: u8)
+        requires { self.old.at < 4294967296 }
+        ensures same_reference { self.new.bytes.ghost_name ≡ self.old.bytes.ghost_name }
+        ensures puts { Put self.old (b ∷ []) self.new }
+    {
+        if self.at < self.bytes.len() {
+            self.bytes[self.at] = b;
+        }
+        self.at += 1;
+    }
 
-// Puts a comma and a space before every text but the first.
-fn put_separator(room: &mut [u8], at: usize, k: usize) -> usize
-    requires { at + 2 ≤ 4294967296 }
-    ensures { Puts room.old at (separator k) room.new result }
-{
-    if k == 0 {
-        return at;
+    // Puts the decimal digits of a number.
+    fn digits(&mut self, n: u32)
+        requires { self.old.at + 10 ≤ 4294967296 }
+        ensures same_reference { self.new.bytes.ghost_name ≡ self.old.bytes.ghost_name }
+        ensures puts { PutDigits self.old n self.new }
+    {
+        if n < 10 {
+            self.push((48 + n) as u8);
+            return;
+        }
+        self.digits(n / 10);
+        self.push((48 + n % 10) as u8);
     }
-    let behind = put_byte(room, at, b',');
-    put_byte(room, behind, b' ')
-}
 
-// Puts the coordinates of a cell.
-pub fn put_numbers(room: &mut [u8], at: usize, numbers: &[u32]) -> usize
-    requires { (length numbers.now ≤ 3) × (at + 36 ≤ 4294967296) }
-    ensures { Puts room.old at (listed (map print_number numbers.now)) room.new result }
-{
-    let mut here = at;
-    let mut k: usize = 0;
-    while k < numbers.len() {
-        here = put_separator(room, here, k);
-        here = put_digits(room, here, numbers[k]);
-        k += 1;
+    // Puts a number.
+    pub fn number(&mut self, n: u32)
+        requires { self.old.at + 10 ≤ 4294967296 }
+        ensures same_reference { self.new.bytes.ghost_name ≡ self.old.bytes.ghost_name }
+        ensures puts { Put self.old (print_number n) self.new }
+    {
+        self.digits(n);
     }
-    here
-}
 
-// Puts a field's value; a flag that is 0 is missing.
-fn put_field(room: &mut [u8], at: usize, z: i32, flag: bool) -> usize
-    requires { at + 11 ≤ 4294967296 }
-    ensures { Puts room.old at (print_field (field_shown flag z)) room.new result }
-{
-    if !flag {
-        return put_value(room, at, z);
+    // Puts the value that a word stands for.
+    #[tactic(auto, using(crate::proofs::PrintingLaws::word_plain, crate::proofs::PrintingLaws::word_signed))]
+    fn word(&mut self, word: u32)
+        requires { self.old.at + 11 ≤ 4294967296 }
+        ensures same_reference { self.new.bytes.ghost_name ≡ self.old.bytes.ghost_name }
+        ensures puts { Put self.old (print_value (decode_of word)) self.new }
+    {
+        if word < 2147483648 {
+            self.number(word);
+        } else {
+            self.push(b'-');
+            self.number(4294967295 - word + 1);
+        }
     }
-    if z == 0 {
-        return at;
-    }
-    put_value(room, at, z)
-}
 
-// Puts the values of a cell. `flag` is the number of the field that serves as flag; after the last field it is none.
-pub fn put_values(room: &mut [u8], at: usize, values: &[i32], flag: usize) -> usize
-    requires { (length values.now ≤ 64) × (at + 832 ≤ 4294967296) }
-    ensures { Puts room.old at (listed (map print_field (shown (some flag) values.now))) room.new result }
-{
-    let mut here = at;
-    let mut k: usize = 0;
-    while k < values.len() {
-        here = put_separator(room, here, k);
-        here = put_field(room, here, values[k], k == flag);
-        k += 1;
+    // Puts a value.
+    fn value(&mut self, z: i32)
+        requires { self.old.at + 11 ≤ 4294967296 }
+        ensures same_reference { self.new.bytes.ghost_name ≡ self.old.bytes.ghost_name }
+        ensures puts { Put self.old (print_value z) self.new }
+    {
+        let v = Value { n: z };
+        self.word(v.encode());
     }
-    here
+
+    // Puts a comma and a space before every text but the first.
+    fn separator(&mut self, k: usize)
+        requires { self.old.at + 2 ≤ 4294967296 }
+        ensures same_reference { self.new.bytes.ghost_name ≡ self.old.bytes.ghost_name }
+        ensures puts { Put self.old (separator k) self.new }
+    {
+        if k != 0 {
+            self.push(b',');
+            self.push(b' ');
+        }
+    }
+
+    // Puts the coordinates of a cell.
+    pub fn numbers(&mut self, numbers: &[u32])
+        requires { (length numbers.now ≤ 3) × (self.old.at + 36 ≤ 4294967296) }
+        ensures same_reference { self.new.bytes.ghost_name ≡ self.old.bytes.ghost_name }
+        ensures puts { Put self.old (listed (map print_number numbers.now)) self.new }
+    {
+        for (k, &n) in numbers.iter().enumerate() {
+            self.separator(k);
+            self.number(n);
+        }
+    }
+
+    // Puts a field's value; a flag that is 0 is missing.
+    fn field(&mut self, z: i32, flag: bool)
+        requires { self.old.at + 11 ≤ 4294967296 }
+        ensures same_reference { self.new.bytes.ghost_name ≡ self.old.bytes.ghost_name }
+        ensures puts { Put self.old (print_field (field_shown flag z)) self.new }
+    {
+        if flag && z == 0 {
+            return;
+        }
+        self.value(z);
+    }
+
+    // Puts the values of a cell. `flag` is the number of the field that serves as flag; after the last field it is none.
+    pub fn values(&mut self, values: &[i32], flag: usize)
+        requires { (length values.now ≤ 64) × (self.old.at + 832 ≤ 4294967296) }
+        ensures same_reference { self.new.bytes.ghost_name ≡ self.old.bytes.ghost_name }
+        ensures puts { Put self.old (listed (map print_field (shown (some flag) values.now))) self.new }
+    {
+        for (k, &z) in values.iter().enumerate() {
+            self.separator(k);
+            self.field(z, k == flag);
+        }
+    }
 }

@@ -93,6 +93,7 @@ fn past_constants(words: &[u32], n: usize, at: usize) -> usize
     ensures { PastConstants words.now n at result }
 {
     let mut here = at;
+    // Kept: no plainer, here and below. The loop goes from token to token by what stands there, and its position is no index.
     while word_at(words, n, 0, here) == kind::CONST_WORD {
         here = link_at(words, n, 3, here);
     }

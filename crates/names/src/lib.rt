@@ -87,6 +87,7 @@ pub fn is_field(e: Entry) -> bool
     e.kind == kind::FIELD || e.kind == kind::CONST_FIELD
 }
 
+// Kept: here and below `fields` is plain data, which is compared and switches nothing.
 // Whether a name is of a name space: that of fields, or that of all other names.
 fn in_space(fields: bool, e: Entry) -> bool
     ensures { result ≡ in_space fields e }

@@ -19,7 +19,7 @@ use token::{Scan, kind, scan_source};
 use value::limits::{MOST_BYTES, NAME_WORDS, TABLE_WORDS};
 
 // A reply: its number, 0 if the source is accepted, and its place.
-#[derive(Clone, Copy)]
+#[derive(Clone, Copy, Debug, PartialEq, Eq, Hash)]
 pub struct Reply {
     pub number: u32,
     pub place: u32,

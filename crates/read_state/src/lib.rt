@@ -199,6 +199,7 @@ pub fn forbid(words: &[u32], scan: Scan, s: Reading, kind: u32, reason: Reason) 
     Ok(s)
 }
 
+// Kept: whether one more may be open (`free`) is plain data, here and in read_constants.
 // Over an opening token, where one more may be open, else refused 14.
 pub fn opening(words: &[u32], scan: Scan, s: Reading, free: bool) -> Read
     requires { (scan.count ≤ most_tokens) × (length words.now ≡ table_words) × (s.at < scan.count) }

@@ -17,6 +17,7 @@ pub use admitting::admit;
 use cell_operands::table::word_at;
 use program::Rule;
 use program::reply::{Reason, Refusal};
+use run_meaning::next_coordinate;
 use value::Value;
 use value::limits::{MOST_ALONG, MOST_CELLS};
 
@@ -118,18 +119,6 @@ fn fits(words: &[u32], rule: Rule, which: usize, entry: Value) -> bool
     entry.within(low, high)
 }
 
-// The number of the field after a field; the first is after the last.
-fn next_field(which: usize, fields: usize) -> usize
-    requires { which < fields }
-    ensures { result ≡ (which + 1) % fields }
-{
-    let next = which + 1;
-    if next == fields {
-        return 0;
-    }
-    next
-}
-
 // The lowest entry of a grid that is out of its field's range is refused with 24 at its number.
 #[tactic(auto, using(crate::proofs::EntryLaws::passed_start, crate::proofs::EntryLaws::passed_field, crate::proofs::EntryLaws::passed_out, crate::proofs::EntryLaws::passed_on, crate::proofs::EntryLaws::passed_end))]
 pub fn out_of_field(words: &[u32], rule: Rule, grid: &[i32]) -> Result<(), Refusal>
@@ -142,7 +131,7 @@ pub fn out_of_field(words: &[u32], rule: Rule, grid: &[i32]) -> Result<(), Refus
         if !fits(words, rule, which, value_at(grid, e)) {
             return Err(Refusal::new(Reason::FieldRange, e as u32));
         }
-        which = next_field(which, fields);
+        which = next_coordinate(which, fields);
     }
     Ok(())
 }

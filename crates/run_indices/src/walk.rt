@@ -127,6 +127,7 @@ pub fn part(
     let dims = rule.dims as usize;
     let mut now = s;
     let mut at = from;
+    // Kept: no plainer. The loop goes by the links of the word table, and its position is no index.
     while at < to {
         if opens(words, n, loops.depth, at) {
             let inner = loops.opened(word_at(words, n, 2, at + 1), word_at(words, n, 3, at + 1));

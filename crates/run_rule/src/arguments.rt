@@ -1,261 +1,188 @@
-// The arguments that are words and numbers.
+// What the program is called with, and the request of a run that it makes.
 use run_steps::Manner;
-use tool_console::numbers::{Count, Entry, count_in, value_in};
-use tool_console::texts::{argument, argument_count, complain, is_argument};
+use tool_console::arguments::{Refusal, refuse, word};
+use tool_console::numbers::{count_in, value_in};
 
-// The request of a run: the time it starts at, the steps, its manner, whether the zeros of a field are counted, the number of this field, whether it is made
-// of bands of rows, and how many rows can be held then.
-#[derive(Clone, Copy)]
+const USAGE: &str =
+    "usage: run_rule RULE SHAPE START STEPS full|quiet|pause|resume GRID OUT [LIST [CHANGES [PAUSE]]] [--rows R] [--zeros FIELD]
+  RULE     the file of the rule
+  SHAPE    the sizes of the grid, joined by x, as 8x8 or 5 or 2x3x4
+  START    the time of the first step
+  STEPS    how many steps to run
+  full     evaluates every cell in every step, quiet the open cells alone
+  pause    is a quiet run that can be resumed, resume one that goes on from PAUSE
+  GRID     the file of the grid's entries, - for standard input
+  OUT      the file to write the grid to, - for standard output
+  LIST     the file of a value list, - for none
+  CHANGES  the file to write the list of changes to, - for none
+  PAUSE    the file of the open cells, which resume reads, and pause and resume write
+  R        how many rows can be held: the run is made of bands of rows, each evaluated by these rows alone
+  FIELD    the name of a field: how many cells are left with 0 in it is said
+";
+
+// The arguments, each by its name. A file that is left out is not there, also where `-` stands in its place.
+#[derive(Clone, Copy, Debug, PartialEq, Eq)]
+pub struct Call<'a> {
+    pub rule: &'a [u8],
+    pub shape: &'a [u8],
+    pub start: &'a [u8],
+    pub steps: &'a [u8],
+    pub manner: &'a [u8],
+    pub grid: &'a [u8],
+    pub out: &'a [u8],
+    pub list: Option<&'a [u8]>,
+    pub changes: Option<&'a [u8]>,
+    pub pause: Option<&'a [u8]>,
+    pub rows: Option<&'a [u8]>,
+    pub zeros: Option<&'a [u8]>,
+}
+
+// The request of a run: the time it starts at, the steps, its manner, the number of the field whose zeros are counted, if they are, and how many rows can be
+// held, if it is made of bands of rows.
+#[derive(Clone, Copy, Debug, PartialEq, Eq, Hash)]
 pub struct Order {
     pub start: i64,
     pub steps: i64,
     pub manner: Manner,
-    pub counted: bool,
-    pub field: u32,
-    pub banded: bool,
-    pub held: u32,
+    pub zeros: Option<u32>,
+    pub held: Option<u32>,
 }
 
-// The request, or an argument was refused.
-#[derive(Drop)]
-pub enum Orders {
-    Taken(Order),
-    Refused,
+// The arguments before the options, and the values of the options.
+#[derive(Clone, Copy, Debug)]
+struct Split<'a> {
+    plain: &'a [Vec<u8>],
+    rows: Option<&'a [u8]>,
+    zeros: Option<&'a [u8]>,
 }
 
-// The manner that a word names, or it names none.
-#[derive(Drop)]
-enum Way {
-    Named(Manner),
-    Unknown,
-}
-
-// Whether an argument is an option, which its value follows.
-fn is_option(rt: &HostRuntime, i: usize) -> bool {
-    is_argument(rt, i, b"--rows") || is_argument(rt, i, b"--zeros")
-}
-
-// How many of the first so many arguments are left without the option at their end, if there is one.
-fn without_option(rt: &HostRuntime, count: usize) -> usize {
-    if count < 10 {
-        return count;
-    }
-    if is_option(rt, count - 2) {
-        return count - 2;
-    }
-    count
-}
-
-// How many arguments there are, with the program's name and without the options at the end, of which there are two at most.
-fn plain_count(rt: &HostRuntime) -> usize {
-    without_option(rt, without_option(rt, argument_count(rt)))
-}
-
-// The place of the value of an option at the end of the first so many arguments, 0 if there is none.
-fn value_place(rt: &HostRuntime, count: usize, option: &[u8]) -> usize {
-    if count < 10 {
-        return 0;
-    }
-    if is_argument(rt, count - 2, option) {
-        return count - 1;
-    }
-    0
-}
-
-// The place of the value of an option among the arguments, 0 if the option is not there.
-pub fn option_place(rt: &HostRuntime, option: &[u8]) -> usize {
-    let count = argument_count(rt);
-    let last = value_place(rt, count, option);
-    if last > 0 {
-        return last;
-    }
-    value_place(rt, without_option(rt, count), option)
-}
-
-// Whether an option is there twice.
-fn is_twice(rt: &HostRuntime, option: &[u8]) -> bool {
-    let count = argument_count(rt);
-    value_place(rt, count, option) > 0 && value_place(rt, without_option(rt, count), option) > 0
-}
-
-// Says how to call the program.
-fn complain_usage(rt: &HostRuntime) {
-    complain(
-        rt,
-        b"usage: run_rule RULE SHAPE START STEPS full|quiet|pause|resume GRID OUT [LIST [CHANGES [PAUSE]]] [--rows R] [--zeros FIELD]\n",
-    );
-    complain(rt, b"  RULE     the file of the rule\n");
-    complain(
-        rt,
-        b"  SHAPE    the sizes of the grid, joined by x, as 8x8 or 5 or 2x3x4\n",
-    );
-    complain(rt, b"  START    the time of the first step\n");
-    complain(rt, b"  STEPS    how many steps to run\n");
-    complain(
-        rt,
-        b"  full     evaluates every cell in every step, quiet the open cells alone\n",
-    );
-    complain(
-        rt,
-        b"  pause    is a quiet run that can be resumed, resume one that goes on from PAUSE\n",
-    );
-    complain(
-        rt,
-        b"  GRID     the file of the grid's entries, - for standard input\n",
-    );
-    complain(
-        rt,
-        b"  OUT      the file to write the grid to, - for standard output\n",
-    );
-    complain(rt, b"  LIST     the file of a value list, - for none\n");
-    complain(
-        rt,
-        b"  CHANGES  the file to write the list of changes to, - for none\n",
-    );
-    complain(
-        rt,
-        b"  PAUSE    the file of the open cells, which resume reads, and pause and resume write\n",
-    );
-    complain(
-        rt,
-        b"  R        how many rows can be held: the run is made of bands of rows, each evaluated by these rows alone\n",
-    );
-    complain(
-        rt,
-        b"  FIELD    the name of a field: how many cells are left with 0 in it is said\n",
-    );
-}
-
-// Whether all arguments are there and none is over, and no option is there twice. If not, how to call the program is said.
-pub fn all_there(rt: &HostRuntime) -> bool {
-    let count = plain_count(rt);
-    if count >= 8 && count <= 11 && without_option(rt, count) == count {
-        if !is_twice(rt, b"--rows") && !is_twice(rt, b"--zeros") {
-            return true;
+// Takes the options off the end of the arguments; nothing if one is there twice.
+fn without_options(arguments: &[Vec<u8>]) -> Option<Split<'_>> {
+    let mut plain = arguments;
+    let mut rows = None;
+    let mut zeros = None;
+    // An option follows the arguments that have to be there, and none is there three times.
+    for _ in 0..3 {
+        let Some((before, [option, value])) = plain.split_last_chunk::<2>() else {
+            break;
+        };
+        let taken = match option.as_slice() {
+            b"--rows" => &mut rows,
+            b"--zeros" => &mut zeros,
+            _ => break,
+        };
+        if before.len() < 8 {
+            break;
         }
+        if taken.is_some() {
+            return None;
+        }
+        *taken = Some(value.as_slice());
+        plain = before;
     }
-    complain_usage(rt);
-    false
+    Some(Split { plain, rows, zeros })
 }
 
-// Whether an argument names a file that may be left out: it is there, and is not `-`.
-pub fn is_given(rt: &HostRuntime, i: usize) -> bool {
-    plain_count(rt) > i && !is_argument(rt, i, b"-")
-}
-
-// A value in 64 bits.
-pub fn wide(n: i32) -> i64 {
-    n as i64
-}
-
-// The value that an argument is.
-fn number_argument(rt: &HostRuntime, i: usize) -> Entry {
-    let mut text = [0u8; 64];
-    let n = argument(rt, i, &mut text);
-    value_in(&text[..n])
-}
-
-// The manner that the fifth argument names.
-fn way_argument(rt: &HostRuntime) -> Way {
-    if is_argument(rt, 5, b"full") {
-        return Way::Named(Manner::Full);
-    }
-    if is_argument(rt, 5, b"quiet") {
-        return Way::Named(Manner::Quiet);
-    }
-    if is_argument(rt, 5, b"pause") {
-        return Way::Named(Manner::Pausing);
-    }
-    if is_argument(rt, 5, b"resume") {
-        return Way::Named(Manner::Resuming);
-    }
-    Way::Unknown
-}
-
-// Whether a run is a full one.
-fn is_full(manner: Manner) -> bool {
-    match manner {
-        Manner::Full => true,
-        Manner::Quiet => false,
-        Manner::Pausing => false,
-        Manner::Resuming => false,
+// The file that an argument names, if it is there, and is not `-`.
+fn given(argument: Option<&Vec<u8>>) -> Option<&[u8]> {
+    let path = argument?.as_slice();
+    if path == b"-".as_slice() {
+        None
+    } else {
+        Some(path)
     }
 }
 
-// The count that an argument is.
-fn count_argument(rt: &HostRuntime, i: usize) -> Count {
-    let mut text = [0u8; 64];
-    let n = argument(rt, i, &mut text);
-    count_in(&text[..n])
-}
-
-// The request of a run, with the number of rows that can be held, if there is one. If it is wrong, or the run is not a full one, the program says so.
-fn with_rows(rt: &HostRuntime, order: Order) -> Orders {
-    let place = option_place(rt, b"--rows");
-    if place == 0 {
-        return Orders::Taken(order);
-    }
-    let Count::Is(held) = count_argument(rt, place) else {
-        complain(
-            rt,
-            b"run_rule: R is not a whole number from 0 to 2147483647\n",
-        );
-        return Orders::Refused;
+// The arguments by their names, if all are there and none is over, and no option is there twice.
+fn named(arguments: &[Vec<u8>]) -> Option<Call<'_>> {
+    let Split { plain, rows, zeros } = without_options(arguments)?;
+    let [_, rule, shape, start, steps, manner, grid, out, files @ ..] = plain else {
+        return None;
     };
-    let manner = order.manner;
-    if !is_full(manner) {
-        complain(rt, b"run_rule: --rows is for full alone\n");
-        return Orders::Refused;
+    if files.len() > 3 {
+        return None;
     }
-    Orders::Taken(Order {
-        start: order.start,
-        steps: order.steps,
-        manner,
-        counted: order.counted,
-        field: order.field,
-        banded: true,
-        held,
+    Some(Call {
+        rule: rule.as_slice(),
+        shape: shape.as_slice(),
+        start: start.as_slice(),
+        steps: steps.as_slice(),
+        manner: manner.as_slice(),
+        grid: grid.as_slice(),
+        out: out.as_slice(),
+        list: given(files.first()),
+        changes: given(files.get(1)),
+        pause: given(files.get(2)),
+        rows,
+        zeros,
     })
 }
 
-// The request of a run from a start, without the zeros.
-fn order_from(rt: &HostRuntime, start: i32, steps: i32) -> Orders {
-    let Way::Named(manner) = way_argument(rt) else {
-        complain(
-            rt,
-            b"run_rule: the fifth argument is none of full, quiet, pause and resume\n",
-        );
-        return Orders::Refused;
-    };
-    with_rows(
-        rt,
-        Order {
-            start: wide(start),
-            steps: wide(steps),
-            manner,
-            counted: false,
-            field: 0,
-            banded: false,
-            held: 0,
-        },
-    )
+// The arguments by their names. If they are wrong, how to call the program is said.
+pub fn read_call<'a>(rt: &HostRuntime, arguments: &'a [Vec<u8>]) -> Result<Call<'a>, Refusal> {
+    match named(arguments) {
+        Some(call) => Ok(call),
+        None => Err(refuse(rt, USAGE)),
+    }
 }
 
-// The request of a run from the arguments. If one of them is wrong, the program says so.
-pub fn order_arguments(rt: &HostRuntime) -> Orders {
-    let Entry::Is(start) = number_argument(rt, 3) else {
-        complain(
+// The value that an argument is. If it is none, that is said, with the argument's name.
+fn number_argument(rt: &HostRuntime, argument: &[u8], name: &str) -> Result<i64, Refusal> {
+    match value_in(word(argument)) {
+        Some(n) => Ok(i64::from(n)),
+        None => Err(refuse(
             rt,
-            b"run_rule: START is not a whole number from -2147483648 to 2147483647\n",
-        );
-        return Orders::Refused;
-    };
-    let Entry::Is(steps) = number_argument(rt, 4) else {
-        complain(
+            format_args!("run_rule: {name} is not a whole number from -2147483648 to 2147483647\n"),
+        )),
+    }
+}
+
+// The manner that a word names.
+fn manner_of(word: &[u8]) -> Option<Manner> {
+    match word {
+        b"full" => Some(Manner::Full),
+        b"quiet" => Some(Manner::Quiet),
+        b"pause" => Some(Manner::Pausing),
+        b"resume" => Some(Manner::Resuming),
+        _ => None,
+    }
+}
+
+// How many rows can be held, by the value of `--rows`. If it is wrong, or the run is not a full one, that is said.
+fn rows_held(rt: &HostRuntime, rows: &[u8], manner: Manner) -> Result<u32, Refusal> {
+    let Some(held) = count_in(word(rows)) else {
+        return Err(refuse(
             rt,
-            b"run_rule: STEPS is not a whole number from -2147483648 to 2147483647\n",
-        );
-        return Orders::Refused;
+            "run_rule: R is not a whole number from 0 to 2147483647\n",
+        ));
     };
-    order_from(rt, start, steps)
+    match manner {
+        Manner::Full => Ok(held),
+        _ => Err(refuse(rt, "run_rule: --rows is for full alone\n")),
+    }
+}
+
+impl Call<'_> {
+    // The request of a run, without the zeros. If an argument is wrong, that is said.
+    pub fn order(&self, rt: &HostRuntime) -> Result<Order, Refusal> {
+        let start = number_argument(rt, self.start, "START")?;
+        let steps = number_argument(rt, self.steps, "STEPS")?;
+        let Some(manner) = manner_of(self.manner) else {
+            return Err(refuse(
+                rt,
+                "run_rule: the fifth argument is none of full, quiet, pause and resume\n",
+            ));
+        };
+        let held = match self.rows {
+            Some(rows) => Some(rows_held(rt, rows, manner)?),
+            None => None,
+        };
+        Ok(Order {
+            start,
+            steps,
+            manner,
+            zeros: None,
+            held,
+        })
+    }
 }

@@ -1,144 +1,95 @@
 // The value list that leads from the grid that is given to the grid that is left.
-use crate::arguments::is_given;
-use crate::reports::has_begun;
+use crate::Task;
+use crate::arguments::Call;
 use list_writer::write_list;
 use run_steps::Report;
-use std::num::{wrapping_add_u64, wrapping_add_usize};
-use tool_console::places::wide;
-use tool_console::rooms;
-use tool_console::rooms::ROOM;
-use tool_console::texts::{close_output, complain, complain_number, fail, open_output, put};
-use value::limits::NAME_WORDS;
+use std::io::Write;
+use tool_console::arguments::{Refusal, refuse};
+use tool_console::replies::Reply;
+use tool_console::rooms::{ROOM, TEXT, room};
+use tool_console::texts::{complain, fail, open_output};
+use value::limits::{NAME_WORDS, TABLE_WORDS};
 
-// Whether the list of changes is requested, by a ninth argument.
-fn is_asked(rt: &HostRuntime) -> bool {
-    is_given(rt, 9)
-}
-
-// Whether a grid of so many entries can be kept, if it has to be: it takes half of the room. If not, that is said.
-pub fn can_be_kept(rt: &HostRuntime, entries: usize) -> bool {
-    if !is_asked(rt) {
-        return true;
+// Tests that a grid of so many entries can be kept, if it has to be: it takes half of the room. If not, that is said.
+pub fn test_size(rt: &HostRuntime, call: &Call<'_>, entries: usize) -> Result<(), Refusal> {
+    if call.changes.is_none() || entries <= ROOM / 2 {
+        return Ok(());
     }
-    if entries <= ROOM / 2 {
-        return true;
-    }
-    complain(
+    Err(refuse(
         rt,
-        b"run_rule: GRID has more than 393216 entries, too many for CHANGES\n",
-    );
-    false
+        "run_rule: GRID has more than 393216 entries, too many for CHANGES\n",
+    ))
 }
 
-// Copies an entry so many entries on, if both are there.
-fn copy(room: &mut [i32], from: usize, entries: usize) {
-    let to = wrapping_add_usize(from, entries);
-    if from < room.len() {
-        if to < room.len() {
-            room[to] = room[from];
-        }
-    }
-}
-
-// Puts a copy of the first entries after them, if the list of changes is requested.
-pub fn keep(rt: &HostRuntime, room: &mut [i32], entries: usize) {
-    if !is_asked(rt) {
-        return;
-    }
-    let mut i = 0;
-    while i < entries {
-        copy(room, i, entries);
-        i += 1;
-    }
+// Keeps a copy of a grid at the start of a room, if the list of changes is requested.
+pub fn keep<'a>(call: &Call<'_>, grid: &[i32], room: &'a mut [i32]) -> Option<&'a [i32]> {
+    call.changes?;
+    let copy = room.get_mut(..grid.len())?;
+    copy.copy_from_slice(grid);
+    Some(copy)
 }
 
 // The time that a run has reached after so many steps. No run begins at a negative start.
 pub fn time_after(start: i64, steps: u32) -> u64 {
-    if 0 <= start {
-        return wrapping_add_u64(start as u64, wide(steps));
-    }
-    0
+    u64::try_from(start).map_or(0, |start| start.wrapping_add(u64::from(steps)))
 }
 
 // The time that a run has reached, as `write_list` takes it; a negative number if it is none.
 fn time_reached(start: i64, steps: u32) -> i64 {
-    let time = time_after(start, steps);
-    if time <= 2147483647 {
-        return time as i64;
-    }
-    -1
+    i32::try_from(time_after(start, steps)).map_or(-1, i64::from)
 }
 
 // Says why the list could not be written.
 fn complain_reply(rt: &HostRuntime, number: u32) {
-    complain(rt, b"run_rule: CHANGES: reply ");
-    complain_number(rt, wide(number));
-    if number == 57 {
-        complain(rt, b": the list of changes is too long for this program");
-    }
-    complain(rt, b"\n");
+    let why = match number {
+        57 => ": the list of changes is too long for this program",
+        _ => "",
+    };
+    complain(rt, format_args!("run_rule: CHANGES: reply {number}{why}\n"));
 }
 
-// Writes a text to the file that the ninth argument names. If that cannot be done, it is said.
-fn write_text(rt: &HostRuntime, text: &[u8]) {
-    let Some(mut file) = open_output(rt, 9) else {
+// Writes a text to CHANGES. If that cannot be done, it is said.
+fn write_text(rt: &HostRuntime, path: &[u8], text: &[u8]) {
+    let Ok(mut file) = open_output(rt, path) else {
         return;
     };
-    if let Err(error) = put(&mut file, text) {
+    if let Err(error) = file.write_all(text) {
         fail(rt, b"CHANGES", &error);
     }
-    close_output(file);
 }
 
-// Writes the list that leads from one grid to another at a time.
-fn write_between(
-    rt: &HostRuntime,
-    source: &[u8],
-    sizes: &[u32],
-    earlier: &[i32],
-    later: &[i32],
-    time: i64,
-) {
-    let list = spelling::BUILT_IN;
-    let mut words = rooms::table_room();
-    let mut names = [0u32; NAME_WORDS];
-    let mut room = rooms::text_room();
-    let written = write_list(
-        source, &list, &mut words, &mut names, sizes, earlier, later, time, &mut room,
-    );
-    if written.number != 0 {
-        complain_reply(rt, written.number);
-        return;
-    }
-    let length = rooms::of_bytes(written.length as usize, &room);
-    write_text(rt, &room[..length]);
-}
-
-// Writes the list of changes, if it is requested and the run began. The grid is at the start of the room, and the grid as it was before the
-// run after it.
+// Writes the list of changes, if it is requested, where a copy of the grid as given is kept, and the run began.
 pub fn write(
     rt: &HostRuntime,
-    source: &[u8],
-    sizes: &[u32],
-    room: &[i32],
-    entries: usize,
+    task: &Task<'_>,
+    earlier: Option<&[i32]>,
+    later: &[i32],
     report: Report,
-    start: i64,
 ) {
-    if !is_asked(rt) || !has_begun(report.number) {
+    let (Some(path), Some(earlier)) = (task.call.changes, earlier) else {
+        return;
+    };
+    if !Reply(report.number).has_begun() {
         return;
     }
-    if entries <= room.len() {
-        let rest = room.len() - entries;
-        if entries <= rest {
-            write_between(
-                rt,
-                source,
-                sizes,
-                &room[entries..entries + entries],
-                &room[..entries],
-                time_reached(start, report.steps),
-            );
-        }
+    let list = spelling::BUILT_IN;
+    let mut words = [0u32; TABLE_WORDS];
+    let mut names = [0u32; NAME_WORDS];
+    let mut text: [u8; TEXT] = room(0);
+    let time = time_reached(task.order.start, report.steps);
+    let written = write_list(
+        task.source,
+        &list,
+        &mut words,
+        &mut names,
+        task.sizes,
+        earlier,
+        later,
+        time,
+        &mut text,
+    );
+    match written {
+        Ok(length) => write_text(rt, path, &text[..text.len().min(length as usize)]),
+        Err(refusal) => complain_reply(rt, refusal.number),
     }
 }

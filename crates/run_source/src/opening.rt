@@ -16,6 +16,7 @@ use run_meaning::Reach;
 use run_steps::Report;
 
 // A run that begins: the rule and its reach.
+// Kept: only Clone and Copy, as `Reach`, which it holds.
 #[derive(Clone, Copy)]
 pub struct Opening {
     pub rule: Rule,

@@ -4,11 +4,14 @@ use Rattle.value.specs.Limits.{most_bytes}
 use Rattle.token.specs.Bytes.{between}
 use Rattle.token.specs.Kind.{kind}
 use Rattle.token.specs.Lexeme.{read_token}
-use Rattle.spelling.specs.declared.Part.{Part}
 
 -- the replies that name a token
 unfoldable pub names_token : ℕ → Bool
 names_token number = between 3 15 number || between 40 45 number
+
+-- where a spelling stands: in the built-in list or in the source, its first byte and its length
+abbrev pub Part : Type 0
+Part = record { listed : Bool; start : ℕ; len : ℕ }
 
 abbrev pub part : Bool → ℕ → ℕ → Part
 part listed start len = record { listed = listed; start = start; len = len }

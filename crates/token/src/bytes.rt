@@ -22,7 +22,7 @@ pub enum ByteKind {
     End,
 }
 
-// The kind of each byte.
+// The kind of each byte: A for a letter, O for another, and else the first letter of its kind.
 const KINDS: [ByteKind; 256] = [
     O, O, O, O, O, O, O, O, O, B, L, B, B, L, O, O, O, O, O, O, O, O, O, O, O, O, O, O, O, O, O, O,
     B, S, S, C, O, S, S, O, S, S, S, S, S, S, S, S, D, D, D, D, D, D, D, D, D, D, S, O, S, S, S, O,

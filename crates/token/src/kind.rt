@@ -1,4 +1,5 @@
 // The kinds of tokens. A single-byte token has its byte's number.
+// Kept: what may not change. They are words of the table that C lends, and `program::token_at` gives back whatever word stands there.
 ghost use Rattle.std.specs.Prelude.{◌≡◌};
 ghost use Rattle.token.specs.Kind.{level_of};
 
@@ -87,6 +88,7 @@ pub const COLON: u32 = 58;
 pub const DOT: u32 = 46;
 
 // The level of a binary operator; 0 for what is none.
+// Kept: no plainer. Levels are compared as numbers, and 0 is below them all.
 #[tactic(auto, unfolding(crate::specs::Kind::level_of))]
 pub fn level_of(k: u32) -> u32
     ensures { result ≡ level_of k }

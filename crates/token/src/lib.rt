@@ -25,6 +25,7 @@ pub struct Token {
 }
 
 // What scanning a source finds: how many tokens, the number and the place of the stop after them, and the kind of the token there.
+// Kept: no plainer. Each scan stops, so the number always says why; the definition `scan_of` has these fields.
 #[derive(Clone, Copy, Debug, PartialEq, Eq)]
 pub struct Scan {
     pub count: usize,

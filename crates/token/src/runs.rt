@@ -44,6 +44,7 @@ impl Run {
 }
 
 // The end of the longest run from a position on.
+// Kept: no plainer, here and in the two walks below. The position is what is looked for, and no index of a range.
 #[tactic(auto, using(crate::proofs::Extents::Walk))]
 pub fn run_end(source: &[u8], at: usize, run: Run) -> usize
     ensures { WalksTokens (extent (run_test run) (drop at source.now)) source.now at result }

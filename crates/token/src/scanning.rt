@@ -9,6 +9,7 @@ use value::limits::MOST_TOKENS;
 use value::tables::put_four;
 
 // The number at which the sequence stops at a token read after `count` tokens, if it does.
+// Kept: no plainer, here and below. The reasons have names in `program`, which stands on this crate.
 #[tactic(auto, using(crate::proofs::Scans::Stopping))]
 fn stop_number(count: usize, t: Token) -> Option<u32>
     requires { 1 ≤ t.kind + t.value }
@@ -35,6 +36,7 @@ fn write_token(words: &mut [u32], i: usize, t: Token)
 }
 
 // Reads the tokens of a source and writes them from the table's beginning on, up to the stop.
+// Kept: no plainer. The loop has no range: it ends at the stop, and counts the tokens before it.
 pub fn read_tokens(source: &[u8], words: &mut [u32]) -> Scan
     requires { (length source.now ≤ most_bytes) × (length words.old ≡ table_words) }
     ensures { Fills source.now result words.new }

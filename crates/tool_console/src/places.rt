@@ -1,114 +1,98 @@
 // Places in a source as lines and columns, and cells as coordinates.
-use crate::texts::{say, say_number};
-use std::num::wrapping_add_u64;
+use std::fmt;
 
 // A line and a column, counted from 1.
-#[derive(Drop)]
+#[derive(Clone, Copy, Debug, PartialEq, Eq)]
 pub struct Position {
-    pub line: u64,
-    pub column: u64,
+    pub line: usize,
+    pub column: usize,
 }
 
 // Whether a line ends with a byte of a source: a line feed, or a carriage return with none after it.
 fn ends_line(source: &[u8], i: usize) -> bool {
-    if i >= source.len() {
-        return false;
+    match source.get(i..).unwrap_or(&[]) {
+        [b'\r', b'\n', ..] => false,
+        [b'\r' | b'\n', ..] => true,
+        _ => false,
     }
-    let b = source[i];
-    if b == 10 {
-        return true;
-    }
-    if b != 13 {
-        return false;
-    }
-    if i + 1 < source.len() {
-        return source[i + 1] != 10;
-    }
-    true
 }
 
-// The position after a byte of a source.
-fn past(source: &[u8], i: usize, p: Position) -> Position {
-    if ends_line(source, i) {
-        return Position {
-            line: wrapping_add_u64(p.line, 1),
-            column: 1,
+impl Position {
+    // The position of a byte of a source.
+    pub fn of(source: &[u8], place: usize) -> Position {
+        let ends = |i: &usize| ends_line(source, *i);
+        let lines = (0..place).filter(ends).count();
+        let bytes = (0..place).rev().take_while(|i| !ends(i)).count();
+        Position {
+            line: lines.saturating_add(1),
+            column: bytes.saturating_add(1),
+        }
+    }
+}
+
+impl fmt::Display for Position {
+    fn fmt<W: fmt::Write>(&self, f: &mut fmt::Formatter<W>) -> fmt::Result {
+        let Position { line, column } = *self;
+        write!(f, "line {line}, column {column}")
+    }
+}
+
+// A cell of a grid by its number, written as its coordinates.
+#[derive(Clone, Copy, Debug, PartialEq, Eq)]
+pub struct Cell<'a> {
+    pub number: u32,
+    pub sizes: &'a [u32],
+}
+
+impl Cell<'_> {
+    // The coordinate in a dimension.
+    fn coordinate(&self, dimension: usize) -> u32 {
+        let mut rest = self.number;
+        let mut at = 0;
+        for size in self.sizes.iter().skip(dimension).rev() {
+            at = rest.checked_rem(*size).unwrap_or(0);
+            rest = rest.checked_div(*size).unwrap_or(0);
+        }
+        at
+    }
+}
+
+impl fmt::Display for Cell<'_> {
+    fn fmt<W: fmt::Write>(&self, f: &mut fmt::Formatter<W>) -> fmt::Result {
+        f.write_str("[")?;
+        for i in 0..self.sizes.len() {
+            if i > 0 {
+                f.write_str(",")?;
+            }
+            let at = self.coordinate(i);
+            write!(f, "{at}")?;
+        }
+        f.write_str("]")
+    }
+}
+
+// An entry of a grid by its number, where a cell has so many fields, written as its cell and its field.
+#[derive(Clone, Copy, Debug, PartialEq, Eq)]
+pub struct Entry<'a> {
+    pub number: u32,
+    pub sizes: &'a [u32],
+    pub fields: u32,
+}
+
+impl Entry<'_> {
+    // The number of the field.
+    pub fn field(&self) -> u32 {
+        self.number.checked_rem(self.fields).unwrap_or(0)
+    }
+}
+
+impl fmt::Display for Entry<'_> {
+    fn fmt<W: fmt::Write>(&self, f: &mut fmt::Formatter<W>) -> fmt::Result {
+        let cell = Cell {
+            number: self.number.checked_div(self.fields).unwrap_or(0),
+            sizes: self.sizes,
         };
+        let field = self.field();
+        write!(f, "cell {cell}, field {field}")
     }
-    Position {
-        line: p.line,
-        column: wrapping_add_u64(p.column, 1),
-    }
-}
-
-// The position of a byte of a source.
-pub fn position_of(source: &[u8], place: usize) -> Position {
-    let mut p = Position { line: 1, column: 1 };
-    let mut i = 0;
-    while i < place {
-        p = past(source, i, p);
-        i += 1;
-    }
-    p
-}
-
-// The quotient, 0 where the divisor is.
-fn quotient(a: u32, b: u32) -> u32 {
-    if b == 0 {
-        return 0;
-    }
-    a / b
-}
-
-// The remainder, 0 where the divisor is.
-pub fn remainder(a: u32, b: u32) -> u32 {
-    if b == 0 {
-        return 0;
-    }
-    a % b
-}
-
-// The coordinate of a cell in a dimension.
-fn coordinate(cell: u32, sizes: &[u32], dimension: usize) -> u32 {
-    let mut rest = cell;
-    let mut at = 0;
-    let mut i = sizes.len();
-    while dimension < i {
-        i -= 1;
-        at = remainder(rest, sizes[i]);
-        rest = quotient(rest, sizes[i]);
-    }
-    at
-}
-
-// A number in 64 bits.
-pub fn wide(n: u32) -> u64 {
-    n as u64
-}
-
-// Writes the coordinate of a cell in a dimension, after a comma if it is not the first.
-fn say_coordinate(rt: &HostRuntime, cell: u32, sizes: &[u32], dimension: usize) {
-    if dimension > 0 {
-        say(rt, b",");
-    }
-    say_number(rt, wide(coordinate(cell, sizes, dimension)));
-}
-
-// Writes a cell as its coordinates.
-pub fn say_cell(rt: &HostRuntime, cell: u32, sizes: &[u32]) {
-    say(rt, b"[");
-    let mut i = 0;
-    while i < sizes.len() {
-        say_coordinate(rt, cell, sizes, i);
-        i += 1;
-    }
-    say(rt, b"]");
-}
-
-// Writes the cell and the field of an entry.
-pub fn say_field(rt: &HostRuntime, entry: u32, sizes: &[u32], fields: u32) {
-    say(rt, b", cell ");
-    say_cell(rt, quotient(entry, fields), sizes);
-    say(rt, b", field ");
-    say_number(rt, wide(remainder(entry, fields)));
 }

@@ -7,29 +7,52 @@ ghost use Rattle.tool_planned_run.specs.Promises.RunsBanded.{lent_listed, RunsBa
 
 use band_planner::Planned;
 use run_steps::Report;
-use tool_console::rooms;
+use tool_console::rooms::{PLAN, ROWS, room};
 use tool_console::shapes::{entries_of_rows, rows_of};
 use value::limits::NAME_WORDS;
 
-// A report; of how many bands the plan is made; and where there is no plan, how many rows are needed for one.
-#[derive(Drop)]
+// What is asked of a run: its source, the sizes of its grid, its value list, the time it starts at, the steps, the field whose zeros are counted, if any, and how
+// many rows can be held.
+#[derive(Clone, Copy, Debug, PartialEq, Eq)]
+pub struct Request<'a> {
+    pub source: &'a [u8],
+    pub sizes: &'a [u32],
+    pub values: &'a [u8],
+    pub start: i64,
+    pub steps: i64,
+    pub counted: Option<u32>,
+    pub held: u32,
+}
+
+// The plan of a run.
+#[derive(Clone, Copy, Debug, PartialEq, Eq)]
+pub enum Plan {
+    // None: fewer rows can be held than a band of one row needs, which is so many.
+    Missing { needed: u64 },
+    // None, since the request is refused.
+    Refused,
+    // So many bands.
+    Made { bands: u32 },
+}
+
+// A report, and the plan that the run was made under.
+#[derive(Clone, Copy)]
 pub struct Banded {
     pub report: Report,
-    pub bands: u32,
-    pub needed: u64,
+    pub plan: Plan,
 }
 
 // Whether the room of a run has as many rows of a grid as can be held.
 pub fn can_be_held(sizes: &[u32], entries: usize, held: u32) -> bool {
-    entries_of_rows(sizes, entries, held) <= rooms::ROWS
+    entries_of_rows(sizes, entries, held) <= ROWS
 }
 
-// How many rows a band of one row needs with its border rows, for a source on a grid.
-fn rows_needed(source: &[u8], words: &mut [u32], sizes: &[u32]) -> u64 {
+// How many rows a band of one row needs with its border rows.
+fn rows_needed(request: Request<'_>, words: &mut [u32]) -> u64 {
     let list = spelling::BUILT_IN;
     let mut names = [0u32; NAME_WORDS];
-    let borders = band_planner::borders_of(source, &list, words, &mut names, sizes);
-    borders.before as u64 + 1 + borders.behind as u64
+    let borders = band_planner::borders_of(request.source, &list, words, &mut names, request.sizes);
+    u64::from(borders.before) + 1 + u64::from(borders.behind)
 }
 
 // A run of a source on a grid with a value list under a plan, as requested. The report, the grid, the marks and the counts that are left are those of the
@@ -62,23 +85,21 @@ fn run_under(
 }
 
 // Puts the plan for as many rows as can be held at the start of a room, which has two entries for each row.
-fn plan(
-    source: &[u8],
+fn make_plan(
+    request: Request<'_>,
     words: &mut [u32],
     names: &mut [u32],
-    sizes: &[u32],
-    held: u32,
     bands: &mut [u32],
 ) -> Planned {
     let list = spelling::BUILT_IN;
-    let entries = rooms::of_words(rows_of(sizes) as usize * 2, bands);
+    let entries = bands.len().min(2 * rows_of(request.sizes) as usize);
     band_planner::plan_bands(
-        source,
+        request.source,
         &list,
         words,
         names,
-        sizes,
-        held,
+        request.sizes,
+        request.held,
         &mut bands[..entries],
     )
 }
@@ -97,115 +118,89 @@ fn without_plan() -> Report {
 
 // A run under a plan, with as much of a room as the rows have that can be held.
 fn run_in_room(
-    source: &[u8],
+    request: Request<'_>,
     words: &mut [u32],
     names: &mut [u32],
-    sizes: &[u32],
     grid: &mut [i32],
     scratch: &mut [i32],
     marks: &mut [u8],
-    values: &[u8],
-    start: i64,
-    steps: i64,
     counts: &mut [u32],
-    counted: bool,
-    field: u32,
-    held: u32,
     plan: &[u32],
 ) -> Report {
-    let mut room = rooms::rows_room();
-    let used = rooms::of_numbers(entries_of_rows(sizes, grid.len(), held), &room);
+    let mut rows: [i32; ROWS] = room(0);
+    let used = rows
+        .len()
+        .min(entries_of_rows(request.sizes, grid.len(), request.held));
     run_under(
-        source,
+        request.source,
         words,
         names,
-        sizes,
+        request.sizes,
         grid,
         scratch,
         marks,
-        values,
-        start,
-        steps,
+        request.values,
+        request.start,
+        request.steps,
         counts,
-        counted,
-        field,
-        held,
+        request.counted.is_some(),
+        request.counted.unwrap_or(0),
+        request.held,
         plan,
-        &mut room[..used],
+        &mut rows[..used],
     )
 }
 
 // Plans, and makes the run under the plan. A refusal of the planner other than 59 is one of the run too, under whatever plan: the run without one returns which of
 // its refusals is the first.
 pub fn plan_and_run(
-    source: &[u8],
+    request: Request<'_>,
     words: &mut [u32],
-    sizes: &[u32],
     grid: &mut [i32],
     scratch: &mut [i32],
     marks: &mut [u8],
-    values: &[u8],
-    start: i64,
-    steps: i64,
     counts: &mut [u32],
-    counted: bool,
-    field: u32,
-    held: u32,
 ) -> Banded {
     let mut names = [0u32; NAME_WORDS];
-    let mut bands = rooms::plan_room();
-    let planned = plan(source, words, &mut names, sizes, held, &mut bands);
-    if planned.number == 59 {
-        return Banded {
+    let mut bands: [u32; PLAN] = room(0);
+    let planned = make_plan(request, words, &mut names, &mut bands);
+    match planned.number {
+        0 => {
+            let end = bands.len().min(2 * planned.bands as usize);
+            Banded {
+                report: run_in_room(
+                    request,
+                    words,
+                    &mut names,
+                    grid,
+                    scratch,
+                    marks,
+                    counts,
+                    &bands[..end],
+                ),
+                plan: Plan::Made {
+                    bands: planned.bands,
+                },
+            }
+        }
+        59 => Banded {
             report: without_plan(),
-            bands: 0,
-            needed: rows_needed(source, words, sizes),
-        };
-    }
-    if planned.number != 0 {
-        return Banded {
+            plan: Plan::Missing {
+                needed: rows_needed(request, words),
+            },
+        },
+        _ => Banded {
             report: run_in_room(
-                source,
+                request,
                 words,
                 &mut names,
-                sizes,
                 grid,
                 scratch,
                 marks,
-                values,
-                start,
-                steps,
                 counts,
-                counted,
-                field,
-                held,
                 &bands[..0],
             ),
-            bands: 0,
-            needed: 0,
-        };
-    }
-    let end = rooms::of_words(planned.bands as usize * 2, &bands);
-    let report = run_in_room(
-        source,
-        words,
-        &mut names,
-        sizes,
-        grid,
-        scratch,
-        marks,
-        values,
-        start,
-        steps,
-        counts,
-        counted,
-        field,
-        held,
-        &bands[..end],
-    );
-    Banded {
-        report,
-        bands: planned.bands,
-        needed: 0,
+            plan: Plan::Refused,
+        },
     }
 }

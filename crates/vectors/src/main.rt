@@ -17,15 +17,27 @@
 // `number place line cell steps count SCRATCH : g0 g1 .. : m0m1.. : c0 c1 ..`.
 // The line of a writing has what was returned, and the room's bytes in hexadecimal digits: `number place length : b0b1..`.
 
-mod answer;
-mod bytes;
+mod answers;
 mod checks;
-mod line;
+mod lines;
+mod reading;
 mod rooms;
 mod runs;
-mod ways;
 mod writings;
 
-fn main(rt: HostRuntime) {
-    answer::answer_all(&rt);
+use reading::End;
+use std::alloc::AllocError;
+use std::io::{BufReader, Error, Result};
+
+// Answers all cases on standard input. A proved loop has to end, and nothing says that the input does: the cases are counted up to a number that no input has.
+fn main(rt: HostRuntime) -> Result<()> {
+    let mut input = BufReader::new(rt.alloc(), rt.stdin())?;
+    for _ in 0..u64::MAX {
+        match answers::answer_next(&rt, &mut input) {
+            Ok(()) => {}
+            Err(End::Over) => return Ok(()),
+            Err(End::Memory) => return Err(Error::from(AllocError)),
+        }
+    }
+    Ok(())
 }

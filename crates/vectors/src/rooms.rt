@@ -1,124 +1,69 @@
 // Scratch, marks and a writer's room: what is in them on entry, and what is left of scratch and marks.
+use std::alloc::{AllocError, Global};
+use std::fmt;
 
 // What became of a room: zeros throughout, what was there on entry, or something else.
-#[derive(Drop)]
+#[derive(Clone, Copy, Debug, PartialEq, Eq)]
 pub enum Left {
     Zero,
     Same,
     Other,
 }
 
+impl fmt::Display for Left {
+    fn fmt<W: fmt::Write>(&self, f: &mut fmt::Formatter<W>) -> fmt::Result {
+        f.write_str(match self {
+            Left::Zero => "zero",
+            Left::Same => "same",
+            Left::Other => "other",
+        })
+    }
+}
+
 // Entry i of scratch on entry.
-fn scratch_entry(i: usize) -> i32 {
+pub fn scratch_entry(i: usize) -> i32 {
     ((i % 1000 * 7 + 3) % 1000) as i32
 }
 
 // Entry i of the marks on entry.
-fn marks_entry(i: usize) -> u8 {
+pub fn marks_entry(i: usize) -> u8 {
     ((i % 256 * 5 + 1) % 256) as u8
 }
 
 // Byte i of a writer's room on entry.
-fn room_entry(i: usize) -> u8 {
+pub fn room_entry(i: usize) -> u8 {
     ((i % 256 * 3 + 5) % 256) as u8
 }
 
-// Fills scratch with what is there on entry.
-pub fn fill_scratch(scratch: &mut [i32]) {
-    let mut i: usize = 0;
-    while i < scratch.len() {
-        scratch[i] = scratch_entry(i);
-        i += 1;
+// A room of n entries, each as a function makes it of its number.
+pub fn filled<T: Drop, F: Fn(usize) -> T>(
+    alloc: Global,
+    n: usize,
+    entry: F,
+) -> Result<Vec<T>, AllocError>
+    requires { F.IsAlwaysCallable entry }
+{
+    let mut room = Vec::with_capacity(alloc, n)?;
+    for i in 0..n {
+        room.push(entry(i))?;
     }
+    Ok(room)
 }
 
-// Fills the marks with what is there on entry.
-pub fn fill_marks(marks: &mut [u8]) {
-    let mut i: usize = 0;
-    while i < marks.len() {
-        marks[i] = marks_entry(i);
-        i += 1;
+// What became of a room. One that is zero and the same, as an empty one, counts as cleared where the run began, and as untouched where it did not.
+pub fn left_of<T: Copy + Default + PartialEq, F: Fn(usize) -> T>(
+    room: &[T],
+    entry: F,
+    began: bool,
+) -> Left
+    requires { F.IsAlwaysCallable entry }
+{
+    let zero = room.iter().all(|x| *x == T::default());
+    let same = room.iter().enumerate().all(|(i, x)| *x == entry(i));
+    match (zero, same) {
+        (true, false) => Left::Zero,
+        (true, true) if began => Left::Zero,
+        (_, true) => Left::Same,
+        (false, false) => Left::Other,
     }
-}
-
-// Fills a writer's room with what is there on entry.
-pub fn fill_room(room: &mut [u8]) {
-    let mut i: usize = 0;
-    while i < room.len() {
-        room[i] = room_entry(i);
-        i += 1;
-    }
-}
-
-fn scratch_zero(scratch: &[i32]) -> bool {
-    let mut i: usize = 0;
-    while i < scratch.len() {
-        if scratch[i] != 0 {
-            return false;
-        }
-        i += 1;
-    }
-    true
-}
-
-// Whether scratch is as on entry.
-fn scratch_same(scratch: &[i32]) -> bool {
-    let mut i: usize = 0;
-    while i < scratch.len() {
-        if scratch[i] != scratch_entry(i) {
-            return false;
-        }
-        i += 1;
-    }
-    true
-}
-
-// Whether the marks are zero throughout.
-fn marks_zero(marks: &[u8]) -> bool {
-    let mut i: usize = 0;
-    while i < marks.len() {
-        if marks[i] != 0 {
-            return false;
-        }
-        i += 1;
-    }
-    true
-}
-
-// Whether the marks are as on entry.
-fn marks_same(marks: &[u8]) -> bool {
-    let mut i: usize = 0;
-    while i < marks.len() {
-        if marks[i] != marks_entry(i) {
-            return false;
-        }
-        i += 1;
-    }
-    true
-}
-
-// A room that is zero and the same, as an empty one, counts as cleared where the run began, and as untouched where it did not.
-fn left_of(zero: bool, same: bool, began: bool) -> Left {
-    if zero {
-        if began {
-            return Left::Zero;
-        }
-        if !same {
-            return Left::Zero;
-        }
-    }
-    if same {
-        return Left::Same;
-    }
-    Left::Other
-}
-
-// What became of scratch.
-pub fn left_of_scratch(scratch: &[i32], began: bool) -> Left {
-    left_of(scratch_zero(scratch), scratch_same(scratch), began)
-}
-
-// What became of the marks.
-pub fn left_of_marks(marks: &[u8], began: bool) -> Left {
-    left_of(marks_zero(marks), marks_same(marks), began)
 }

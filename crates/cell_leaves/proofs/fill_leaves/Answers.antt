@@ -5,7 +5,7 @@ use Rattle.cell_leaves.proofs.fill_leaves.Goals as goal
 
 pub loop-p-preserved : goal.loop-p-preserved
 loop-p-preserved c =
-    filled_more _ _ _ _ _ c.requires.2 c.loop-p.invariant c.loop-p-test.true c.write_leaf.ensures
+    filled_more _ _ _ _ _ c.requires.2 c.loop-p.invariant (omega (arith, c.loop-p-test.true)) c.write_leaf.ensures
 
 pub write_shapes-requires : goal.write_shapes-requires
 write_shapes-requires c =

@@ -9,4 +9,4 @@ use Rattle.run_admission.proofs.out_of_field.Goals as goal
 pub loop-e-preserved : goal.loop-e-preserved
 loop-e-preserved c =
     let in_range = ap (λ (v : Value). in_field (get_or (rule_ranges c.args.words.now c.args.rule) c.loop-e.which no_range) v.n) c.value_at.ensures in
-    passed_on _ _ _ c.loop-e.which c.loop-e.e c.loop-e.invariant c.loop-e-test.true (c.fits.ensures ∙ in_range) c.if-not-fits.false c.next_field-which.ensures
+    passed_on _ _ _ c.loop-e.which c.loop-e.e c.loop-e.invariant c.loop-e-test.true (c.fits.ensures ∙ in_range) c.if-not-fits.false c.next_coordinate-which.ensures

@@ -4,4 +4,5 @@ use Rattle.run_rule.proofs.RunLaws.{runs_of}
 use Rattle.run_rule.proofs.run.Goals as goal
 
 pub returns : goal.returns
-returns c = runs_of c.requires c.no_names-names.ensures (search rules) (search rules) c.run.ensures
+returns c =
+    rw (← c.is_some.ensures, ← c.unwrap_or.ensures) (runs_of c.requires c.no_names-names.ensures (search rules) (search rules) c.run.ensures)

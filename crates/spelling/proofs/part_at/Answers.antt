@@ -4,7 +4,7 @@ use Rattle.spelling.proofs.Parting.{at_no_token, at_end, at_long, at_byte, at_to
 use Rattle.spelling.proofs.part_at.Goals as goal
 
 pub returns : goal.returns
-returns c = at_token c.args.source.now c.args.number c.args.place (sym c.names_token.ensures ∙ not-false _ c.if-not-names_token.false-raw) c.if-source-at.false c.if-source-gt-MOST_BYTES.false c.if-number-eq3.false c.read_at-read.ensures c.token_part.ensures
+returns c = at_token c.args.source.now c.args.number c.args.place (sym c.names_token.ensures ∙ not-false _ c.if-not-names_token.false-raw) c.if-source-at.false c.if-source-gt-MOST_BYTES.false c.if-number-eq3.false c.read_at.ensures c.token_part.ensures
 
 pub returns-then-not-names_token : goal.returns-then-not-names_token
 returns-then-not-names_token c = at_no_token c.args.source.now c.args.number c.args.place (sym c.names_token.ensures ∙ not-true _ c.if-not-names_token.true-raw)

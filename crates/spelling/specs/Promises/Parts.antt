@@ -1,10 +1,12 @@
 -- The spelling of a reply as bytes, and what the functions promise of it.
-use Rattle.std.specs.Prelude.{◌≡◌, true, false, List, [], ◌∷◌, ℕ, ◌+◌, ◌≤◌, length, take, drop, if◌then◌else◌}
+use Rattle.std.specs.Prelude.{◌≡◌, true, false, List, [], ◌∷◌, ℕ, ◌-◌, ◌<◌, ◌≤◌, length, take, drop, if◌then◌else◌, Option, Some, None}
 use Rattle.value.specs.Limits.{most_bytes}
 use Rattle.token.specs.Lexeme.{is_built_in}
-use Rattle.spelling.specs.declared.Part.{Part}
+use Rattle.std.specs.declared.ops.Range.{Range}
+use Rattle.spelling.specs.declared.Part as code
+use Rattle.spelling.specs.declared.Part.TheVariants.{Listed, Source}
 use Rattle.spelling.specs.declared.Told.{Told}
-use Rattle.spelling.specs.Spelling.{part_at}
+use Rattle.spelling.specs.Spelling.{Part, part, part_at}
 
 -- a part of the source, or of the list
 abbrev pub taken : List ℕ → List ℕ → Part → List ℕ
@@ -17,9 +19,14 @@ spelling_of source list number place = if is_built_in list then taken source lis
 abbrev pub told_entries : Told → List ℕ
 told_entries t = t.stands ∷ t.start ∷ t.len ∷ []
 
--- what `part_at` promises: the part, which lies within the list or the source
-pub record IsPart (source : List ℕ) (number place : ℕ) (p : Part) : Type 0 where
-  pub is : p ≡ part_at source number place
-  pub within : p.listed ≡ false → p.start + p.len ≤ length source
-  pub few : p.start + p.len ≤ most_bytes
-  pub in_list : p.listed ≡ true → p.start + p.len ≤ 16
+-- the part that the code has found
+abbrev pub part_of : Option code.Part → Part
+part_of (Some (Listed r)) = part true r.start (r.end - r.start)
+part_of (Some (Source r)) = part false r.start (r.end - r.start)
+part_of None = part false 0 0
+
+-- what `part_at` promises: the part, which is not empty and lies within the list or the source
+pub record IsPart (source : List ℕ) (number place : ℕ) (p : Option code.Part) : Type 0 where
+  pub is : part_of p ≡ part_at source number place
+  pub in_list : (r : Range ℕ) → p ≡ Some (Listed r) → (r.start < r.end) × (r.end ≤ 16)
+  pub in_source : (r : Range ℕ) → p ≡ Some (Source r) → (r.start < r.end) × (r.end ≤ length source) × (r.end ≤ most_bytes)

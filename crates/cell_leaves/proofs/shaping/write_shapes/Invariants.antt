@@ -1,9 +1,5 @@
-use Prim.Native.Nat.{◌+◌, ◌-◌, ◌≤◌}
 use Rattle.cell_leaves.specs.Promises.Shaping.{LeafShaped}
 use Rattle.cell_leaves.proofs.shaping.write_shapes.Given as goal
 
 abbrev pub invariant-loop-p : goal.invariant-loop-p
-invariant-loop-p l = LeafShaped l.p l.initial.leaves l.leaves × (l.p ≤ l.n + 1)
-
-abbrev pub decreases-loop-p : goal.decreases-loop-p
-decreases-loop-p l = l.n + 1 - l.p
+invariant-loop-p l = LeafShaped l.p l.initial.leaves l.leaves

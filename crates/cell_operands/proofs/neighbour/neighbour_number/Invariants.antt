@@ -7,6 +7,3 @@ use Rattle.cell_operands.proofs.neighbour.neighbour_number.Given as goal
 
 abbrev pub invariant-loop-k : goal.invariant-loop-k
 invariant-loop-k l = Steps (table_of l.words l.n (length l.sizes)) (take l.depth l.index) l.sizes l.point l.at l.number l.here l.k × (l.dims ≡ length l.sizes)
-
-abbrev pub decreases-loop-k : goal.decreases-loop-k
-decreases-loop-k l = length l.sizes - l.k

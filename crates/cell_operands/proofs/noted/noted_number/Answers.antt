@@ -21,4 +21,4 @@ overflow_add-number c =
 
 pub loop-k-preserved : goal.loop-k-preserved
 loop-k-preserved c =
-    (walk_more _ _ _ _ _ _ c.requires.3 c.loop-k.invariant.0 c.loop-k-test.true c.leaf_word.ensures c.moved-to.ensures, c.loop-k.invariant.1, omega arith)
+    (walk_more _ _ _ _ _ _ c.requires.3 c.loop-k.invariant.0 c.loop-k-test.true c.leaf_word.ensures c.moved-to.ensures, c.loop-k.invariant.1)

@@ -8,7 +8,4 @@ use Rattle.cell_operands.proofs.noted.noted_number.Given as goal
 
 abbrev pub invariant-loop-k : goal.invariant-loop-k
 invariant-loop-k l =
-    Walk (table_of l.words l.n (length l.sizes)) (take l.depth l.index) l.sizes l.point (leaf_word l.leaves l.at) l.at l.number l.k × (l.dims ≡ length l.sizes) × (l.k ≤ l.dims)
-
-abbrev pub decreases-loop-k : goal.decreases-loop-k
-decreases-loop-k l = length l.sizes - l.k
+    Walk (table_of l.words l.n (length l.sizes)) (take l.depth l.index) l.sizes l.point (leaf_word l.leaves l.at) l.at l.number l.k × (l.dims ≡ length l.sizes)

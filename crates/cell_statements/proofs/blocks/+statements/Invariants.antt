@@ -24,6 +24,3 @@ decreases-block-loop-past l = weight l.scene.site.tokens l.here l.ends l.top
 
 abbrev pub invariant-forall-loop-k : goal.invariant-forall-loop-k
 invariant-forall-loop-k l = Turns (table l.scene) (env l.scene) l.scene.depth l.at l.body l.low.n l.count (take l.scene.site.slots l.initial.vars) l.initial.next l.initial.index l.k (take l.scene.site.slots l.vars) l.next l.index × (l.at < l.body) × (l.body ≤ l.scene.site.tokens) × (l.count ≡ span_of l.low.n l.high.n) × (length l.next ≡ length l.initial.next)
-
-abbrev pub decreases-forall-loop-k : goal.decreases-forall-loop-k
-decreases-forall-loop-k l = l.count - l.k

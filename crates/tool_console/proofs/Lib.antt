@@ -1,2 +1,0 @@
--- The laws by which the functions are proved.
-mod RoomLaws

@@ -1,7 +1,0 @@
--- The length is not computed.
-use Rattle.std.proofs.Common.{ℤ, pos}
-use Rattle.tool_console.proofs.RoomLaws.{room_length}
-use Rattle.tool_console.proofs.rooms.rows_room.Goals as goal
-
-pub returns : goal.returns
-returns c = room_length {A = ℤ} 32768 (pos 0)

@@ -1,7 +1,0 @@
--- The length is not computed.
-use Rattle.std.proofs.Common.{ℕ}
-use Rattle.tool_console.proofs.RoomLaws.{room_length}
-use Rattle.tool_console.proofs.rooms.text_room.Goals as goal
-
-pub returns : goal.returns
-returns c = room_length {A = ℕ} 3145728 0

@@ -1,2 +1,0 @@
--- What the functions promise.
-pub mod Promises

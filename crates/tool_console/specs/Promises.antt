@@ -1,2 +1,0 @@
--- What the functions promise, in the order of the code.
-pub mod Rooms
