@@ -15,18 +15,18 @@ use run_steps::{Manner, Report};
 use value::limits::MOST_NAMES;
 
 // What a run returns: the report, and the row of records.
-#[derive(Drop)]
+// Kept: only Clone and Copy, as the row is large.
+#[derive(Clone, Copy)]
 pub struct Ran {
     pub report: Report,
     pub rows: [Name; MOST_NAMES],
 }
 
 // Checks a source.
-pub fn check(source: &[u8], list: &[u8], words: &mut [u32], rows: [Name; MOST_NAMES]) -> Reply
+pub fn check(source: &[u8], list: &[u8], words: &mut [u32], mut rows: [Name; MOST_NAMES]) -> Reply
     ensures { ChecksNamed (lent_rows_fit list.now (length words.old) most_names) source.now words.old result words.new }
 {
-    let mut names = rows;
-    cellang::check(source, list, words, &mut names)
+    cellang::check(source, list, words, &mut rows)
 }
 
 // Runs a source on a grid, and returns the row of records.
@@ -34,7 +34,7 @@ pub fn run(
     source: &[u8],
     list: &[u8],
     words: &mut [u32],
-    rows: [Name; MOST_NAMES],
+    mut rows: [Name; MOST_NAMES],
     sizes: &[u32],
     grid: &mut [i32],
     scratch: &mut [i32],
@@ -49,15 +49,11 @@ pub fn run(
 ) -> Ran
     ensures { RunLeaves row_names (manner_of manner marks.old) (lent source.now list.now sizes.now (memory words.old rows grid.old scratch.old marks.old counts.old) values.now start steps counted field) result.report (memory words.new result.rows grid.new scratch.new marks.new counts.new) }
 {
-    let mut names = rows;
     let report = cellang::run(
-        source, list, words, &mut names, sizes, grid, scratch, marks, values, start, steps, manner,
+        source, list, words, &mut rows, sizes, grid, scratch, marks, values, start, steps, manner,
         counts, counted, field,
     );
-    Ran {
-        report: report,
-        rows: names,
-    }
+    Ran { report, rows }
 }
 
 // The record of the field that has a number, the zero record if there is none.

@@ -22,9 +22,9 @@ pub use exports::{
     cellang_run_quiet_list, cellang_run_resuming, cellang_run_resuming_counts, cellang_step_band,
     cellang_write_list, cellang_zeros_in_rows,
 };
-pub use list_writer::Written;
-pub use move_profile::Profile;
+pub use move_profile::{Missed, Profile};
 pub use profiling::check_one_move;
+pub use program::reply::{Reason, Refusal};
 pub use run_row_counts::queries::{first_zero_row, zeros_in_rows};
 pub use run_steps::Manner;
 pub use running::run;

@@ -8,8 +8,10 @@ ghost use Rattle.band_call.specs.BandCall.{band_asked, band_left};
 ghost use Rattle.band_run.specs.BandedRun.{banded_lent};
 ghost use Rattle.cellang.specs.Promises.Told.{TellsSource, TellsRoom, reply_entries, border_entries, planned_entries, report_entries, is_asked, TellsBanded};
 
-use api_entries::{put_borders, put_planned, put_reply, put_report};
+use crate::exports::telling::{reply_of, tell_reply, tell_report};
+use api_entries::{put_borders, put_planned};
 use band_call::step_band;
+use band_planner::borders::Border;
 use band_planner::{borders_of, check_plan, plan_bands};
 use band_run::run_banded;
 use spelling::told_part;
@@ -27,18 +29,23 @@ pub fn cellang_border_rows(
     ensures { TellsSource (borders_left flat_names (source_lent source.now list.now words.old names.old) sizes.now) (border_entries source.now) reply.old result words.new names.new reply.new }
 {
     let told = borders_of(source, list, words, names, sizes);
-    let part = told_part(source, told.number, told.place);
+    let refusal = reply_of(told);
+    let border = told.unwrap_or(Border {
+        before: 0,
+        behind: 0,
+    });
+    let part = told_part(source, refusal.number, refusal.place);
     put_borders(
         reply,
-        told.number,
-        told.place,
-        told.before,
-        told.behind,
+        refusal.number,
+        refusal.place,
+        border.before,
+        border.behind,
         part.stands,
         part.start,
         part.len,
     );
-    told.number
+    refusal.number
 }
 
 // Checks a plan, and returns the reply's number. `reply` gets number and place, and the spelling: where it is, its first byte and its length.
@@ -54,17 +61,8 @@ pub fn cellang_check_plan(
 ) -> u32
     ensures { TellsSource (plan_check_left flat_names (source_lent source.now list.now words.old names.old) sizes.now held plan.now) (λ c. reply_entries source.now c.number c.place) reply.old result words.new names.new reply.new }
 {
-    let told = check_plan(source, list, words, names, sizes, held, plan);
-    let part = told_part(source, told.number, told.place);
-    put_reply(
-        reply,
-        told.number,
-        told.place,
-        part.stands,
-        part.start,
-        part.len,
-    );
-    told.number
+    let told = reply_of(check_plan(source, list, words, names, sizes, held, plan));
+    tell_reply(source, told.number, told.place, reply)
 }
 
 // Plans the bands, and returns the reply's number. `reply` gets number, place and how many bands there are, and the spelling: where it is, its first byte
@@ -82,17 +80,18 @@ pub fn cellang_plan_bands(
     ensures { TellsRoom (planner_left flat_names (source_lent source.now list.now words.old names.old) sizes.now held bands.old) (planned_entries source.now) (λ (x : Planned). x.room) reply.old result words.new names.new bands.new reply.new }
 {
     let told = plan_bands(source, list, words, names, sizes, held, bands);
-    let part = told_part(source, told.number, told.place);
+    let refusal = reply_of(told);
+    let part = told_part(source, refusal.number, refusal.place);
     put_planned(
         reply,
-        told.number,
-        told.place,
-        told.bands,
+        refusal.number,
+        refusal.place,
+        told.unwrap_or(0),
         part.stands,
         part.start,
         part.len,
     );
-    told.number
+    refusal.number
 }
 
 // One band's step, from the band's old rows with borders and the time alone: returns the reply's number. `report` gets that of a run of one step.
@@ -115,20 +114,7 @@ pub fn cellang_step_band(
     let told = step_band(
         source, list, words, names, sizes, first, last, held, rows, room, time,
     );
-    let part = told_part(source, told.number, told.place);
-    put_report(
-        report,
-        told.number,
-        told.place,
-        told.cell,
-        told.steps,
-        told.count,
-        part.stands,
-        part.start,
-        part.len,
-        told.line,
-    );
-    told.number
+    tell_report(source, told, report)
 }
 
 // A full run under a plan, with a value list; it keeps row counts if `counted` is not 0: returns the reply's number. `report` gets that of a run.
@@ -173,18 +159,5 @@ pub fn cellang_run_banded(
         plan,
         room,
     );
-    let part = told_part(source, told.number, told.place);
-    put_report(
-        report,
-        told.number,
-        told.place,
-        told.cell,
-        told.steps,
-        told.count,
-        part.stands,
-        part.start,
-        part.len,
-        told.line,
-    );
-    told.number
+    tell_report(source, told, report)
 }

@@ -3,9 +3,8 @@ ghost use Rattle.grammar.specs.Checking.{check};
 ghost use Rattle.run_calls.specs.Calls.{flat_names, source_lent, source_left};
 ghost use Rattle.cellang.specs.Promises.Told.{TellsSource, reply_entries};
 
-use api_entries::put_reply;
+use crate::exports::telling::tell_reply;
 use read_source::check;
-use spelling::told_part;
 
 // Checks a source, and returns the reply's number. `reply` gets number and place, and the spelling: where it
 // is, its first byte and its length.
@@ -19,14 +18,5 @@ pub fn cellang_check(
     ensures { TellsSource (source_left flat_names (source_lent source.now list.now words.old names.old) check) (λ c. reply_entries source.now c.number c.place) reply.old result words.new names.new reply.new }
 {
     let told = check(source, list, words, names);
-    let part = told_part(source, told.number, told.place);
-    put_reply(
-        reply,
-        told.number,
-        told.place,
-        part.stands,
-        part.start,
-        part.len,
-    );
-    told.number
+    tell_reply(source, told.number, told.place, reply)
 }

@@ -4,6 +4,7 @@ ghost use Rattle.list_meaning.specs.Writing.{Wrote};
 ghost use Rattle.list_writer.specs.WriterCalls.{wanted, writer_left};
 ghost use Rattle.cellang.specs.Promises.Told.{TellsRoom, written_entries};
 
+use crate::exports::telling::reply_of;
 use api_entries::put_written;
 use list_writer::write_list;
 use spelling::told_part;
@@ -27,15 +28,16 @@ pub fn cellang_write_list(
     let told = write_list(
         source, list, words, names, sizes, earlier, later, time, room,
     );
-    let part = told_part(source, told.number, told.place);
+    let refusal = reply_of(told);
+    let part = told_part(source, refusal.number, refusal.place);
     put_written(
         reply,
-        told.number,
-        told.place,
-        told.length,
+        refusal.number,
+        refusal.place,
+        told.unwrap_or(0),
         part.stands,
         part.start,
         part.len,
     );
-    told.number
+    refusal.number
 }

@@ -2,5 +2,4 @@ use Rattle.cellang.proofs.Telling.{tells_plan_check}
 use Rattle.cellang.proofs.exports.banding.cellang_check_plan.Goals as goal
 
 pub returns : goal.returns
-returns c =
-    tells_plan_check c.check_plan-told.ensures c.told_part-part.ensures c.put_reply.ensures
+returns c = tells_plan_check c.check_plan.ensures c.reply_of-told.ensures c.tell_reply.ensures
