@@ -7,8 +7,8 @@ ghost use Rattle.band_step.specs.Promises.Bandwise.{Bordered, Grounds, BandFits,
 use crate::lending::fill_room;
 use program::Rule;
 use run_marked_cells::exchange::exchange_marked;
-use run_step::{CellFault, Step};
 use run_step::rows::step_rows;
+use run_step::{CellFault, Step};
 use value::limits::LEAF_WORDS;
 
 // Evaluates one band of a grid, from its first row to its last, into its part of `scratch`. Its rows with bound are copied into the room first, and

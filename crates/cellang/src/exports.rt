@@ -1,4 +1,6 @@
 // The calls for programs in other languages: numbers and flat slices alone. Each writes its numbers to a slice, as far as it has room.
+// Kept: the C interface. Each symbol is a function of its own, with flat parameters in this order: so the runs of `running`, `listing`, `pausing` and
+// `counting` differ in the manner and in what is lent alone, and `counted` is a number in `banding`.
 
 mod banding;
 mod checking;

@@ -18,6 +18,7 @@ use value::limits::NAME_WORDS;
 // every cell in each step, the others only the cells that are open in it: the answer and the grid are the same, and the count is of the open cells. A
 // pausing run leaves the marks of the cells that one more step would open; a resuming one begins, besides, from the marks that it is passed, whatever
 // they are. Where `counted` is set the run keeps row counts: how many cells of each row of the first dimension have 0 in the field.
+// Kept: what is lent stands in parameters, as in the C interface; the definition's record of them is `lent`.
 pub fn run(
     source: &[u8],
     list: &[u8],

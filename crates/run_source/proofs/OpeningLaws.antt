@@ -226,28 +226,28 @@ module _ {source ws ns sizes : List ℕ} {grid : List ℤ} {scratch marks : ℕ}
             begins : (admitted is.read.program flag (ask (request_of sizes grid scratch marks start steps) values (counts_of counted field rows))).number ≡ 0
                 → RunBegun (rooms_fit (length ws) (length ns)) source (ask (request_of sizes grid scratch marks start steps) values (counts_of counted field rows)) ws' rule reach
             begins passed =
-                  record {
-                    read = is.read;
-                    is = is.is;
-                    admits = passed;
-                    runs = record { holds = is.stood.holds; reaches = entered.reaches is.read.program is.stood.holds is.lists; lists = entered.lists is.read.program is.stood.holds is.lists; timed = is.timed; flagged = is.flagged };
-                    rule_fits = is.sized;
-                    some_dims = is.some_dims;
-                    shaped = entered.shaped;
-                    scratch_fits = entered.scratch_fits;
-                    marks_fit = entered.marks_fit;
-                    near = entered.near (relatives_in is.read.program) is.lists;
-                    start_is = entered.start_is;
-                    steps_is = entered.steps_is;
-                    times = entered.times;
-                    dimensions = dimensions_of;
-                    listed = record {
-                      limits = limits_of is.read.program flag (request_of sizes grid scratch marks start steps);
-                      sizes_are = refl;
-                      first_is = refl;
-                      passes = list_passes is.read.program flag (ask (request_of sizes grid scratch marks start steps) values (counts_of counted field rows)) passed;
-                    };
-                  }
+                record {
+                  read = is.read;
+                  is = is.is;
+                  admits = passed;
+                  runs = record { holds = is.stood.holds; reaches = entered.reaches is.read.program is.stood.holds is.lists; lists = entered.lists is.read.program is.stood.holds is.lists; timed = is.timed; flagged = is.flagged };
+                  rule_fits = is.sized;
+                  some_dims = is.some_dims;
+                  shaped = entered.shaped;
+                  scratch_fits = entered.scratch_fits;
+                  marks_fit = entered.marks_fit;
+                  near = entered.near (relatives_in is.read.program) is.lists;
+                  start_is = entered.start_is;
+                  steps_is = entered.steps_is;
+                  times = entered.times;
+                  dimensions = dimensions_of;
+                  listed = record {
+                    limits = limits_of is.read.program flag (request_of sizes grid scratch marks start steps);
+                    sizes_are = refl;
+                    first_is = refl;
+                    passes = list_passes is.read.program flag (ask (request_of sizes grid scratch marks start steps) values (counts_of counted field rows)) passed;
+                  };
+                }
 
 -- the times as the machine reads them
 pub read_opens : {source ws ns sizes : List ℕ} {grid : List ℤ} {scratch marks : ℕ} {start steps : ℤ} {values : List ℕ} {counts : Option CountsAsked} {r : Result Opening Stop} {ws' ns' : List ℕ} → SFits w64 start → SFits w64 steps

@@ -10,7 +10,7 @@ pub returns-then-not-is_built_in : goal.returns-then-not-is_built_in
 returns-then-not-is_built_in c =
     let ran = unlisted c.args.list.now c.is_built_in.ensures (manner_of c.args.manner c.args.marks.now) (lent _ _ _ (memory _ _ _ c.args.scratch.now c.args.marks.now c.args.counts.now) c.args.values.now c.args.start c.args.steps c.args.counted c.args.field) refl c.if-not-is_built_in.true-raw in
     let stop : c.from-then-not-is_built_in.result ≡ record { number = 1; place = 0; line = 0; cell = 0; steps = 0; count = 0 } =
-        c.from-then-not-is_built_in.ensures ∙ ap not_begun (c.from.ensures ∙ ap (λ (x : Refusal). stopped x.number x.place 0) c.new.ensures) in
+    c.from-then-not-is_built_in.ensures ∙ ap not_begun (c.from.ensures ∙ ap (λ (x : Refusal). stopped x.number x.place 0) c.new.ensures) in
     rw stop
     record {
       run_leaves = ran;
