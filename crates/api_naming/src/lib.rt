@@ -15,10 +15,7 @@ use run_steps::{Manner, Report};
 use value::limits::MOST_NAMES;
 
 // What a run returns: the report, and the row of records.
-<<<<<<< HEAD
-=======
 // Kept: only Clone and Copy, as the row is large.
->>>>>>> 769c4083f88a10faa81baf4e91e635c7a559a144
 #[derive(Clone, Copy)]
 pub struct Ran {
     pub report: Report,
