@@ -8,9 +8,18 @@ ghost use Rattle.api_comparison.specs.Differences.{comparable};
 ghost use Rattle.api_comparison.specs.Promises.Comparing.{ComparesEntry};
 ghost use Rattle.api_comparison.specs.Promises.Public.{Compares};
 
-// Why grids cannot be compared (the reply's number is 21): they are of unlike length or have over 2147483647 entries, or the room does not have 3k numbers.
+// Why grids cannot be compared: they are of unlike length or have over 2147483647 entries, or the room does not have 3k numbers.
 #[derive(Clone, Copy, Debug, PartialEq, Eq, Hash)]
 pub struct Incomparable;
+
+impl Incomparable {
+    // The number of the reply.
+    pub fn number(self) -> u32
+        ensures { result ≡ 21 }
+    {
+        21
+    }
+}
 
 // Whether grids and a room of these lengths can be compared. 3k could be over the greatest usize, so the room is divided.
 #[tactic(auto, unfolding(crate::specs::Differences::comparable))]

@@ -1,5 +1,5 @@
 -- The name list as a row of records: 256 records, of which each has four of the flat words.
-use Rattle.std.specs.Prelude.{◌≡◌, Bool, true, false, not, ◌&&◌, ◌||◌, List, [], ◌∷◌, ℕ, zero, suc, ◌+◌, ◌*◌, ◌<◌, ◌≤◌, eqb, pos, get_or, Option, Some, None, if◌then◌else◌}
+use Rattle.std.specs.Prelude.{◌≡◌, Bool, true, false, not, ◌&&◌, ◌||◌, List, [], ◌∷◌, ℕ, zero, suc, ◌+◌, ◌*◌, ◌<◌, ◌≤◌, eqb, pos, get_or, Option, Some, None, IfSome, if◌then◌else◌}
 use Rattle.value.specs.Limits.{most_names}
 use Rattle.value.specs.Worked.{encode_of, decode_of}
 use Rattle.names.specs.Names.{name_kind}
@@ -55,6 +55,10 @@ is_field_record number r = (eqb r.kind name_kind.field || eqb r.kind name_kind.c
 abbrev pub record_number : Option ℕ → ℕ
 record_number (Some k) = k
 record_number None = most_names
+
+-- a record that is found is one of the first most_names
+abbrev pub IsInRow : Option ℕ → Type 0
+IsInRow r = IfSome r (λ k. k < most_names)
 
 -- r is the number of the first record that passes a test; most_names if there is none
 pub record FindsFirst (test : Name → Bool) (names : List Name) (r : ℕ) : Type 0 where

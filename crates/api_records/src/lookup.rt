@@ -1,7 +1,7 @@
 // What is looked up in a row of records.
 ghost use Rattle.std.specs.Prelude.{◌≡◌, ◌<◌, get_or};
 ghost use Rattle.value.specs.Limits.{most_names};
-ghost use Rattle.api_records.specs.Rows.{no_name, counted_on, is_at, is_field_record, record_count, record_number, FindsPlace, FindsField};
+ghost use Rattle.api_records.specs.Rows.{no_name, counted_on, is_at, is_field_record, record_count, record_number, IsInRow, FindsPlace, FindsField};
 
 use crate::Name;
 use names::kind;
@@ -65,24 +65,26 @@ pub fn count(names: &[Name]) -> u32
 
 // The number of the record of the name that is declared at a place.
 pub fn find_by_place(names: &[Name], place: u32) -> Option<u32>
-    ensures { FindsPlace names.now place (record_number result) }
+    ensures first { FindsPlace names.now place (record_number result) }
+    ensures found { IsInRow result }
 {
     for k in 0..RECORDS {
         if is_at(record(names, k), place) {
             return Some(k);
         }
     }
-    None
+    None // No name is declared there.
 }
 
 // The number of the record of the field that has a number.
 pub fn find_field(names: &[Name], number: u32) -> Option<u32>
-    ensures { FindsField names.now number (record_number result) }
+    ensures first { FindsField names.now number (record_number result) }
+    ensures found { IsInRow result }
 {
     for k in 0..RECORDS {
         if is_field(record(names, k), number) {
             return Some(k);
         }
     }
-    None
+    None // No field has the number.
 }

@@ -3,7 +3,7 @@ ghost use Rattle.std.specs.Prelude.{◌≡◌, ◌≤◌, length};
 ghost use Rattle.value.specs.Limits.{most_cells, most_fields};
 ghost use Rattle.run_admission.specs.Promises.Admitting.{number_told};
 ghost use Rattle.band_planner.specs.Promises.Borders.{border_of};
-ghost use Rattle.band_planner.specs.Promises.Plans.{band_of};
+ghost use Rattle.band_planner.specs.Promises.Plans.{band_told};
 ghost use Rattle.band_call.specs.BandCall.{row_cells, band_right, band_rooms};
 ghost use Rattle.band_call.specs.Promises.Asking.{RowsDivide, RefusesBand};
 
@@ -22,7 +22,7 @@ pub fn row_cells(sizes: &[u32]) -> usize
 
 // Whether a band could be part of an accepted plan for so many rows.
 fn band_right(rows: u32, border: Border, held: u32, band: Band) -> bool
-    ensures { result ≡ band_right rows (border_of border) held (band_of band) }
+    ensures { result ≡ band_right rows (border_of border) held (band_told band) }
 {
     if band.last < band.first {
         return false;
@@ -43,7 +43,7 @@ fn rooms_right(
     room: usize,
 ) -> bool
     requires { (row ≤ most_cells) × (fields ≤ most_fields) × (band.first ≤ band.last) }
-    ensures { result ≡ band_rooms row fields rows room (border_of border) (band_of band) }
+    ensures { result ≡ band_rooms row fields rows room (border_of border) (band_told band) }
 {
     if rows as u64 != border.rows_with(band) * row as u64 * fields as u64 {
         return false;
@@ -65,7 +65,7 @@ pub fn refused_band(
     time: i64,
 ) -> Result<(), Reason>
     requires { (row ≤ most_cells) × (fields ≤ most_fields) }
-    ensures { RefusesBand rows row fields (border_of border) held (band_of band) lent room time (number_told result) }
+    ensures { RefusesBand rows row fields (border_of border) held (band_told band) lent room time (number_told result) }
 {
     if !band_right(rows, border, held, band) {
         return Err(Reason::WrongPlan);

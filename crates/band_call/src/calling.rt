@@ -3,7 +3,7 @@ ghost use Rattle.std.specs.Prelude.{length, ◌≡◌, List, ℤ};
 ghost use Rattle.grammar.specs.Checking.{rooms_fit};
 ghost use Rattle.run_calls.specs.Calls.{flat_names, source_lent};
 ghost use Rattle.band_planner.specs.Promises.Borders.{border_of};
-ghost use Rattle.band_planner.specs.Promises.Plans.{band_of};
+ghost use Rattle.band_planner.specs.Promises.Plans.{band_told};
 ghost use Rattle.run_meaning.specs.Report.{refused};
 ghost use Rattle.run_steps.specs.Told.{told};
 ghost use Rattle.band_call.specs.BandCall.{band_asked};
@@ -74,7 +74,8 @@ fn admit_band(
 }
 
 // The step of an admitted call, by the rows passed: the room gets the band's next rows, at a fault zeros, and the cell is named by its number in
-// the whole grid.
+// the whole grid. It is not inlined, so that its leaf table is on the stack only once the source has been read.
+#[inline(never)]
 fn step_lent(
     words: &[u32],
     rule: Rule,
@@ -86,8 +87,8 @@ fn step_lent(
     room: &mut [i32],
     time: u32,
 ) -> Report
-    requires { LentFits words.now rule sizes.now row (border_of border) (band_of band) (length rows.now) (length room.old) time }
-    ensures { LentStepped words.now rule sizes.now (border_of border) (band_of band) rows.now room.old time result room.new }
+    requires { LentFits words.now rule sizes.now row (border_of border) (band_told band) (length rows.now) (length room.old) time }
+    ensures { LentStepped words.now rule sizes.now (border_of border) (band_told band) rows.now room.old time result room.new }
 {
     let own = band.last + 1 - band.first;
     let shape = room_shape(sizes, border.before + own + border.behind);

@@ -20,6 +20,7 @@ use Rattle.band_planner.specs.declared.borders.Border.{Border}
 use Rattle.band_planner.specs.Promises.Borders.{border_of}
 use Rattle.band_planner.specs.Promises.Opening.{far_told, RowsOpen, OpensRows}
 use Rattle.band_planner.specs.Promises.BorderCall.{borders_in, BordersSource, BordersLeaves}
+use Rattle.band_planner.proofs.OpeningLaws.{numbered, by_reason}
 
 -- ---- a source
 
@@ -27,7 +28,8 @@ module _ {fit : Bool} {source ws ns sizes : List ℕ} {o : Result RowsOpened Ref
   -- the source or the sizes are refused
   pub borders_closed : {e : Refusal} → o ≡ Err e → {r : Result Border Refusal} → r ≡ Err e → BordersSource fit source sizes ws ns r ws' ns'
   unfolding borders_source
-  borders_closed {e} z q = record { reply = ap borders_in q ∙ sym (ap (by_grid no_borders (λ p. borders p sizes)) (x.closed e z)); words_are = x.words; names_are = x.names }
+  borders_closed {e} z q =
+      record { reply = ap borders_in q ∙ sym (ap (by_grid no_borders (λ p. borders p sizes)) (x.closed e z)); refuses = numbered q (x.refuses e z); words_are = x.words; names_are = x.names }
 
   module _ {rows : RowsOpened} (z : o ≡ Ok rows) where
     open_is : RowsOpen fit source ws' sizes rows
@@ -38,22 +40,24 @@ module _ {fit : Bool} {source ws ns sizes : List ℕ} {o : Result RowsOpened Ref
     replied near far edge = if near then record { number = 0; place = 0; before = edge.back; behind = edge.ahead } else no_borders far.number far.place
 
     reply_is : {r : Result Border Refusal} {t : Bool} → eqb (far_told rows.far).number 0 ≡ t → borders_in r ≡ replied t (far_told rows.far) (border_of rows.border)
-        → BordersSource fit source sizes ws ns r ws' ns'
+        → ((e : Refusal) → r ≡ Err e → e.number ≡ 0 → ⊥) → BordersSource fit source sizes ws ns r ws' ns'
     unfolding borders_source borders
-    reply_is e q =
+    reply_is e q n =
         record {
           reply = q ∙ ap (λ (t : Bool). replied t (far_told rows.far) (border_of rows.border)) (sym e)
               ∙ (λ i. replied (eqb (open_is.far i).number 0) (open_is.far i) (open_is.borders i)) ∙ sym (ap (by_grid no_borders (λ p. borders p sizes)) open_is.on);
+          refuses = n;
           words_are = x.words;
           names_are = x.names;
         }
 
     -- an index is too far, or none
     pub borders_far : {e : Refusal} → rows.far ≡ Some e → BordersSource fit source sizes ws ns (Err e) ws' ns'
-    borders_far {e} f = reply_is (ap (λ (g : Option Refusal). eqb (far_told g).number 0) f ∙ ne_eqb e.number 0 (open_is.refuses e f)) (ap (λ (g : Option Refusal). borders_in (Err (far_told g))) (sym f))
+    borders_far {e} f = reply_is (ap (λ (g : Option Refusal). eqb (far_told g).number 0) f ∙ ne_eqb e.number 0 (open_is.refuses e f)) (ap (λ (g : Option Refusal). borders_in (Err (far_told g))) (sym f)) (numbered refl (open_is.refuses e f))
 
-    pub borders_found : rows.far ≡ None → BordersSource fit source sizes ws ns (Ok rows.border) ws' ns'
-    borders_found f = reply_is (ap (λ (g : Option Refusal). eqb (far_told g).number 0) f) refl
+    pub borders_found : rows.far ≡ None → {r : Result Border Refusal} → borders_in r ≡ borders_in (Ok rows.border) → ((e : Refusal) → r ≡ Err e → e.number ≡ 0 → ⊥)
+        → BordersSource fit source sizes ws ns r ws' ns'
+    borders_found f told n = reply_is (ap (λ (g : Option Refusal). eqb (far_told g).number 0) f) told n
 
 -- ---- what is lent
 
@@ -63,7 +67,7 @@ module _ (l : SourceLent ℕ) (sizes : List ℕ) {t : Bool} (is : t ≡ is_built
   unfolding borders_left borders_source on_sizes words_after read_source
   borders_unlisted n q =
       let e : source_fits flat_names l ≡ false = ap (λ (u : Bool). u && rooms_fit (length l.words) (length l.names)) (sym is ∙ not-true t n) in
-      record { is = (λ i. record { answer = borders_in (Err (q i)); words = l.words; names = l.names }) ∙ rw e }
+      record { is = (λ i. record { answer = borders_in (Err (q i)); words = l.words; names = l.names }) ∙ rw e; refuses = by_reason q }
 
   pub borders_read : not t ≡ false → {r : Result Border Refusal} {words names : List ℕ}
       → BordersSource (rooms_fit (length l.words) (length l.names)) l.source sizes l.words l.names r words names → BordersLeaves flat_names l sizes r words names
@@ -71,4 +75,4 @@ module _ (l : SourceLent ℕ) (sizes : List ℕ) {t : Bool} (is : t ≡ is_built
   borders_read n {r} {words} {names} x =
       let e : rooms_fit (length l.words) (length l.names) ≡ source_fits flat_names l = ap (λ (u : Bool). u && rooms_fit (length l.words) (length l.names)) (sym (sym is ∙ not-false t n)) in
       let y = subst (λ (fit : Bool). BordersSource fit l.source sizes l.words l.names r words names) e x in
-      record { is = λ i. record { answer = y.reply i; words = y.words_are i; names = y.names_are i } }
+      record { is = λ i. record { answer = y.reply i; words = y.words_are i; names = y.names_are i }; refuses = y.refuses }

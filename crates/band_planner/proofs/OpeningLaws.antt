@@ -77,6 +77,17 @@ sizes_known p sizes e =
 pub refused_only : {e : Refusal} {o : RowsOpened} {A : Type 0} → ◌≡◌ {A = Result RowsOpened Refusal} (Err e) (Ok o) → A
 refused_only z = never (ap (λ (r : Result RowsOpened Refusal). elim r [ Ok a ↦ true | Err f ↦ false ]) z)
 
+-- an answer is no refusal
+pub answered : {A : Type 0} {a : A} (e : Refusal) → ◌≡◌ {A = Result A Refusal} (Ok a) (Err e) → e.number ≡ 0 → ⊥
+answered {A} e z k = never (ap (λ (r : Result A Refusal). elim r [ Ok a ↦ false | Err f ↦ true ]) z)
+
+-- a refusal with a number, and one for a reason
+pub numbered : {A : Type 0} {f : Refusal} {r : Result A Refusal} → r ≡ Err f → (f.number ≡ 0 → ⊥) → (e : Refusal) → r ≡ Err e → e.number ≡ 0 → ⊥
+numbered q n e z k = n (ap (λ (g : Refusal). g.number) (err_same (sym q ∙ z)) ∙ k)
+
+pub by_reason : {A : Type 0} {f : Refusal} {n place : ℕ} → f ≡ refusal (suc n) place → (e : Refusal) → ◌≡◌ {A = Result A Refusal} (Err f) (Err e) → e.number ≡ 0 → ⊥
+by_reason q = numbered refl (λ k. absurd (omega (arith, ap (λ (g : Refusal). g.number) q, k)))
+
 -- the refusal of an index that is too far
 far_as : (f : std.Option ℕ) → far_told (far_refused f) ≡ far_of f
 far_as None = refl

@@ -15,7 +15,7 @@ use Rattle.program.specs.Syntax.{Program}
 use Rattle.grammar.specs.Checking.{rooms_fit, read_source, words_after}
 use Rattle.grammar.specs.Promises.Flat.{names_after}
 use Rattle.cell_meaning.specs.Written.{written_in}
-use Rattle.program.specs.Refusal.{Refusal, refusal}
+use Rattle.program.specs.Refusal.{Refusal, refusal, no_refusal}
 use Rattle.run_meaning.specs.Admission.{too_far}
 use Rattle.run_calls.specs.Calls.{NameForm, flat_names, SourceLent, source_fits, names_left}
 use Rattle.run_admission.specs.Promises.Admitting.{refusal_told}
@@ -29,6 +29,7 @@ use Rattle.band_planner.specs.Promises.Borders.{border_of}
 use Rattle.band_planner.specs.Promises.Plans.{WritesPlan}
 use Rattle.band_planner.specs.Promises.Opening.{far_told, RowsOpen, OpensRows}
 use Rattle.band_planner.specs.Promises.Planning.{planned_of, plan_or_none, ChecksSource, CheckLeaves, PlansSource, PlannerLeaves}
+use Rattle.band_planner.proofs.OpeningLaws.{numbered, by_reason}
 
 -- ---- the planner's plan, or 59
 
@@ -52,7 +53,8 @@ module _ {fit : Bool} {source ws ns sizes : List ℕ} {o : Result RowsOpened Ref
   module _ {e : Refusal} (z : o ≡ Err e) (held : ℕ) where
     pub check_closed : (plan : List ℕ) {r : Result (Unit {0}) Refusal} → r ≡ Err e → ChecksSource fit source sizes held plan ws ns r ws' ns'
     unfolding check_plan_source
-    check_closed plan q = record { reply = ap refusal_told q ∙ sym (ap (by_grid refusal (λ p. check_plan p sizes held plan)) (x.closed e z)); words_are = x.words; names_are = x.names }
+    check_closed plan q =
+        record { reply = ap refusal_told q ∙ sym (ap (by_grid refusal (λ p. check_plan p sizes held plan)) (x.closed e z)); refuses = numbered q (x.refuses e z); words_are = x.words; names_are = x.names }
 
     pub plan_closed : (room : List ℕ) {r : Result ℕ Refusal} → r ≡ Err e → PlansSource fit source sizes held ws ns room r ws' ns' room
     unfolding planned_source
@@ -81,9 +83,10 @@ module _ {fit : Bool} {source ws ns sizes : List ℕ} {o : Result RowsOpened Ref
     unfolding program
     none_far f = ap (λ (r : Refusal). eqb r.number 0) (sym (ap far_told (sym f) ∙ open_is.far))
 
-    checks_as : (plan : List ℕ) {r : Result (Unit {0}) Refusal} → refusal_told r ≡ check_plan program sizes held plan → ChecksSource fit source sizes held plan ws ns r ws' ns'
+    checks_as : (plan : List ℕ) {r : Result (Unit {0}) Refusal} → refusal_told r ≡ check_plan program sizes held plan → ((e : Refusal) → r ≡ Err e → e.number ≡ 0 → ⊥)
+        → ChecksSource fit source sizes held plan ws ns r ws' ns'
     unfolding check_plan_source program
-    checks_as plan e = record { reply = e ∙ sym (ap (by_grid refusal (λ p. check_plan p sizes held plan)) open_is.on); words_are = x.words; names_are = x.names }
+    checks_as plan e n = record { reply = e ∙ sym (ap (by_grid refusal (λ p. check_plan p sizes held plan)) open_is.on); refuses = n; words_are = x.words; names_are = x.names }
 
     plans_as : (room : List ℕ) {r : Result ℕ Refusal} {room' : List ℕ} → planned_of r room' ≡ planned program sizes held room → PlansSource fit source sizes held ws ns room r ws' ns' room'
     unfolding planned_source program
@@ -94,15 +97,15 @@ module _ {fit : Bool} {source ws ns sizes : List ℕ} {o : Result RowsOpened Ref
     fits_is plan e = sym (e ∙ ap₂ (λ (n : ℕ) (b : Bound). plan_right n b held plan) open_is.rows_are open_is.borders)
 
     pub check_far : {e : Refusal} → rows.far ≡ Some e → (plan : List ℕ) → ChecksSource fit source sizes held plan ws ns (Err e) ws' ns'
-    check_far f plan = checks_as plan (is_far f ∙ sym (check_is program sizes held plan (far_is f) refl))
+    check_far {e} f plan = checks_as plan (is_far f ∙ sym (check_is program sizes held plan (far_is f) refl)) (numbered refl (open_is.refuses e f))
 
     pub check_taken : rows.far ≡ None → (plan : List ℕ) {t : Bool} → t ≡ plan_right rows.rows (border_of rows.border) held plan → not t ≡ false
-        → (u : Unit {0}) → ChecksSource fit source sizes held plan ws ns (Ok u) ws' ns'
-    check_taken f plan {t} e q u = checks_as plan (sym (check_is program sizes held plan (none_far f) (fits_is plan e ∙ not-false t q)))
+        → {r : Result (Unit {0}) Refusal} → refusal_told r ≡ no_refusal → ((e : Refusal) → r ≡ Err e → e.number ≡ 0 → ⊥) → ChecksSource fit source sizes held plan ws ns r ws' ns'
+    check_taken f plan {t} e q told n = checks_as plan (told ∙ sym (check_is program sizes held plan (none_far f) (fits_is plan e ∙ not-false t q))) n
 
     pub check_not_taken : rows.far ≡ None → (plan : List ℕ) {t : Bool} → t ≡ plan_right rows.rows (border_of rows.border) held plan → not t ≡ true
         → {e : Refusal} → e ≡ refusal 60 0 → ChecksSource fit source sizes held plan ws ns (Err e) ws' ns'
-    check_not_taken f plan {t} e q w = checks_as plan (w ∙ sym (check_is program sizes held plan (none_far f) (fits_is plan e ∙ not-true t q)))
+    check_not_taken f plan {t} e q w = checks_as plan (w ∙ sym (check_is program sizes held plan (none_far f) (fits_is plan e ∙ not-true t q))) (by_reason w)
 
     pub plan_room : (room : List ℕ) → (length room ≡ 2 * rows.rows → ⊥) → {e : Refusal} → e ≡ refusal 21 0 → PlansSource fit source sizes held ws ns room (Err e) ws' ns' room
     plan_room room d q =
@@ -129,9 +132,10 @@ module _ {fit : Bool} {source ws ns sizes : List ℕ} {o : Result RowsOpened Ref
 
 module _ {N : Type 0} {form : NameForm N} {l : SourceLent N} {sizes : List ℕ} {held : ℕ} {words : List ℕ} {names : List N} (w : words ≡ words_after (source_fits form l) l.source l.words)
     (n : names ≡ names_left form (source_fits form l) l.source l.names) where
-  pub check_left : {plan : List ℕ} {r : Result (Unit {0}) Refusal} → refusal_told r ≡ check_plan_source (source_fits form l) l.source sizes held plan → CheckLeaves form l sizes held plan r words names
+  pub check_left : {plan : List ℕ} {r : Result (Unit {0}) Refusal} → refusal_told r ≡ check_plan_source (source_fits form l) l.source sizes held plan → ((e : Refusal) → r ≡ Err e → e.number ≡ 0 → ⊥)
+      → CheckLeaves form l sizes held plan r words names
   unfolding plan_check_left
-  check_left e = record { is = λ i. record { answer = e i; words = w i; names = n i } }
+  check_left e refuses = record { is = λ i. record { answer = e i; words = w i; names = n i }; refuses = refuses }
 
   pub plan_left : {room : List ℕ} {r : Result ℕ Refusal} {room' : List ℕ} → planned_of r room' ≡ planned_source (source_fits form l) l.source sizes held room → PlannerLeaves form l sizes held room r words names room'
   unfolding planner_left
@@ -141,7 +145,7 @@ module _ {N : Type 0} {form : NameForm N} {l : SourceLent N} {sizes : List ℕ} 
 module _ {N : Type 0} (form : NameForm N) (l : SourceLent N) (sizes : List ℕ) (held : ℕ) (entries : List ℕ) (e : source_fits form l ≡ false) where
   pub unlisted_check : {f : Refusal} → f ≡ refusal 1 0 → CheckLeaves form l sizes held entries (Err f) l.words l.names
   unfolding check_plan_source on_sizes words_after read_source
-  unlisted_check q = check_left (rw e) (rw e) (q ∙ rw e)
+  unlisted_check q = check_left (rw e) (rw e) (q ∙ rw e) (by_reason q)
 
   pub unlisted_plan : {f : Refusal} → f ≡ refusal 1 0 → PlannerLeaves form l sizes held entries (Err f) l.words l.names entries
   unfolding planned_source on_sizes words_after read_source
@@ -165,7 +169,7 @@ module _ (l : SourceLent ℕ) (sizes : List ℕ) (held : ℕ) (entries : List �
   unfolding names_after
   check_listed n {r} {words} {names} x =
       let y = subst (λ (fit : Bool). ChecksSource fit l.source sizes held entries l.words l.names r words names) (fits_as n) x in
-      check_left y.words_are y.names_are y.reply
+      check_left y.words_are y.names_are y.reply y.refuses
 
   pub plan_listed : not t ≡ false → {r : Result ℕ Refusal} {words names room : List ℕ}
       → PlansSource (rooms_fit (length l.words) (length l.names)) l.source sizes held l.words l.names entries r words names room → PlannerLeaves flat_names l sizes held entries r words names room

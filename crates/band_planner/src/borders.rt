@@ -3,7 +3,7 @@ ghost use Rattle.std.specs.Prelude.{◌≡◌, ◌≤◌};
 ghost use Rattle.value.specs.Limits.{most_places};
 ghost use Rattle.automaton.specs.Bands.{rows_with};
 ghost use Rattle.band_planner.specs.Promises.Borders.{border_of, WidensBorder, ListedBorder, BordersOf};
-ghost use Rattle.band_planner.specs.Promises.Plans.{band_of};
+ghost use Rattle.band_planner.specs.Promises.Plans.{band_told};
 
 use crate::plans::Band;
 use run_meaning::Reach;
@@ -20,7 +20,7 @@ impl Border {
     // How many rows a band has with its border rows.
     pub fn rows_with(self, band: Band) -> u64
         requires { band.first ≤ band.last }
-        ensures { result ≡ rows_with (border_of self) (band_of band) }
+        ensures { result ≡ rows_with (border_of self) (band_told band) }
     {
         self.before as u64 + band.rows() + self.behind as u64
     }

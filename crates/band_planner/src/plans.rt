@@ -3,7 +3,7 @@ ghost use Rattle.std.specs.Prelude.{◌≡◌, ◌+◌, ◌*◌, ◌<◌, ◌≤
 ghost use Rattle.automaton.specs.Bands.{rows_in};
 ghost use Rattle.band_meaning.specs.Plans.{plan_right};
 ghost use Rattle.band_planner.specs.Promises.Borders.{border_of};
-ghost use Rattle.band_planner.specs.Promises.Plans.{band_of, band_runs, PutsBand, WritesPlan};
+ghost use Rattle.band_planner.specs.Promises.Plans.{band_told, band_runs, PutsBand, WritesPlan};
 
 use crate::borders::Border;
 
@@ -18,7 +18,7 @@ impl Band {
     // How many rows the band has.
     pub fn rows(self) -> u64
         requires { self.first ≤ self.last }
-        ensures { result ≡ rows_in (band_of self) }
+        ensures { result ≡ rows_in (band_told self) }
     {
         (self.last - self.first) as u64 + 1
     }
@@ -26,7 +26,7 @@ impl Band {
 
 // Whether a band begins at a row, is not empty, and can be held with its border rows.
 fn band_fits(band: Band, from: u64, border: Border, held: u32) -> bool
-    ensures { result ≡ band_runs (band_of band) from (border_of border) held }
+    ensures { result ≡ band_runs (band_told band) from (border_of border) held }
 {
     if band.first as u64 != from {
         return false;
@@ -61,7 +61,7 @@ pub fn plan_accepted(plan: &[u32], rows: u32, border: Border, held: u32) -> bool
 // Puts band k into a room.
 fn put_band(bands: &mut [u32], k: u32, band: Band)
     requires { 2 * k + 2 ≤ length bands.old }
-    ensures { PutsBand bands.old k (band_of band) bands.new }
+    ensures { PutsBand bands.old k (band_told band) bands.new }
 {
     let at = 2 * (k as usize);
     bands[at] = band.first;

@@ -14,7 +14,7 @@ use Rattle.cell_meaning.specs.Operators.{placed, apply_unary, compare, apply_bin
 use Rattle.cell_meaning.specs.Evaluation.{Env, element_at, eval}
 use Rattle.cell_meaning.specs.Promises.Stands.{array_in, is_unary, parsed, decode_expression, decode_chain, decode_operand, decode_primary, decode_bracket}
 use Rattle.cell_meaning.specs.Links.{Table}
-use Rattle.cell_operands.specs.Promises.Working.{Told, Found, Failed, told_of, OperandOnward, primary_from, EvalsExpression, EvalsOperand, EvalsPrimary, EvalsBracket, Leaf, Quick, Joins}
+use Rattle.cell_operands.specs.Promises.Working.{EvaluationResult, EvaluatedTo, Failed, told_of, OperandOnward, primary_from, EvalsExpression, EvalsOperand, EvalsPrimary, EvalsBracket, Leaf, Quick, Joins}
 use Rattle.cell_operands.proofs.OperatorLaws.{level_some, told_compare}
 use Rattle.token.proofs.Levels.{level_few}
 use Rattle.cell_operands.proofs.DecodingLaws.{never, went_on, was_unary, was_paren, was_name, was_array, was_bracket, was_expression, was_end, was_more}
@@ -31,7 +31,7 @@ module _ (t : Table) (env : Env) (vars vs : List ℤ) where
   abbrev ev : Expr → Outcome ℤ
   ev e = eval env vars vs e
 
-  as_fault : (e : Expr) (next : ℕ) {r : Told} {k p : ℕ} → r ≡ Failed k p → ev e ≡ fault k p → r ≡ told_of (ev e) next
+  as_fault : (e : Expr) (next : ℕ) {r : EvaluationResult} {k p : ℕ} → r ≡ Failed k p → ev e ≡ fault k p → r ≡ told_of (ev e) next
   as_fault e next h x = h ∙ sym (ap (λ (o : Outcome ℤ). told_of o next) x)
 
   -- ---- evaluation's clauses, with the outcome of the operands known
@@ -82,7 +82,7 @@ module _ (t : Table) (env : Env) (vars vs : List ℤ) where
   module _ (n at : ℕ) where
     -- ---- brackets
 
-    module _ (close : ℕ) {r : Told} (x : EvalsExpression t env vars vs n (at + 1) 1 r) where
+    module _ (close : ℕ) {r : EvaluationResult} (x : EvalsExpression t env vars vs n (at + 1) 1 r) where
       pub bracket_fault : {k p : ℕ} → r ≡ Failed k p → EvalsBracket t env vars vs n at close r
       bracket_fault {k} {p} h = record {
         says = λ fuel e next q.
@@ -91,13 +91,13 @@ module _ (t : Table) (env : Env) (vars vs : List ℤ) where
         onward = rw h tt;
       }
 
-      module _ {v : Value} {past : ℕ} (h : r ≡ Found v past) {k : ℕ} (ek : k ≡ t.kind past) where
-        pub bracket_closed : k ≡ close → past < n → EvalsBracket t env vars vs n at close (Found v (past + 1))
+      module _ {v : Value} {past : ℕ} (h : r ≡ EvaluatedTo v past) {k : ℕ} (ek : k ≡ t.kind past) where
+        pub bracket_closed : k ≡ close → past < n → EvalsBracket t env vars vs n at close (EvaluatedTo v (past + 1))
         bracket_closed kc l =
             let o : (at + 1 < past) × (past ≤ n) = rw h at x.onward in
             record { says = λ fuel e next q. go e next (was_bracket t at next e close fuel q); onward = (omega arith, omega arith) }
           where
-            go : (e : Expr) (next : ℕ) → (f : ℕ) × (m : ℕ) × (decode_expression f t 1 (at + 1) ≡ parsed e m) × (t.kind m ≡ close) × (next ≡ m + 1) → Found v (past + 1) ≡ told_of (ev e) next
+            go : (e : Expr) (next : ℕ) → (f : ℕ) × (m : ℕ) × (decode_expression f t 1 (at + 1) ≡ parsed e m) × (t.kind m ≡ close) × (next ≡ m + 1) → EvaluatedTo v (past + 1) ≡ told_of (ev e) next
             go e next (f, m, q, kc', hn) =
                 let s = result_of (ev e) m (sym h ∙ x.says f e m q) in
                 as_value env vars vs e (past + 1) next s.0 (hn ∙ ap (λ (i : ℕ). i + 1) s.1)
@@ -113,11 +113,11 @@ module _ (t : Table) (env : Env) (vars vs : List ℤ) where
     -- ---- primaries
 
     module _ {k : ℕ} (ek : k ≡ t.kind at) where
-      pub primary_paren : {r : Told} → k ≡ 40 → EvalsBracket t env vars vs n at 41 r → EvalsPrimary t env vars vs n at r
+      pub primary_paren : {r : EvaluationResult} → k ≡ 40 → EvalsBracket t env vars vs n at 41 r → EvalsPrimary t env vars vs n at r
       primary_paren {r} kp b = record { says = λ fuel e next q. let s = was_paren t at next e (sym ek ∙ kp) fuel q in b.says s.0 e next s.1; onward = b.onward }
 
       -- by the short way, where no name stands, or that of no array constant
-      pub primary_quick : {r : Told} → (k ≡ 40 → ⊥) → (k ≡ 1 → t.word2 at ≡ 2 → ⊥) → Quick t env vars vs n at 5 r → EvalsPrimary t env vars vs n at r
+      pub primary_quick : {r : EvaluationResult} → (k ≡ 40 → ⊥) → (k ≡ 1 → t.word2 at ≡ 2 → ⊥) → Quick t env vars vs n at 5 r → EvalsPrimary t env vars vs n at r
       primary_quick kp na x = x.only refl (λ z. kp (ek ∙ z)) (λ y z. na (ek ∙ y) z)
 
       module _ (kn : k ≡ 1) {w : ℕ} (ew : w ≡ t.word2 at) where
@@ -133,7 +133,7 @@ module _ (t : Table) (env : Env) (vars vs : List ℤ) where
           unfolding Went
           primary_bare ej nb = record { says = λ fuel e next q. absurd (nb (ej ∙ (went fuel e next q).0)); onward = tt }
 
-          module _ {r : Told} (b : EvalsBracket t env vars vs n (at + 1) 93 r) where
+          module _ {r : EvaluationResult} (b : EvalsBracket t env vars vs n (at + 1) 93 r) where
             pub primary_element_fault : {a p : ℕ} → r ≡ Failed a p → EvalsPrimary t env vars vs n at r
             unfolding Went
             primary_element_fault {a} {p} h = record { says = λ fuel e next q. go e next (went fuel e next q); onward = rw h tt }
@@ -142,7 +142,7 @@ module _ (t : Table) (env : Env) (vars vs : List ℤ) where
                 go e next (k91, f, e₀, q, he) =
                     as_fault e next h (ap ev he ∙ element_faults (t.place (at + 1)) (array_in t (t.word3 at)) e₀ (fault_of (ev e₀) next (sym h ∙ b.says f e₀ next q)))
 
-            pub primary_element : {i : Value} {past : ℕ} {o : Told} → r ≡ Found i past → o ≡ told_of (element_at (t.place (at + 1)) (array_in t (t.word3 at)) i.n) past
+            pub primary_element : {i : Value} {past : ℕ} {o : EvaluationResult} → r ≡ EvaluatedTo i past → o ≡ told_of (element_at (t.place (at + 1)) (array_in t (t.word3 at)) i.n) past
                 → EvalsPrimary t env vars vs n at o
             unfolding Went
             primary_element {i} {past} {o} h ho = record {
@@ -159,7 +159,7 @@ module _ (t : Table) (env : Env) (vars vs : List ℤ) where
     -- ---- operands
 
     module _ {k : ℕ} (ek : k ≡ t.kind at) {b : Bool} (eb : b ≡ is_unary k) where
-      module _ {r : Told} (h : b ≡ true) (x : EvalsPrimary t env vars vs n (at + 1) r) where
+      module _ {r : EvaluationResult} (h : b ≡ true) (x : EvalsPrimary t env vars vs n (at + 1) r) where
         Unary : (e : Expr) (next : ℕ) → Type 0
         Unary e next = (f : ℕ) × (e₀ : Expr) × (decode_primary f t (at + 1) ≡ parsed e₀ next) × (e ≡ unary (t.kind at) (t.place at) e₀)
 
@@ -174,7 +174,7 @@ module _ (t : Table) (env : Env) (vars vs : List ℤ) where
             go : (e : Expr) (next : ℕ) → Unary e next → r ≡ told_of (ev e) next
             go e next (f, e₀, q, he) = as_fault e next g (ap ev he ∙ unary_faults (t.kind at) (t.place at) e₀ (fault_of (ev e₀) next (sym g ∙ x.says f e₀ next q)))
 
-        before_found : {v : Value} {past : ℕ} {o : Told} → r ≡ Found v past → o ≡ told_of (placed (t.place at) (apply_unary k v.n)) past → EvalsOperand t env vars vs n at o
+        before_found : {v : Value} {past : ℕ} {o : EvaluationResult} → r ≡ EvaluatedTo v past → o ≡ told_of (placed (t.place at) (apply_unary k v.n)) past → EvalsOperand t env vars vs n at o
         unfolding Unary
         before_found {v} {past} {o} g ho = record {
           says = λ fuel e next q. go e next (unary_read fuel e next q);
@@ -187,7 +187,7 @@ module _ (t : Table) (env : Env) (vars vs : List ℤ) where
                 ho ∙ ap (told_of (placed (t.place at) (apply_unary k v.n))) (sym s.1)
                 ∙ sym (ap (λ (y : Outcome ℤ). told_of y next) (ap ev he ∙ unary_result (t.kind at) (t.place at) e₀ s.0 ∙ ap (λ (i : ℕ). placed (t.place at) (apply_unary i v.n)) (sym ek)))
 
-    module _ {k : ℕ} (ek : k ≡ t.kind at) {from : ℕ} (ef : from ≡ primary_from k at) {r : Told} (x : EvalsPrimary t env vars vs n from r) where
+    module _ {k : ℕ} (ek : k ≡ t.kind at) {from : ℕ} (ef : from ≡ primary_from k at) {r : EvaluationResult} (x : EvalsPrimary t env vars vs n from r) where
       behind : is_unary k ≡ true → EvalsPrimary t env vars vs n (at + 1) r
       behind h = subst (λ (i : ℕ). EvalsPrimary t env vars vs n i r) (ef ∙ simp h) x
 
@@ -202,10 +202,10 @@ module _ (t : Table) (env : Env) (vars vs : List ℤ) where
           go false e = bare t env vars vs n at ek {b = is_unary k} refl e (here_too e)
 
       module _ {b : Bool} (eb : b ≡ is_unary k) where
-        pub operand_bare : {v : Value} {past : ℕ} → b ≡ false → r ≡ Found v past → EvalsOperand t env vars vs n at (Found v past)
+        pub operand_bare : {v : Value} {past : ℕ} → b ≡ false → r ≡ EvaluatedTo v past → EvalsOperand t env vars vs n at (EvaluatedTo v past)
         operand_bare h g = subst (EvalsOperand t env vars vs n at) g (bare t env vars vs n at ek eb h (here_too (sym eb ∙ h)))
 
-        pub operand_unary : {v : Value} {past : ℕ} {o : Told} → b ≡ true → r ≡ Found v past → o ≡ told_of (placed (t.place at) (apply_unary k v.n)) past → EvalsOperand t env vars vs n at o
+        pub operand_unary : {v : Value} {past : ℕ} {o : EvaluationResult} → b ≡ true → r ≡ EvaluatedTo v past → o ≡ told_of (placed (t.place at) (apply_unary k v.n)) past → EvalsOperand t env vars vs n at o
         operand_unary h g ho = before_found ek eb h (behind (sym eb ∙ h)) g ho
 
     -- ---- operators
@@ -221,13 +221,13 @@ module _ (t : Table) (env : Env) (vars vs : List ℤ) where
       abbrev First : Expr → ℕ → Type 0
       First e next = (f : ℕ) × (e₀ : Expr) × (m : ℕ) × (decode_operand f t at ≡ parsed e₀ m) × (decode_chain f t level e₀ m ≡ parsed e next)
 
-      pub first_fault : {r : Told} {k p : ℕ} → EvalsOperand t env vars vs n at r → r ≡ Failed k p → EvalsExpression t env vars vs n at level r
+      pub first_fault : {r : EvaluationResult} {k p : ℕ} → EvalsOperand t env vars vs n at r → r ≡ Failed k p → EvalsExpression t env vars vs n at level r
       first_fault {r} {k} {p} x h = record { says = λ fuel e next q. go e next (was_expression t at next e level fuel q); onward = rw h tt }
         where
           go : (e : Expr) (next : ℕ) → First e next → r ≡ told_of (ev e) next
           go e next (f, e₀, m, q, q') = as_fault e next h (chain_fault level next e k p f m e₀ q' (fault_of (ev e₀) m (sym h ∙ x.says f e₀ m q)))
 
-      pub first_found : {r : Told} {v : Value} {past : ℕ} → EvalsOperand t env vars vs n at r → r ≡ Found v past → Chain v past
+      pub first_found : {r : EvaluationResult} {v : Value} {past : ℕ} → EvalsOperand t env vars vs n at r → r ≡ EvaluatedTo v past → Chain v past
       first_found {r} {v} {past} x h =
           let o : (at < past) × (past ≤ n) = rw h at x.onward in
           record { past = o.0; within = o.1; says = λ fuel e next q. go e next (was_expression t at next e level fuel q) }
@@ -241,15 +241,15 @@ module _ (t : Table) (env : Env) (vars vs : List ℤ) where
         abbrev Read : Expr → ℕ → Type 0
         Read e next = (f : ℕ) × (l : Expr) × (decode_chain f t level l here ≡ parsed e next) × (ev l ≡ result left.n)
 
-        pub chain_end : own < level → EvalsExpression t env vars vs n at level (Found left here)
+        pub chain_end : own < level → EvalsExpression t env vars vs n at level (EvaluatedTo left here)
         chain_end u = record { says = λ fuel e next q. go e next (ch.says fuel e next q); onward = (ch.past, ch.within) }
           where
-            go : (e : Expr) (next : ℕ) → Read e next → Found left here ≡ told_of (ev e) next
+            go : (e : Expr) (next : ℕ) → Read e next → EvaluatedTo left here ≡ told_of (ev e) next
             go e next (f, l, q, x) =
                 let s = was_end t here level next e (rw (← ek, ← eo) u) l f q in
                 as_value env vars vs e here next (ap ev (sym s.0) ∙ x) (sym s.1)
 
-        module _ {r : Told} (u : level ≤ own) (x : EvalsExpression t env vars vs n (here + 1) (own + 1) r) where
+        module _ {r : EvaluationResult} (u : level ≤ own) (x : EvalsExpression t env vars vs n (here + 1) (own + 1) r) where
           -- what a decoding that succeeds read next: the chain's part, the right side, and the rest
           More : (e : Expr) (next : ℕ) → Type 0
           More e next = (f : ℕ) × (l : Expr) × (right : Expr) × (m : ℕ) × (ev l ≡ result left.n) × (r ≡ told_of (ev right) m) × (decode_chain f t level (binary k (t.place here) l right) m ≡ parsed e next)
@@ -272,7 +272,7 @@ module _ (t : Table) (env : Env) (vars vs : List ℤ) where
               go e next (f, l, right, m, y, z, q) =
                   as_fault e next h (chain_fault level next e a p f m (binary k (t.place here) l right) q (right_faults k (t.place here) l right y (fault_of (ev right) m (sym h ∙ z))))
 
-          module _ {b : Value} {past : ℕ} {o : Told} (h : r ≡ Found b past) (ho : o ≡ told_of (placed (t.place here) (apply_binary k left.n b.n)) past) where
+          module _ {b : Value} {past : ℕ} {o : EvaluationResult} (h : r ≡ EvaluatedTo b past) (ho : o ≡ told_of (placed (t.place here) (apply_binary k left.n b.n)) past) where
             -- the operator's outcome is that of what is read now
             Done : (e : Expr) (next : ℕ) → Type 0
             Done e next = (f : ℕ) × (l : Expr) × (ev l ≡ placed (t.place here) (apply_binary k left.n b.n)) × (decode_chain f t level l past ≡ parsed e next)
@@ -294,7 +294,7 @@ module _ (t : Table) (env : Env) (vars vs : List ℤ) where
                 go e next (f, l, y, q) =
                     as_fault e next g (chain_fault level next e a p f past l q (y ∙ fault_of (placed (t.place here) (apply_binary k left.n b.n)) past (sym g ∙ ho)))
 
-            pub chain_more : {v : Value} {there : ℕ} → o ≡ Found v there → Chain v there
+            pub chain_more : {v : Value} {there : ℕ} → o ≡ EvaluatedTo v there → Chain v there
             unfolding Done
             chain_more {v} {there} g =
                 let s = result_of (placed (t.place here) (apply_binary k left.n b.n)) past (sym g ∙ ho) in
@@ -307,7 +307,7 @@ module _ (t : Table) (env : Env) (vars vs : List ℤ) where
                     → (f : ℕ) × (l : Expr) × (decode_chain f t level l there ≡ parsed e next) × (ev l ≡ result v.n)
                 go s z e next (f, l, y, q) = (f, l, ap (decode_chain f t level l) (sym z) ∙ q, y ∙ s)
 
-            pub chain_less : {v : Value} {there : ℕ} → o ≡ Found v there → (here < there) × (there ≤ n)
+            pub chain_less : {v : Value} {there : ℕ} → o ≡ EvaluatedTo v there → (here < there) × (there ≤ n)
             chain_less {v} {there} g =
                 let s = (result_of (placed (t.place here) (apply_binary k left.n b.n)) past (sym g ∙ ho)).1 in
                 let y : (here + 1 < past) × (past ≤ n) = rw h at x.onward in
@@ -316,8 +316,8 @@ module _ (t : Table) (env : Env) (vars vs : List ℤ) where
   -- ---- the short way
 
   -- the operand behind an operator is its right side, where the next operator is no tighter
-  quick_right : (n at own : ℕ) {r : Told} {b : Value} {next k after : ℕ} → EvalsOperand t env vars vs n at r → r ≡ Found b next → k ≡ t.kind next → after ≡ level_of k → after ≤ own
-      → EvalsExpression t env vars vs n at (own + 1) (Found b next)
+  quick_right : (n at own : ℕ) {r : EvaluationResult} {b : Value} {next k after : ℕ} → EvalsOperand t env vars vs n at r → r ≡ EvaluatedTo b next → k ≡ t.kind next → after ≡ level_of k → after ≤ own
+      → EvalsExpression t env vars vs n at (own + 1) (EvaluatedTo b next)
   quick_right n at own x h ek ea l = chain_end n at (own + 1) (first_found n at (own + 1) x h) ek ea (omega arith)
 
   module _ (n at level : ℕ) where
@@ -333,7 +333,7 @@ module _ (t : Table) (env : Env) (vars vs : List ℤ) where
     pub begun : {left : Value} {last : ℕ} → at ≤ n → Underway left 0 4 last at
     begun l = record { within = l; pending = first refl refl refl }
 
-    module _ (some_level : 1 ≤ level) {left : Value} {op own last here : ℕ} (p : Underway left op own last here) {r : Told} (x : Leaf t env vars vs n here r) where
+    module _ (some_level : 1 ≤ level) {left : Value} {op own last here : ℕ} (p : Underway left op own last here) {r : EvaluationResult} (x : Leaf t env vars vs n here r) where
       pub quick_none : {a k : ℕ} → r ≡ Failed a k → Quick t env vars vs n at level r
       quick_none {a} {k} h = record { found = λ v next e. lost (sym h ∙ e); only = λ five np na. go p.pending five np na }
         where
@@ -342,7 +342,7 @@ module _ (t : Table) (env : Env) (vars vs : List ℤ) where
               subst (λ (i : ℕ). EvalsPrimary t env vars vs n i r) e (x.only (λ z. np (ap t.kind (sym e) ∙ z)) (λ y z. na (ap t.kind (sym e) ∙ y) (ap t.word2 (sym e) ∙ z)))
           go (behind_operator ch s ek eo l) five np na = absurd (let m = level_few op in omega (arith, m, eo, l, five))
 
-      module _ {b : Value} {next k tight : ℕ} (h : r ≡ Found b next) (ek : k ≡ t.kind next) (et : tight ≡ level_of k) where
+      module _ {b : Value} {next k tight : ℕ} (h : r ≡ EvaluatedTo b next) (ek : k ≡ t.kind next) (et : tight ≡ level_of k) where
         pub quick_tighter : {a c : ℕ} → own < tight → Quick t env vars vs n at level (Failed a c)
         quick_tighter {a} {c} u = record { found = λ v next e. lost e; only = λ five np na. absurd (go p.pending five) }
           where
@@ -350,7 +350,7 @@ module _ (t : Table) (env : Env) (vars vs : List ℤ) where
             go (first o w e) five = let m = level_few k in omega (arith, m, et, w, u)
             go (behind_operator ch s eo ew l) five = let m = level_few op in omega (arith, m, ew, l, five)
 
-        module _ (u : tight ≤ own) {o : Told} (j : Joins (t.place last) op left.n b next o) where
+        module _ (u : tight ≤ own) {o : EvaluationResult} (j : Joins (t.place last) op left.n b next o) where
           pub quick_fault : {a c a' c' : ℕ} → o ≡ Failed a c → Quick t env vars vs n at level (Failed a' c')
           quick_fault {a} {c} g = record { found = λ v next e. lost e; only = λ five np na. absurd (go p.pending five) }
             where
@@ -358,10 +358,10 @@ module _ (t : Table) (env : Env) (vars vs : List ℤ) where
               go (first z w e) five = lost (sym g ∙ j.alone z)
               go (behind_operator ch s eo ew l) five = let m = level_few op in omega (arith, m, ew, l, five)
 
-          module _ {c : Value} {m : ℕ} (g : o ≡ Found c m) where
+          module _ {c : Value} {m : ℕ} (g : o ≡ EvaluatedTo c m) where
             joined_chain : Pending left op own last here → Chain n at level c m
             joined_chain (first z w e) =
-                let q : Found b next ≡ Found c m = sym (j.alone z) ∙ g in
+                let q : EvaluatedTo b next ≡ EvaluatedTo c m = sym (j.alone z) ∙ g in
                 first_found n at level (subst (λ (i : ℕ). EvalsOperand t env vars vs n i r) e (x.found b next h)) (h ∙ q)
             joined_chain (behind_operator ch s eo ew l) =
                 chain_more n at level ch eo ew l (quick_right n (last + 1) own (subst (λ (i : ℕ). EvalsOperand t env vars vs n i r) (sym s) (x.found b next h)) h ek et u) refl
@@ -375,10 +375,10 @@ module _ (t : Table) (env : Env) (vars vs : List ℤ) where
             kind_there : k ≡ t.kind m
             kind_there = ek ∙ ap t.kind (same_next p.pending)
 
-            pub quick_end : tight < level → Quick t env vars vs n at level (Found c m)
+            pub quick_end : tight < level → Quick t env vars vs n at level (EvaluatedTo c m)
             quick_end v = record { found = λ y next e. chain_end n at level (joined_chain p.pending) kind_there et v; only = λ five np na. go p.pending five np na }
               where
-                go : Pending left op own last here → level ≡ 5 → (t.kind at ≡ 40 → ⊥) → (t.kind at ≡ 1 → t.word2 at ≡ 2 → ⊥) → EvalsPrimary t env vars vs n at (Found c m)
+                go : Pending left op own last here → level ≡ 5 → (t.kind at ≡ 40 → ⊥) → (t.kind at ≡ 1 → t.word2 at ≡ 2 → ⊥) → EvalsPrimary t env vars vs n at (EvaluatedTo c m)
                 go (first z w e) five np na =
                     subst (EvalsPrimary t env vars vs n at) (h ∙ sym (j.alone z) ∙ g)
                     (subst (λ (i : ℕ). EvalsPrimary t env vars vs n i r) e (x.only (λ z. np (ap t.kind (sym e) ∙ z)) (λ y z. na (ap t.kind (sym e) ∙ y) (ap t.word2 (sym e) ∙ z))))
@@ -391,10 +391,10 @@ module _ (t : Table) (env : Env) (vars vs : List ℤ) where
             quick_within = let y : (here < next) × (next ≤ n) = rw h at (x.found b next h).onward in let e = same_next p.pending in (omega arith, omega arith)
 
 -- a value joined by an operator, or alone
-pub joined_none : (place op : ℕ) (a : ℤ) (b : Value) (next : ℕ) → op ≡ 0 → Joins place op a b next (Found b next)
+pub joined_none : (place op : ℕ) (a : ℤ) (b : Value) (next : ℕ) → op ≡ 0 → Joins place op a b next (EvaluatedTo b next)
 joined_none place op a b next h = record { alone = λ z. refl; applied = λ z. absurd (z h) }
 
-pub joined_some : (place op : ℕ) (a : ℤ) (b : Value) (next : ℕ) {r : Told} → (op ≡ 0 → ⊥) → r ≡ told_of (placed place (apply_binary op a b.n)) next → Joins place op a b next r
+pub joined_some : (place op : ℕ) (a : ℤ) (b : Value) (next : ℕ) {r : EvaluationResult} → (op ≡ 0 → ⊥) → r ≡ told_of (placed place (apply_binary op a b.n)) next → Joins place op a b next r
 joined_some place op a b next h e = record { alone = λ z. absurd (h z); applied = λ z. e }
 
 -- where a short way is left, nothing is said
@@ -403,11 +403,11 @@ simple_left t env vars vs n at = record { found = λ v next e. lost e; only = λ
 
 -- ---- expressions of one or two operands
 
-module _ (t : Table) (env : Env) (vars vs : List ℤ) (n at : ℕ) (l : at ≤ n) {a : Value} {next level : ℕ} (x : Leaf t env vars vs n at (Found a next)) (el : level ≡ level_of (t.kind next)) where
+module _ (t : Table) (env : Env) (vars vs : List ℤ) (n at : ℕ) (l : at ≤ n) {a : Value} {next level : ℕ} (x : Leaf t env vars vs n at (EvaluatedTo a next)) (el : level ≡ level_of (t.kind next)) where
   no_tighter : level ≤ 4
   no_tighter = let m = level_few (t.kind next) in omega arith
 
-  pub simple_alone : level ≡ 0 → Quick t env vars vs n at 1 (Found a next)
+  pub simple_alone : level ≡ 0 → Quick t env vars vs n at 1 (EvaluatedTo a next)
   simple_alone z =
       quick_end t env vars vs n at 1 (omega arith) (begun t env vars vs n at 1 {left = a} {last = 0} l) x refl refl el no_tighter (joined_none (t.place 0) 0 a.n a next refl) refl (omega arith)
 
@@ -419,8 +419,8 @@ module _ (t : Table) (env : Env) (vars vs : List ℤ) (n at : ℕ) (l : at ≤ n
     again =
         quick_again t env vars vs n at 1 (omega arith) (begun t env vars vs n at 1 {left = a} {last = 0} l) x refl eo op_level no_tighter (joined_none (t.place 0) 0 a.n a next refl) refl some within
 
-    pub simple_related : {b v : Value} {past tight : ℕ} → Leaf t env vars vs n (next + 1) (Found b past) → tight ≡ level_of (t.kind past) → tight ≡ 0 → v ≡ compare op a.n b.n
-        → Quick t env vars vs n at 1 (Found v past)
+    pub simple_related : {b v : Value} {past tight : ℕ} → Leaf t env vars vs n (next + 1) (EvaluatedTo b past) → tight ≡ level_of (t.kind past) → tight ≡ 0 → v ≡ compare op a.n b.n
+        → Quick t env vars vs n at 1 (EvaluatedTo v past)
     simple_related {b} {v} {past} y et z e =
         quick_end t env vars vs n at 1 (omega arith) again y refl refl et (omega arith)
         (joined_some (t.place next) op a.n b past (λ h. let q = level_some op {level = 1} op_level (omega arith) some in omega arith) (told_compare op (omega (arith, op_level)) a.n b.n (t.place next) past e)) refl (omega arith)

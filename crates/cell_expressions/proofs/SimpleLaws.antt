@@ -11,17 +11,17 @@ use Rattle.value.specs.declared.Value.{Value}
 use Rattle.cell_meaning.specs.Operators.{compare}
 use Rattle.cell_meaning.specs.Links.{word_in}
 use Rattle.cell_meaning.specs.Promises.Leaves.{leaf_word, Simple, Last}
-use Rattle.cell_operands.specs.Promises.Working.{Found, site_table, env_of, SiteReady, Leaf, Quick}
+use Rattle.cell_operands.specs.Promises.Working.{EvaluatedTo, site_table, env_of, SiteReady, Leaf, Quick}
 use Rattle.cell_operands.specs.declared.Site.{Site}
 use Rattle.cell_operands.proofs.NotedLaws.{leaf_within, leaf_onto, level_at, operator_at, operator_within}
 use Rattle.cell_expressions.proofs.ExpressionLaws.{simple_alone, simple_related}
 
 module _ {leaves words sizes point : List ℕ} {grid : List ℤ} {site : Site} {depth : ℕ} (r : SiteReady leaves words sizes point grid site depth) where
   abbrev Operand : List ℤ → List ℤ → ℕ → Value → ℕ → Type 0
-  Operand vars index p v past = Leaf (site_table words sizes site) (env_of words sizes grid site) (take site.slots vars) (take depth index) site.tokens p (Found v past)
+  Operand vars index p v past = Leaf (site_table words sizes site) (env_of words sizes grid site) (take site.slots vars) (take depth index) site.tokens p (EvaluatedTo v past)
 
   abbrev Whole : List ℤ → List ℤ → ℕ → Value → ℕ → Type 0
-  Whole vars index p v past = Quick (site_table words sizes site) (env_of words sizes grid site) (take site.slots vars) (take depth index) site.tokens p 1 (Found v past)
+  Whole vars index p v past = Quick (site_table words sizes site) (env_of words sizes grid site) (take site.slots vars) (take depth index) site.tokens p 1 (EvaluatedTo v past)
 
   module _ {at shape : ℕ} (l : at ≤ site.tokens) (es : shape ≡ leaf_word leaves at 7) (some : shape ≡ 0 → ⊥) (few : shape ≤ 2) where
     -- the first operand

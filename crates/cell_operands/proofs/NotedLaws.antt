@@ -24,7 +24,7 @@ use Rattle.cell_meaning.specs.Evaluation.{Env, entry, offset, offsets, eval}
 use Rattle.cell_meaning.specs.Promises.Stands.{index_in, next_index, indices_in, is_sign_kind, is_unary, parsed, decode_operand, decode_primary}
 use Rattle.cell_meaning.specs.Links.{Table, word_in}
 use Rattle.cell_meaning.specs.Promises.Leaves.{leaf_word, OperandIs, OffsetsAre}
-use Rattle.cell_operands.specs.Promises.Working.{Told, Found, Failed, site_table, env_of, SiteReady, told_of, Leaf, OperandNoted}
+use Rattle.cell_operands.specs.Promises.Working.{EvaluationResult, EvaluatedTo, Failed, site_table, env_of, SiteReady, told_of, Leaf, OperandNoted}
 use Rattle.cell_operands.specs.declared.Site.{Site}
 use Rattle.cell_operands.proofs.TableLaws.{token}
 use Rattle.cell_operands.proofs.OperatorLaws.{level_some}
@@ -105,13 +105,13 @@ module _ (t : Table) (env : Env) (vars vs : List ℤ) (n at : ℕ) where
 
   -- an operand without a unary operator, of which the expression is known
   operand_leaf : (e₀ : Expr) (past : ℕ) {v : Value} → is_unary (t.kind at) ≡ false → (at < past) × (past ≤ n) → eval env vars vs e₀ ≡ result v.n → OperandIs t at e₀ past
-      → Leaf t env vars vs n at (Found v past)
+      → Leaf t env vars vs n at (EvaluatedTo v past)
   operand_leaf e₀ past {v} b l y is = record {
     found = λ w next h. record { says = told; onward = l };
     only = λ np na. record { says = λ fuel e next q. told (suc fuel) e next (bare_operand b fuel ∙ q); onward = l };
   }
     where
-      told : (fuel : ℕ) (e : Expr) (next : ℕ) → decode_operand fuel t at ≡ parsed e next → Found v past ≡ told_of (eval env vars vs e) next
+      told : (fuel : ℕ) (e : Expr) (next : ℕ) → decode_operand fuel t at ≡ parsed e next → EvaluatedTo v past ≡ told_of (eval env vars vs e) next
       told fuel e next q =
           let h = is fuel e next q in
           let i : e₀ ≡ e = cc in
@@ -119,19 +119,19 @@ module _ (t : Table) (env : Env) (vars vs : List ℤ) (n at : ℕ) where
           as_value env vars vs e past next (ap (eval env vars vs) (sym i) ∙ y) j
 
   -- a leaf that is found is past its position
-  pub leaf_within : {r : Told} {v : Value} {next : ℕ} → Leaf t env vars vs n at r → r ≡ Found v next → (at < next) × (next ≤ n)
+  pub leaf_within : {r : EvaluationResult} {v : Value} {next : ℕ} → Leaf t env vars vs n at r → r ≡ EvaluatedTo v next → (at < next) × (next ≤ n)
   leaf_within {r} {v} {next} x h = rw h at (x.found v next h).onward
 
-  pub leaf_onto : {v : Value} {next past : ℕ} → next ≡ past → Leaf t env vars vs n at (Found v past) → Leaf t env vars vs n at (Found v next)
-  leaf_onto {v} e x = subst (λ (i : ℕ). Leaf t env vars vs n at (Found v i)) (sym e) x
+  pub leaf_onto : {v : Value} {next past : ℕ} → next ≡ past → Leaf t env vars vs n at (EvaluatedTo v past) → Leaf t env vars vs n at (EvaluatedTo v next)
+  leaf_onto {v} e x = subst (λ (i : ℕ). Leaf t env vars vs n at (EvaluatedTo v i)) (sym e) x
 
-  pub noted_found : {v : Value} {next past : ℕ} → next ≡ past → Leaf t env vars vs n at (Found v past) → OperandNoted t env vars vs n at (Found v next)
+  pub noted_found : {v : Value} {next past : ℕ} → next ≡ past → Leaf t env vars vs n at (EvaluatedTo v past) → OperandNoted t env vars vs n at (EvaluatedTo v next)
   noted_found e x = record { found = λ w m h. leaf_onto e x }
 
   pub noted_none : {a p : ℕ} → OperandNoted t env vars vs n at (Failed a p)
   noted_none = record { found = λ v next e. absurd (let z : ◌≡◌ {A = ℕ} 0 1 = cc in omega arith) }
 
-  pub leaf_noted : {r : Told} {v : Value} {next : ℕ} → OperandNoted t env vars vs n at r → r ≡ Found v next → Leaf t env vars vs n at (Found v next)
+  pub leaf_noted : {r : EvaluationResult} {v : Value} {next : ℕ} → OperandNoted t env vars vs n at r → r ≡ EvaluatedTo v next → Leaf t env vars vs n at (EvaluatedTo v next)
   leaf_noted {r} {v} {next} x h = subst (Leaf t env vars vs n at) h (x.found v next h)
 
 -- ---- what the leaf table says of a position
@@ -155,7 +155,7 @@ module _ {leaves words sizes point : List ℕ} {grid : List ℤ} {site : Site} {
 
   module _ (vars index : List ℤ) (at : ℕ) (l : at ≤ site.tokens) where
     abbrev Is : Value → Type 0
-    Is v = Leaf (site_table words sizes site) (env_of words sizes grid site) (take site.slots vars) (take depth index) site.tokens at (Found v (leaf_word leaves at 2))
+    Is v = Leaf (site_table words sizes site) (env_of words sizes grid site) (take site.slots vars) (take depth index) site.tokens at (EvaluatedTo v (leaf_word leaves at 2))
 
     noted_leaf : {v : Value} → (leaf_word leaves at 0 ≡ 0 → ⊥) → (e : Expr) → eval (env_of words sizes grid site) (take site.slots vars) (take depth index) e ≡ result v.n
         → OperandIs (site_table words sizes site) at e (leaf_word leaves at 2) → Is v

@@ -12,10 +12,11 @@ use Rattle.value.specs.declared.Value.{Value}
 use Rattle.value.specs.declared.Fault.{Fault}
 use Rattle.value.specs.declared.Fault.TheVariants.{OutOfRange, ZeroDivisor}
 use Rattle.std.specs.Prelude.{Ok, Err}
-use Rattle.program.specs.Reason.{reason_number, fault_reason}
+use Rattle.program.specs.Reason.{reason_number}
+use Rattle.program.specs.Promises.Faults.{fault_reason}
 use Rattle.cell_meaning.specs.Operators.{placed, compare, apply_binary}
 use Rattle.cell_meaning.specs.Promises.Stands.{is_sign_kind, is_unary}
-use Rattle.cell_operands.specs.Promises.Working.{Told, Found, Failed, told_of, primary_from}
+use Rattle.cell_operands.specs.Promises.Working.{EvaluationResult, EvaluatedTo, Failed, told_of, primary_from}
 
 -- ---- kinds
 
@@ -64,23 +65,23 @@ from_within k at n from ef l m = go (is_unary k) refl
 
 -- ---- what an operation gives
 
-pub told_number : {w : Worked} {v : Value} (place next : ℕ) → w ≡ Ok v → Found v next ≡ told_of (placed place w) next
+pub told_number : {w : Worked} {v : Value} (place next : ℕ) → w ≡ Ok v → EvaluatedTo v next ≡ told_of (placed place w) next
 told_number place next e = rw e refl
 
 pub told_fault : {w : Worked} {p : ℕ} (place next : ℕ) (f : Fault) → w ≡ Err f → p ≡ place → Failed (reason_number (fault_reason f)) p ≡ told_of (placed place w) next
 told_fault place next OutOfRange e q = rw (e, q) refl
 told_fault place next ZeroDivisor e q = rw (e, q) refl
 
-pub told_same : {w w' : Worked} {r : Told} (place next : ℕ) → w ≡ w' → r ≡ told_of (placed place w) next → r ≡ told_of (placed place w') next
+pub told_same : {w w' : Worked} {r : EvaluationResult} (place next : ℕ) → w ≡ w' → r ≡ told_of (placed place w) next → r ≡ told_of (placed place w') next
 told_same place next e q = rw e at q
 
 -- two operators by themselves
 
-pub told_plus : (op : ℕ) (a b : ℤ) {w : Worked} {v : Value} (place next : ℕ) → op ≡ 43 → w ≡ add_of a b → w ≡ Ok v → Found v next ≡ told_of (placed place (apply_binary op a b)) next
+pub told_plus : (op : ℕ) (a b : ℤ) {w : Worked} {v : Value} (place next : ℕ) → op ≡ 43 → w ≡ add_of a b → w ≡ Ok v → EvaluatedTo v next ≡ told_of (placed place (apply_binary op a b)) next
 unfolding apply_binary
 told_plus op a b place next h e q = rw h (told_number place next (sym e ∙ q))
 
-pub told_equal : (op : ℕ) (a b : ℤ) {v : Value} (place next : ℕ) → op ≡ 61 → v ≡ equal_of a b → Found v next ≡ told_of (placed place (apply_binary op a b)) next
+pub told_equal : (op : ℕ) (a b : ℤ) {v : Value} (place next : ℕ) → op ≡ 61 → v ≡ equal_of a b → EvaluatedTo v next ≡ told_of (placed place (apply_binary op a b)) next
 unfolding apply_binary compare
 told_equal op a b place next h e = rw h (told_number place next (ap Ok (sym e)))
 
@@ -90,7 +91,7 @@ module _ (op : ℕ) (l : level_of op ≤ 2) where
   no_operator : (k : ℕ) → 3 ≤ level_of k → op ≡ k → ⊥
   no_operator k h e = omega (arith, subst (λ (i : ℕ). level_of i ≤ 2) e l)
 
-  pub told_compare : (a b : ℤ) {v : Value} (place next : ℕ) → v ≡ compare op a b → Found v next ≡ told_of (placed place (apply_binary op a b)) next
+  pub told_compare : (a b : ℤ) {v : Value} (place next : ℕ) → v ≡ compare op a b → EvaluatedTo v next ≡ told_of (placed place (apply_binary op a b)) next
   unfolding apply_binary level_of
   told_compare a b {v} place next e =
       let n : apply_binary op a b ≡ Ok (compare op a b) =

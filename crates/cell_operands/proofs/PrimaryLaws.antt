@@ -22,7 +22,7 @@ use Rattle.program.specs.Syntax.{Expr, number, time, variable, index, field}
 use Rattle.cell_meaning.specs.Evaluation.{Env, entry, offsets, element_at, eval}
 use Rattle.cell_meaning.specs.Promises.Stands.{indices_in, values_in, array_in, parsed, decode_primary, decode_name}
 use Rattle.cell_meaning.specs.Links.{Table}
-use Rattle.cell_operands.specs.Promises.Working.{Found, Failed, SiteReady, told_of, EvalsName, EvalsPlain}
+use Rattle.cell_operands.specs.Promises.Working.{EvaluatedTo, Failed, SiteReady, told_of, EvalsName, EvalsPlain}
 use Rattle.cell_operands.specs.declared.Site.{Site}
 use Rattle.cell_operands.proofs.NeighbourLaws.{encoded_ahead, encoded_back}
 use Rattle.cell_operands.proofs.DecodingLaws.{never}
@@ -65,7 +65,7 @@ values_entry t at (suc n) (suc i) l =
 
 module _ (t : Table) (place name : ℕ) (z : ℤ) (k next : ℕ) (ek : k ≡ encode_of z) (small : mag z < 2147483648) where
   pub element_inside : {size first x : ℕ} {v : Value} → k < 2147483648 → size ≡ t.word2 name → k < size → first ≡ t.word3 name → x ≡ t.word3 (first + k)
-      → v ≡ value (decode_of x) → Found v next ≡ told_of (element_at place (array_in t name) z) next
+      → v ≡ value (decode_of x) → EvaluatedTo v next ≡ told_of (element_at place (array_in t name) z) next
   unfolding element_at
   element_inside {size} {first} {x} {v} l es m ef ex ev =
       let zs : List ℤ = array_in t name in
@@ -73,7 +73,7 @@ module _ (t : Table) (place name : ℕ) (z : ℤ) (k next : ℕ) (ek : k ≡ enc
       let is : entry zs k ≡ decode_of x =
       values_entry t (t.word3 name) (t.word2 name) k (omega arith) ∙ ap (λ (i : ℕ). decode_of (t.word3 (i + k))) (sym ef) ∙ ap decode_of (sym ex)
       in
-      sym (ap (λ (y : ℤ). told_of (element_at place zs y) next) (encoded_ahead z k ek small l) ∙ simp in_it (ap (λ (y : ℤ). Found (value y) next) is ∙ ap (λ (y : Value). Found y next) (sym ev)))
+      sym (ap (λ (y : ℤ). told_of (element_at place zs y) next) (encoded_ahead z k ek small l) ∙ simp in_it (ap (λ (y : ℤ). EvaluatedTo (value y) next) is ∙ ap (λ (y : Value). EvaluatedTo y next) (sym ev)))
 
   pub element_past : {size p : ℕ} → k < 2147483648 → size ≡ t.word2 name → size ≤ k → p ≡ place → Failed 32 p ≡ told_of (element_at place (array_in t name) z) next
   unfolding element_at
@@ -91,16 +91,16 @@ module _ (t : Table) (place name : ℕ) (z : ℤ) (k next : ℕ) (ek : k ≡ enc
 -- ---- answers
 
 -- a value is the answer
-pub as_value : (env : Env) (vars vs : List ℤ) (e : Expr) (at next : ℕ) {v : Value} → eval env vars vs e ≡ result v.n → next ≡ at → Found v at ≡ told_of (eval env vars vs e) next
-as_value env vars vs e at next {v} x h = ap (Found v) (sym h) ∙ sym (ap (λ (o : Outcome ℤ). told_of o next) x)
+pub as_value : (env : Env) (vars vs : List ℤ) (e : Expr) (at next : ℕ) {v : Value} → eval env vars vs e ≡ result v.n → next ≡ at → EvaluatedTo v at ≡ told_of (eval env vars vs e) next
+as_value env vars vs e at next {v} x h = ap (EvaluatedTo v) (sym h) ∙ sym (ap (λ (o : Outcome ℤ). told_of o next) x)
 
 -- where two values stand past the same expression
-pub found_next : {v w : Value} {a b : ℕ} → Found v a ≡ Found w b → a ≡ b
+pub found_next : {v w : Value} {a b : ℕ} → EvaluatedTo v a ≡ EvaluatedTo w b → a ≡ b
 found_next {v} {w} {a} {b} q =
     let r : ◌≡◌ {A = Evaluated} (record { value = v; next = a }) (record { value = w; next = b }) = cc in ap (λ (x : Evaluated). x.next) r
 
 -- what is evaluated, by its answer
-pub result_of : (o : Outcome ℤ) (next : ℕ) {v : Value} {at : ℕ} → Found v at ≡ told_of o next → (o ≡ result v.n) × (next ≡ at)
+pub result_of : (o : Outcome ℤ) (next : ℕ) {v : Value} {at : ℕ} → EvaluatedTo v at ≡ told_of o next → (o ≡ result v.n) × (next ≡ at)
 result_of (result z) next {v} {at} q = let r : ◌≡◌ {A = Evaluated} (record { value = v; next = at }) (record { value = value z; next = next }) = cc in (ap (λ (x : Evaluated). result x.value.n) (sym r), ap (λ (x : Evaluated). x.next) (sym r))
 result_of (fault k p) next q = let z : ◌≡◌ {A = ℕ} 0 1 = cc in absurd (omega arith)
 
@@ -112,7 +112,7 @@ fault_of (fault k p) next {k = k₁} {p = p₁} q = let r : refusal k₁ p₁ �
 
 module _ (t : Table) (env : Env) (vars vs : List ℤ) (n at : ℕ) (w x : ℕ) (ew : w ≡ t.word2 at) (ex : x ≡ t.word3 at) where
   named : (e₀ : Expr) {v : Value} → at < n → eval env vars vs e₀ ≡ result v.n
-      → ((fuel : ℕ) (e : Expr) (next : ℕ) → decode_name fuel t at ≡ parsed e next → parsed e₀ (at + 1) ≡ parsed e next) → EvalsName t env vars vs n at (Found v (at + 1))
+      → ((fuel : ℕ) (e : Expr) (next : ℕ) → decode_name fuel t at ≡ parsed e next → parsed e₀ (at + 1) ≡ parsed e next) → EvalsName t env vars vs n at (EvaluatedTo v (at + 1))
   named e₀ {v} l y was = record {
     says = λ a fuel e next q.
         let h = was fuel e next q in
@@ -122,7 +122,7 @@ module _ (t : Table) (env : Env) (vars vs : List ℤ) (n at : ℕ) (w x : ℕ) (
     onward = (omega arith, omega arith);
   }
 
-  pub name_variable : {v : Value} → at < n → w ≡ 4 → v ≡ value (entry vars x) → EvalsName t env vars vs n at (Found v (at + 1))
+  pub name_variable : {v : Value} → at < n → w ≡ 4 → v ≡ value (entry vars x) → EvalsName t env vars vs n at (EvaluatedTo v (at + 1))
   unfolding eval decode_name
   name_variable {v} l k ev = named (variable (t.word3 at)) l (ap (λ (i : ℕ). result (entry vars i)) (sym ex) ∙ ap (λ (y : Value). result y.n) (sym ev)) was
     where
@@ -130,7 +130,7 @@ module _ (t : Table) (env : Env) (vars vs : List ℤ) (n at : ℕ) (w x : ℕ) (
       was zero e next q = never q
       was (suc f) e next q = let u : t.word2 at ≡ 4 = sym ew ∙ k in simp u at q
 
-  pub name_constant : {v : Value} → at < n → w ≡ 1 → v ≡ value (decode_of x) → EvalsName t env vars vs n at (Found v (at + 1))
+  pub name_constant : {v : Value} → at < n → w ≡ 1 → v ≡ value (decode_of x) → EvalsName t env vars vs n at (EvaluatedTo v (at + 1))
   unfolding eval decode_name
   name_constant {v} l k ev = named (number (decode_of (t.word3 at))) l (ap (λ (i : ℕ). result (decode_of i)) (sym ex) ∙ ap (λ (y : Value). result y.n) (sym ev)) was
     where
@@ -138,7 +138,7 @@ module _ (t : Table) (env : Env) (vars vs : List ℤ) (n at : ℕ) (w x : ℕ) (
       was zero e next q = never q
       was (suc f) e next q = let u : t.word2 at ≡ 1 = sym ew ∙ k in simp u at q
 
-  pub name_index : {v : Value} → at < n → w ≡ 5 → v ≡ value (entry vs x) → EvalsName t env vars vs n at (Found v (at + 1))
+  pub name_index : {v : Value} → at < n → w ≡ 5 → v ≡ value (entry vs x) → EvalsName t env vars vs n at (EvaluatedTo v (at + 1))
   unfolding eval decode_name
   name_index {v} l k ev = named (index (t.word3 at)) l (ap (λ (i : ℕ). result (entry vs i)) (sym ex) ∙ ap (λ (y : Value). result y.n) (sym ev)) was
     where
@@ -159,7 +159,7 @@ module _ (t : Table) (env : Env) (vars vs : List ℤ) (n at : ℕ) (w x : ℕ) (
 
 module _ (t : Table) (env : Env) (vars vs : List ℤ) (n at : ℕ) (k : ℕ) (ek : k ≡ t.kind at) where
   found : (e₀ : Expr) (past : ℕ) {v : Value} → at < past → past ≤ n → eval env vars vs e₀ ≡ result v.n
-      → ((fuel : ℕ) (e : Expr) (next : ℕ) → decode_primary fuel t at ≡ parsed e next → parsed e₀ past ≡ parsed e next) → EvalsPlain t env vars vs n at (Found v past)
+      → ((fuel : ℕ) (e : Expr) (next : ℕ) → decode_primary fuel t at ≡ parsed e next → parsed e₀ past ≡ parsed e next) → EvalsPlain t env vars vs n at (EvaluatedTo v past)
   found e₀ past {v} l m y was = record {
     says = λ a b fuel e next q.
         let h = was fuel e next q in
@@ -169,7 +169,7 @@ module _ (t : Table) (env : Env) (vars vs : List ℤ) (n at : ℕ) (k : ℕ) (ek
     onward = (l, m);
   }
 
-  pub plain_literal : {w : ℕ} {v : Value} → at < n → k ≡ 2 → w ≡ t.word2 at → v ≡ value (decode_of w) → EvalsPlain t env vars vs n at (Found v (at + 1))
+  pub plain_literal : {w : ℕ} {v : Value} → at < n → k ≡ 2 → w ≡ t.word2 at → v ≡ value (decode_of w) → EvalsPlain t env vars vs n at (EvaluatedTo v (at + 1))
   unfolding eval decode_primary
   plain_literal {w} {v} l h ew ev =
       found (number (decode_of (t.word2 at))) (at + 1) (omega arith) (omega arith) (ap (λ (i : ℕ). result (decode_of i)) (sym ew) ∙ ap (λ (y : Value). result y.n) (sym ev)) was
@@ -178,7 +178,7 @@ module _ (t : Table) (env : Env) (vars vs : List ℤ) (n at : ℕ) (k : ℕ) (ek
       was zero e next q = never q
       was (suc f) e next q = let u : t.kind at ≡ 2 = sym ek ∙ h in simp u at q
 
-  pub plain_time : {v : Value} → at < n → k ≡ 4 → env.time < 2147483648 → v ≡ value (decode_of env.time) → EvalsPlain t env vars vs n at (Found v (at + 1))
+  pub plain_time : {v : Value} → at < n → k ≡ 4 → env.time < 2147483648 → v ≡ value (decode_of env.time) → EvalsPlain t env vars vs n at (EvaluatedTo v (at + 1))
   unfolding eval decode_primary
   plain_time {v} l h small ev =
       let d : decode_of env.time ≡ pos env.time = simp (lt-ltb env.time 2147483648 small) in
@@ -189,7 +189,7 @@ module _ (t : Table) (env : Env) (vars vs : List ℤ) (n at : ℕ) (k : ℕ) (ek
       was (suc f) e next q = let u : t.kind at ≡ 4 = sym ek ∙ h in simp u at q
 
   module _ {past : ℕ} {v : Value} (l : at < past) (m : past ≤ n) (ep : past ≡ t.past at) where
-    pub plain_neighbour : k ≡ 91 → v ≡ value (entry (env.look (offsets env.dims vs (indices_in t t.dims (at + 1)))) (t.word2 at)) → EvalsPlain t env vars vs n at (Found v past)
+    pub plain_neighbour : k ≡ 91 → v ≡ value (entry (env.look (offsets env.dims vs (indices_in t t.dims (at + 1)))) (t.word2 at)) → EvalsPlain t env vars vs n at (EvaluatedTo v past)
     unfolding eval decode_primary
     plain_neighbour h ev = found (field (indices_in t t.dims (at + 1)) (t.word2 at)) past l m (ap (λ (y : Value). result y.n) (sym ev)) was
       where
@@ -197,7 +197,7 @@ module _ (t : Table) (env : Env) (vars vs : List ℤ) (n at : ℕ) (k : ℕ) (ek
         was zero e next q = never q
         was (suc f) e next q = let u : t.kind at ≡ 91 = sym ek ∙ h in ap (parsed (field (indices_in t t.dims (at + 1)) (t.word2 at))) ep ∙ simp u at q
 
-    pub plain_cell : {w : ℕ} → k ≡ 3 → w ≡ t.word2 at → v ≡ value (entry (env.look (offsets env.dims vs [])) w) → EvalsPlain t env vars vs n at (Found v past)
+    pub plain_cell : {w : ℕ} → k ≡ 3 → w ≡ t.word2 at → v ≡ value (entry (env.look (offsets env.dims vs [])) w) → EvalsPlain t env vars vs n at (EvaluatedTo v past)
     unfolding eval decode_primary
     plain_cell {w} h ew ev =
         found (field [] (t.word2 at)) past l m

@@ -9,7 +9,7 @@ ghost use Rattle.cell_meaning.specs.Promises.Stands.{indices_in};
 ghost use Rattle.cell_meaning.specs.Links.{table_of};
 ghost use Rattle.cell_meaning.specs.Promises.Leaves.{leaf_word, sort, OffsetsAre};
 ghost use Rattle.cell_operands.specs.Promises.Scene.{In};
-ghost use Rattle.cell_operands.specs.Promises.Working.{Found, short, Leaf, OperandNoted};
+ghost use Rattle.cell_operands.specs.Promises.Working.{EvaluatedTo, short, Leaf, OperandNoted};
 
 use crate::neighbour::entry_of;
 use crate::scene::Scene;
@@ -71,7 +71,7 @@ impl Scene<'_> {
     #[inline(always)]
     fn near_value(&self, vars: &[i32; MOST_NAMES], index: &[i32; MOST_OPEN], at: usize) -> Value
         requires { (at ≤ self.now.site.tokens) × (leaf_word self.now.leaves at 0 ≡ sort.near) }
-        ensures { In Leaf self.now vars.now index.now at (Found result (leaf_word self.now.leaves at 2)) }
+        ensures { In Leaf self.now vars.now index.now at (EvaluatedTo result (leaf_word self.now.leaves at 2)) }
     {
         let which = leaf_word(self.leaves, at, 1) as usize;
         let cell = noted_number(
@@ -96,7 +96,7 @@ impl Scene<'_> {
         at: usize,
     ) -> Value
         requires { (at ≤ self.now.site.tokens) × (1 ≤ leaf_word self.now.leaves at 0) × (leaf_word self.now.leaves at 0 ≤ 3) }
-        ensures { In Leaf self.now vars.now index.now at (Found result (leaf_word self.now.leaves at 2)) }
+        ensures { In Leaf self.now vars.now index.now at (EvaluatedTo result (leaf_word self.now.leaves at 2)) }
     {
         let sort = leaf_word(self.leaves, at, 0);
         let word = leaf_word(self.leaves, at, 1);

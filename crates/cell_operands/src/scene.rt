@@ -4,7 +4,7 @@ ghost use Rattle.value.specs.Limits.{most_tokens, most_open, most_fields};
 ghost use Rattle.token.specs.Kind.{level_of};
 ghost use Rattle.cell_meaning.specs.Links.{word_in};
 ghost use Rattle.cell_meaning.specs.Promises.Leaves.{leaf_word};
-ghost use Rattle.cell_operands.specs.Promises.Scene.{Lent, Ready, deeper, table};
+ghost use Rattle.cell_operands.specs.Promises.Scene.{SceneLent, SceneReady, deeper, table};
 
 use crate::Site;
 use crate::table::{leaf_word, link_at, place_at, word_at};
@@ -25,11 +25,11 @@ pub struct Scene<'a> {
 }
 
 impl<'a> Model for Scene<'a> {
-    ghost Value = { Lent };
+    ghost Value = { SceneLent };
 
     ghost view = { λ s. record { leaves = s.leaves.now; words = s.words.now; sizes = s.sizes.now; point = s.point.now; grid = s.grid.now; site = s.site; depth = s.depth } };
 
-    ghost invariant = { λ s. Ready (record { leaves = s.leaves.now; words = s.words.now; sizes = s.sizes.now; point = s.point.now; grid = s.grid.now; site = s.site; depth = s.depth }) };
+    ghost invariant = { λ s. SceneReady (record { leaves = s.leaves.now; words = s.words.now; sizes = s.sizes.now; point = s.point.now; grid = s.grid.now; site = s.site; depth = s.depth }) };
 }
 
 impl<'a> Scene<'a> {

@@ -22,25 +22,25 @@ use Rattle.program.specs.Syntax.{Range, no_range, Expr, Target, Clause}
 use Rattle.cell_meaning.specs.Evaluation.{Env, bind, eval, Frame, frame, in_field, store, met, assign_first}
 use Rattle.cell_meaning.specs.Promises.Stands.{range_in, ranges_in, ExprAt, target_in, first_clause, GuardAt, ClausesAt}
 use Rattle.cell_meaning.specs.Links.{Table}
-use Rattle.cell_operands.specs.Promises.Working.{Told, Found, Failed, told_of, EvalsExpression, Quick}
+use Rattle.cell_operands.specs.Promises.Working.{EvaluationResult, EvaluatedTo, Failed, told_of, EvalsExpression, Quick}
 use Rattle.cell_operands.proofs.PrimaryLaws.{result_of, fault_of}
-use Rattle.cell_statements.specs.Promises.Running.{Going, On, Faulted, Verdict, left_by_exit, field_range, Stores, AssignsOne, ConditionAt, guarded, Guards, Assigns}
+use Rattle.cell_statements.specs.Promises.Running.{Going, On, Faulted, ConditionResult, left_by_exit, field_range, Stores, AssignsOne, ConditionAt, guarded, Guards, Assigns}
 
 -- ---- expressions that stand
 
 -- what an evaluator's answer is where an expression stands
-pub answer : {t : Table} {env : Env} {vars vs : List ℤ} {n at : ℕ} {r : Told} → EvalsExpression t env vars vs n at 1 r → {e : Expr} {next : ℕ} → ExprAt t e at next
+pub answer : {t : Table} {env : Env} {vars vs : List ℤ} {n at : ℕ} {r : EvaluationResult} → EvalsExpression t env vars vs n at 1 r → {e : Expr} {next : ℕ} → ExprAt t e at next
     → r ≡ told_of (eval env vars vs e) next
 answer ev {e} {next} x = ev.says x.enough e next (x.says x.enough (le_refl x.enough))
 
 -- the position past an expression
-pub found_onward : {t : Table} {env : Env} {vars vs : List ℤ} {n at level : ℕ} {r : Told} {v : Value} {past : ℕ}
-    → EvalsExpression t env vars vs n at level r → r ≡ Found v past → (at < past) × (past ≤ n)
+pub found_onward : {t : Table} {env : Env} {vars vs : List ℤ} {n at level : ℕ} {r : EvaluationResult} {v : Value} {past : ℕ}
+    → EvalsExpression t env vars vs n at level r → r ≡ EvaluatedTo v past → (at < past) × (past ≤ n)
 found_onward {n = n} {at = at} x h = rw h at x.onward
 
 -- a value that is found by a short way
-pub quick_found : {t : Table} {env : Env} {vars vs : List ℤ} {n at level : ℕ} {r : Told} {v : Value} {past : ℕ}
-    → Quick t env vars vs n at level r → r ≡ Found v past → EvalsExpression t env vars vs n at level (Found v past)
+pub quick_found : {t : Table} {env : Env} {vars vs : List ℤ} {n at level : ℕ} {r : EvaluationResult} {v : Value} {past : ℕ}
+    → Quick t env vars vs n at level r → r ≡ EvaluatedTo v past → EvalsExpression t env vars vs n at level (EvaluatedTo v past)
 quick_found {t} {env} {vars} {vs} {n} {at} {level} {r} {v} {past} q h = subst (EvalsExpression t env vars vs n at level) h (q.found v past h)
 
 -- ---- memory
@@ -94,11 +94,11 @@ module _ (t : Table) (env : Env) (at here : ℕ) (z : ℤ) (vars next : List ℤ
 
 -- ---- one clause
 
-module _ (t : Table) (env : Env) (vs : List ℤ) (at here : ℕ) (vars next : List ℤ) {n : ℕ} {told : Told} (ev : EvalsExpression t env vars vs n (here + 1) 1 told) where
+module _ (t : Table) (env : Env) (vs : List ℤ) (at here : ℕ) (vars next : List ℤ) {n : ℕ} {told : EvaluationResult} (ev : EvalsExpression t env vars vs n (here + 1) 1 told) where
   pub one_fault : {k p : ℕ} → told ≡ Failed k p → AssignsOne t env vs at here vars next vars next (Faulted k p)
   one_fault {k} {p} h = record { says = λ e m x. rw (fault_of (eval env vars vs e) m (sym h ∙ answer ev x)) refl }
 
-  pub one_stored : {v : Value} {m : ℕ} {vars' next' : List ℤ} {r : Going} → told ≡ Found v m → Stores t env at here v.n vars next vars' next' r
+  pub one_stored : {v : Value} {m : ℕ} {vars' next' : List ℤ} {r : Going} → told ≡ EvaluatedTo v m → Stores t env at here v.n vars next vars' next' r
       → AssignsOne t env vs at here vars next vars' next' r
   one_stored {v} {m} {vars'} {next'} {r} h s = record { says = λ e m x. rw (result_of (eval env vars vs e) m (sym h ∙ answer ev x)).0 s.says }
 
@@ -112,7 +112,7 @@ module _ (t : Table) (env : Env) (vs : List ℤ) (here : ℕ) (vars : List ℤ) 
       go none x = refl
       go (some e) x = absurd (x.1 (sym ew ∙ h))
 
-  module _ (some_there : w ≡ 0 → ⊥) {n l : ℕ} (el : l ≡ t.inner here) {told : Told} (ev : EvalsExpression t env vars vs n l 1 told) where
+  module _ (some_there : w ≡ 0 → ⊥) {n l : ℕ} (el : l ≡ t.inner here) {told : EvaluationResult} (ev : EvalsExpression t env vars vs n l 1 told) where
     said : (e : Expr) (m : ℕ) → ExprAt t e (t.inner here) m → told ≡ told_of (eval env vars vs e) m
     said e m x = answer ev (subst (λ (i : ℕ). ExprAt t e i m) (sym el) x)
 
@@ -123,7 +123,7 @@ module _ (t : Table) (env : Env) (vs : List ℤ) (here : ℕ) (vars : List ℤ) 
         go none x = absurd (some_there (ew ∙ x))
         go (some e) x = rw (fault_of (eval env vars vs e) x.0 (sym h ∙ said e x.0 x.2)) refl
 
-    module _ {v : Value} {m : ℕ} (h : told ≡ Found v m) {b : Bool} (eb : b ≡ truth v.n) where
+    module _ {v : Value} {m : ℕ} (h : told ≡ EvaluatedTo v m) {b : Bool} (eb : b ≡ truth v.n) where
       decided : (o : Option Expr) → ConditionAt t o here → met env vars vs o ≡ result b
       decided none x = absurd (some_there (ew ∙ x))
       decided (some e) x = rw ((result_of (eval env vars vs e) x.0 (sym h ∙ said e x.0 x.2)).0, ← eb) refl
@@ -172,7 +172,7 @@ module _ (t : Table) (env : Env) (vs : List ℤ) (at : ℕ) (vars next : List �
         go [] x = refl
         go (c ∷ cs) x = absurd (other (ek ∙ x.1))
 
-    module _ (is : k ≡ 128) {verdict : Verdict} (gu : Guards t env vs here vars verdict) where
+    module _ (is : k ≡ 128) {verdict : ConditionResult} (gu : Guards t env vs here vars verdict) where
       -- what the clause does if it is chosen
       abbrev chosen : Clause → Outcome Frame
       chosen c = bind (eval env vars vs c.expr) (store env.fields to c.place fr)
@@ -196,7 +196,7 @@ module _ (t : Table) (env : Env) (vs : List ℤ) (at : ℕ) (vars next : List �
             let s = so.says cs x in
             sym (s.2 ∙ tried_now (left_by_exit r vars' next')
             (λ c cs y.
-            by_verdict c cs y ∙ ap (λ (z : Verdict). judged c cs (guarded z)) h
+            by_verdict c cs y ∙ ap (λ (z : ConditionResult). judged c cs (guarded z)) h
             ∙ ap (λ (i : ℕ). bind (eval env vars vs c.expr) (store env.fields to i fr)) y.2 ∙ sym (one.says c.expr y.0 y.3))
             s.0 s.1);
       }
@@ -205,7 +205,7 @@ module _ (t : Table) (env : Env) (vs : List ℤ) (at : ℕ) (vars next : List �
       assigns_fault {a} {p} h = record {
         says = λ cs x.
             let s = so.says cs x in
-            sym (s.2 ∙ tried_now (left_by_exit (Faulted a p) vars next) (λ c cs y. by_verdict c cs y ∙ ap (λ (z : Verdict). judged c cs (guarded z)) h) s.0 s.1);
+            sym (s.2 ∙ tried_now (left_by_exit (Faulted a p) vars next) (λ c cs y. by_verdict c cs y ∙ ap (λ (z : ConditionResult). judged c cs (guarded z)) h) s.0 s.1);
       }
 
       pub tried_more : {l : ℕ} → verdict ≡ (Ok false) → l ≡ t.past here → Tried l
@@ -217,7 +217,7 @@ module _ (t : Table) (env : Env) (vs : List ℤ) (at : ℕ) (vars next : List �
           go cs (c ∷ cs') y e = (
             cs',
             subst (λ (i : ℕ). ClausesAt t cs' i) (sym el) (behind_of t c.condition (λ i. ClausesAt t cs' i) here y.4 (gu.asked h)),
-            e ∙ by_verdict c cs' y ∙ ap (λ (z : Verdict). judged c cs' (guarded z)) h,
+            e ∙ by_verdict c cs' y ∙ ap (λ (z : ConditionResult). judged c cs' (guarded z)) h,
           )
 
 -- a run from memory that is as it was at first

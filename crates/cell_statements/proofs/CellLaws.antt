@@ -24,7 +24,7 @@ use Rattle.cell_meaning.specs.Promises.Stands.{ranges_in, Stands, Holds}
 use Rattle.cell_meaning.specs.Links.{table_of}
 use Rattle.cell_operands.specs.Promises.Working.{site_table, env_of, SiteReady}
 use Rattle.cell_operands.proofs.PrimaryLaws.{own_is}
-use Rattle.cell_statements.specs.Promises.Running.{Going, Outcome, left_by_exit, RunsBlock, Fit, outcome_is, Evaluates}
+use Rattle.cell_statements.specs.Promises.Running.{Going, CellResult, left_by_exit, RunsBlock, Fit, outcome_is, Evaluates}
 
 -- the fields of a cell, as a part of the grid
 pub cell_part : (fields : ℕ) (g : List ℤ) (c : ℕ) → c * fields + fields ≤ length g → take (c * fields + fields - c * fields) (drop (c * fields) g) ≡ cell_of fields g c
@@ -94,7 +94,7 @@ module _ {leaves words : List ℕ} {rule : Rule} {sizes point : List ℕ} {cell 
     abbrev end_of : Step.Outcome Frame → Step.Outcome (List ℤ)
     end_of o = bind o (λ end. Step.result end.next)
 
-    evaluated : (o : Outcome) → outcome_is o next' ≡ end_of (left_by_exit r vs' next') → Evaluates words rule sizes cell grid next' time o
+    evaluated : (o : CellResult) → outcome_is o next' ≡ end_of (left_by_exit r vs' next') → Evaluates words rule sizes cell grid next' time o
     unfolding evaluate
     evaluated o e = record { says = λ p h. e ∙ ap end_of (ended p h) }
 

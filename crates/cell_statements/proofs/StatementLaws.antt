@@ -19,7 +19,7 @@ use Rattle.program.specs.Syntax.{Range, Expr, Target, Block, empty, assign, sele
 use Rattle.cell_meaning.specs.Evaluation.{Env, bind, eval, Frame, frame, onward, assign_first, each, exec}
 use Rattle.cell_meaning.specs.Promises.Stands.{ExprAt, range_in, LoopAt, assigns, Stands, Elsif, Choice}
 use Rattle.cell_meaning.specs.Links.{Table, begins}
-use Rattle.cell_operands.specs.Promises.Working.{Told, Found, Failed, SiteReady, EvalsExpression}
+use Rattle.cell_operands.specs.Promises.Working.{EvaluationResult, EvaluatedTo, Failed, SiteReady, EvalsExpression}
 use Rattle.cell_operands.specs.declared.Site.{Site}
 use Rattle.cell_operands.proofs.PrimaryLaws.{result_of, fault_of}
 use Rattle.cell_statements.specs.Promises.Running.{Going, On, Leaving, Faulted, Chosen, left_by_exit, Assigns, RunsBlock, rest_after, RunsStatement, LoopSettles, Forward, choice_outcome, Chooses, body_of, RunsLoop}
@@ -105,7 +105,7 @@ module _ (t : Table) (env : Env) (vs : List ℤ) (depth n at : ℕ) (vars : List
   pub arms_start : at < n → Arms at
   arms_start l = record { says = λ c d e x. (c, d, e, x, λ next. refl); after = omega arith; within = l }
 
-  module _ {arm : ℕ} (so : Arms arm) {told : Told} (ev : EvalsExpression t env vars vs n (arm + 1) 1 told) where
+  module _ {arm : ℕ} (so : Arms arm) {told : EvaluationResult} (ev : EvalsExpression t env vars vs n (arm + 1) 1 told) where
     -- the choice goes on where the arm that is tried now does
     by_arm : {r : Chosen} → Forward at n r
         → ((c : Expr) (d e : Block) → Choice t depth c d e arm → (next : List ℤ) → LoopSettles t env vs depth r (chooses c d e next) (frame false vars next))
@@ -120,7 +120,7 @@ module _ (t : Table) (env : Env) (vs : List ℤ) (depth n at : ℕ) (vars : List
     pub choice_fault : {a p : ℕ} → told ≡ Failed a p → Chooses t env vs depth n at vars (Err (refusal a p))
     choice_fault h = by_arm tt (λ c d e x next. rw (fault_of (eval env vars vs c) x.then_at (sym h ∙ answer ev x.condition)) refl)
 
-    module _ {v : Value} {m : ℕ} (h : told ≡ Found v m) {b : Bool} (eb : b ≡ truth v.n) where
+    module _ {v : Value} {m : ℕ} (h : told ≡ EvaluatedTo v m) {b : Bool} (eb : b ≡ truth v.n) where
       found : (c : Expr) (past : ℕ) → ExprAt t c (arm + 1) past → (eval env vars vs c ≡ result v.n) × (past ≡ m)
       found c past x = result_of (eval env vars vs c) past (sym h ∙ answer ev x)
 

@@ -128,7 +128,11 @@ fn assign_one(
     requires { (here < scene.now.site.tokens) × (here < most_tokens) }
     ensures { AssignsOne (table scene.now) (env scene.now) (take scene.now.depth index.now) at here (take scene.now.site.slots vars.old) next.old (take scene.now.site.slots vars.new) next.new result }
 {
-    let right = evaluated(scene, vars, index, here + 1)?;
+    // No `?` here: it moves the refusal as one word, across two that the value and the refusal share, and each value waits for that.
+    let right = match evaluated(scene, vars, index, here + 1) {
+        Ok(right) => right,
+        Err(Refusal { number, place }) => return Err(Refusal { number, place }),
+    };
     put(scene, vars, next, at, here, right.value)
 }
 
@@ -145,7 +149,11 @@ fn guard(
     if scene.word(2, here) == 0 {
         return Ok(true);
     }
-    let condition = evaluated(scene, vars, index, scene.inner(here))?;
+    // No `?`, as in `assign_one`.
+    let condition = match evaluated(scene, vars, index, scene.inner(here)) {
+        Ok(condition) => condition,
+        Err(Refusal { number, place }) => return Err(Refusal { number, place }),
+    };
     Ok(is_true(condition.value))
 }
 

@@ -60,7 +60,11 @@ fn choose(
     let n = scene.tokens();
     let mut arm = at;
     loop {
-        let condition = evaluated(scene, vars, index, arm + 1)?;
+        // No `?`, as in `assign_one`.
+        let condition = match evaluated(scene, vars, index, arm + 1) {
+            Ok(condition) => condition,
+            Err(Refusal { number, place }) => return Err(Refusal { number, place }),
+        };
         if is_true(condition.value) {
             if condition.next < n {
                 return Ok(Some(condition.next + 1));

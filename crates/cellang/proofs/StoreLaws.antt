@@ -21,7 +21,7 @@ use Rattle.grammar.specs.Checking.{SourceRead, turned_away, source_read, rooms_f
 use Rattle.grammar.specs.Promises.Flat.{lent_fit, names_after}
 use Rattle.move_meaning.specs.Profile.{missed, one_move}
 use Rattle.move_profile.specs.declared.Missed.TheVariants.{Refused}
-use Rattle.move_profile.specs.Promises.Flags.{answer_told}
+use Rattle.move_profile.specs.Promises.Public.{answer_told}
 use Rattle.run_meaning.specs.Report.{Manner}
 use Rattle.run_calls.specs.Services.{run_source, room_after, marks_after, counts_after}
 use Rattle.run_calls.specs.Calls.{flat_names, SourceLent, source_lent, source_left, names_left, memory, Lent, lent, asked, run_left}

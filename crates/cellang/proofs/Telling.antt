@@ -22,7 +22,8 @@ use Rattle.run_admission.specs.Promises.Admitting.{refusal_told}
 use Rattle.move_meaning.specs.Profile.{missed, one_move}
 use Rattle.move_profile.specs.declared.Profile.{Profile}
 use Rattle.move_profile.specs.declared.Missed.{Missed}
-use Rattle.move_profile.specs.Promises.Flags.{answer_told, CheckOneMove}
+use Rattle.move_profile.specs.Promises.Public.{answer_told}
+use Rattle.move_profile.specs.Promises.Flags.{CheckOneMove}
 use Rattle.run_meaning.specs.Report as report
 use Rattle.run_meaning.specs.Report.{Manner, full}
 use Rattle.run_calls.specs.Calls.{flat_names, SourceLent, source_lent, SourceLeft, source_left, Memory, memory, Lent, lent, fits, asked, read_lent, run_report, run_left}

@@ -1,6 +1,6 @@
 // Whether a source moves a pixel once.
 ghost use Rattle.move_meaning.specs.Profile.{one_move};
-ghost use Rattle.move_profile.specs.Promises.Flags.{answer_told};
+ghost use Rattle.move_profile.specs.Promises.Public.{answer_told};
 ghost use Rattle.run_calls.specs.Calls.{source_lent, source_left};
 ghost use Rattle.cellang.specs.Left.{row_names};
 ghost use Rattle.cellang.specs.Promises.Rows.{LeavesRows};

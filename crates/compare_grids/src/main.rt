@@ -8,10 +8,10 @@
 mod telling;
 
 use api_comparison::compare;
-use tool_console::arguments::{Refusal, arguments, end, refuse};
-use tool_console::grids::read_grid;
+use tool_console::arguments::{Argument, Refusal, WORD, arguments, refuse};
+use tool_console::grids::grid_argument;
 use tool_console::rooms::{ROOM, room};
-use tool_console::shapes::{cells_of, fields_of, shape_argument};
+use tool_console::shapes::{Sizes, cells_of, fields_of, shape_argument};
 
 const USAGE: &str = "usage: compare_grids LEFT RIGHT [SHAPE]
   LEFT   the file of a grid's entries, - for standard input
@@ -51,25 +51,31 @@ fn compare_and_tell(
 // than the stack has.
 fn compare_in_shape(
     rt: &HostRuntime,
-    left: &[u8],
-    right: &[u8],
+    left: Argument,
+    right: Argument,
     sizes: &[u32],
 ) -> Result<(), Refusal> {
     let mut lefts: [i32; ROOM] = room(0);
     let mut rights: [i32; ROOM] = room(0);
-    let some = read_grid(rt, left, "compare_grids: LEFT", &mut lefts)?;
-    let others = read_grid(rt, right, "compare_grids: RIGHT", &mut rights)?;
+    let some = grid_argument(rt, left, "compare_grids: LEFT", &mut lefts)?;
+    let others = grid_argument(rt, right, "compare_grids: RIGHT", &mut rights)?;
     compare_and_tell(rt, &lefts[..some], &rights[..others], sizes)
+}
+
+// The shape that an argument is. If it is none, that is said.
+fn read_shape(rt: &HostRuntime, argument: Argument) -> Result<Sizes, Refusal> {
+    let mut buffer = [0u8; WORD];
+    shape_argument(rt, argument.read(rt, &mut buffer), "compare_grids: SHAPE")
 }
 
 // Takes the shape, if there is one.
 fn compare_files(
     rt: &HostRuntime,
-    left: &[u8],
-    right: &[u8],
-    shape: Option<&[u8]>,
+    left: Argument,
+    right: Argument,
+    shape: Option<Argument>,
 ) -> Result<(), Refusal> {
-    if left == b"-".as_slice() && right == b"-".as_slice() {
+    if left.is(rt, b"-") && right.is(rt, b"-") {
         return Err(refuse(
             rt,
             "compare_grids: LEFT and RIGHT cannot both be standard input\n",
@@ -77,8 +83,8 @@ fn compare_files(
     }
     match shape {
         None => compare_in_shape(rt, left, right, &[]),
-        Some(shape) => {
-            let sizes = shape_argument(rt, shape, "compare_grids: SHAPE")?;
+        Some(argument) => {
+            let sizes = read_shape(rt, argument)?;
             compare_in_shape(rt, left, right, sizes.as_slice())
         }
     }
@@ -86,19 +92,15 @@ fn compare_files(
 
 // Takes the arguments.
 fn compare_grids(rt: &HostRuntime) -> Result<(), Refusal> {
-    let given = arguments(rt)?;
+    let given = arguments(rt);
     match given.as_slice() {
-        [_, left, right] => compare_files(rt, left.as_slice(), right.as_slice(), None),
-        [_, left, right, shape] => compare_files(
-            rt,
-            left.as_slice(),
-            right.as_slice(),
-            Some(shape.as_slice()),
-        ),
+        [_, left, right] => compare_files(rt, *left, *right, None),
+        [_, left, right, shape] => compare_files(rt, *left, *right, Some(*shape)),
         _ => Err(refuse(rt, USAGE)),
     }
 }
 
-fn main(rt: HostRuntime) -> std::io::Result<()> {
-    end(compare_grids(&rt))
+// What goes wrong has been said when it ends.
+fn main(rt: HostRuntime) {
+    let _ = compare_grids(&rt);
 }

@@ -34,7 +34,7 @@ use Rattle.list_reader.specs.Promises.Promises.{LineEnds, Lexes, NoSign, ReadsSi
 use Rattle.list_reader.specs.declared.points.Point.{Point}
 use Rattle.list_reader.specs.Promises.Points.{point_in, point_with, point_of, ReadsPoint}
 use Rattle.list_reader.specs.declared.values.Values.{Values}
-use Rattle.list_reader.specs.Promises.Values.{line_values, told, count_number, values_told, ReadsValues}
+use Rattle.list_reader.specs.Promises.Values.{line_values, reason_told, count_number, values_told, ReadsValues}
 use Rattle.list_reader.specs.Promises.Checks.{limits, time_before, ChecksTime, cell_said, ChecksCell, Judged, JudgesTime, JudgesLine, ChecksLines}
 
 -- ---- the exit of `.ok_or(e)?`: there was no value, and the reason is e
@@ -172,7 +172,7 @@ assigned_none fs fl outside c (some (literal n ∷ ps)) h = refl
 assigned_none fs fl outside c (some (sign b ∷ ps)) h = absurd h
 
 module _ (sizes : List ℕ) (fs : List Range) (fl : ℕ) (line : List ℕ) where
-  numbered : {x : Optional Point} → ReadsPoint sizes line x → {r : Result (Unit {0}) Reason} → told r ≡ place_number fs fl (point_of x) → ChecksCell sizes fs fl line r
+  numbered : {x : Optional Point} → ReadsPoint sizes line x → {r : Result (Unit {0}) Reason} → reason_told r ≡ place_number fs fl (point_of x) → ChecksCell sizes fs fl line r
   numbered w h = record { is = λ q t a b d. h ∙ ap (place_number fs fl) (sym w.is) ∙ by_walk q fl d t sizes fs a b (pieces 0 line) }
 
   pub cell_wrong : ReadsPoint sizes line None → ChecksCell sizes fs fl line (Err UnreadLine)
@@ -187,7 +187,7 @@ module _ (sizes : List ℕ) (fs : List Range) (fl : ℕ) (line : List ℕ) where
       cell_other d = numbered w (sym (ap (λ (o : Option (List Piece)). place_number fs fl (point_with x.outside x.cell o)) v.is ∙ assigned_other fs fl x.outside x.cell b (pieces 0 past.now) d))
 
       module _ (d : b ≡ 61) {n : ℕ} where
-        by_number : {y : Optional Values} → ReadsValues fs n fl past.now y → {r : Result (Unit {0}) Reason} → told r ≡ joined_number x.outside n y → ChecksCell sizes fs fl line r
+        by_number : {y : Optional Values} → ReadsValues fs n fl past.now y → {r : Result (Unit {0}) Reason} → reason_told r ≡ joined_number x.outside n y → ChecksCell sizes fs fl line r
         by_number {y} k h =
             numbered w
             (h ∙ sym (ap (λ (o : Option (List Piece)). place_number fs fl (point_with x.outside x.cell o)) v.is
@@ -201,7 +201,7 @@ module _ (sizes : List ℕ) (fs : List Range) (fl : ℕ) (line : List ℕ) where
           pub cell_outward : x.outside ≡ true → ChecksCell sizes fs fl line (Err OutsideGrid)
           cell_outward h = by_number k (rw h)
 
-          pub cell_inward : x.outside ≡ false → {r : Result (Unit {0}) Reason} → told r ≡ count_number n y.count y.fit y.kept → ChecksCell sizes fs fl line r
+          pub cell_inward : x.outside ≡ false → {r : Result (Unit {0}) Reason} → reason_told r ≡ count_number n y.count y.fit y.kept → ChecksCell sizes fs fl line r
           cell_inward h e = by_number k (e ∙ rw h)
 
 pub ruleset CellNumbers = (cell_wrong, cell_unassigned, cell_other, cell_bad, cell_outward, cell_inward)
@@ -320,10 +320,10 @@ module _ (sizes : List ℕ) (fs : List Range) (fl first last : ℕ) (before : Op
             by (Some u) g = never (sym g)
 
         module _ {t : Bool} (f : t ≡ has_some before) (l : t ≡ true) where
-          numbers : {r : Result (Unit {0}) Reason} → ChecksCell sizes fs fl rest.now r → line_number (limits sizes fs fl first last) (time_before before) (said_in (pieces 0 line)) ≡ told r
+          numbers : {r : Result (Unit {0}) Reason} → ChecksCell sizes fs fl rest.now r → line_number (limits sizes fs fl first last) (time_before before) (said_in (pieces 0 line)) ≡ reason_told r
           numbers {r} k = by before (sym f ∙ l)
             where
-              by : (o : Optional ℕ) → has_some o ≡ true → line_number (limits sizes fs fl first last) (time_before o) (said_in (pieces 0 line)) ≡ told r
+              by : (o : Optional ℕ) → has_some o ≡ true → line_number (limits sizes fs fl first last) (time_before o) (said_in (pieces 0 line)) ≡ reason_told r
               by None g = never g
               by (Some u) g = ap (line_number (limits sizes fs fl first last) (some u)) says_cell ∙ sym (k.is (limits sizes fs fl first last) u refl refl refl)
 

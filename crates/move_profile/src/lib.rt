@@ -7,7 +7,8 @@ ghost use Rattle.grammar.specs.Checking.{rooms_fit};
 ghost use Rattle.grammar.specs.Promises.Flat.{lent_fit};
 ghost use Rattle.program.specs.Promises.Fitting.{Sized};
 ghost use Rattle.move_meaning.specs.Profile.{missed};
-ghost use Rattle.move_profile.specs.Promises.Flags.{FlagOf, answer_told, RuleMissed, CheckOneMove};
+ghost use Rattle.move_profile.specs.Promises.Public.{answer_told};
+ghost use Rattle.move_profile.specs.Promises.Flags.{FlagOf, RuleMissed, CheckOneMove};
 
 mod fields;
 mod moves;

@@ -54,12 +54,16 @@ pub fn write_value(names: &mut [u32], slot: usize, v: u32)
 }
 
 // Takes the name in a slot out: those after it move down by one, and the last slot is zero.
+// Kept: word by word, since `copy_within` would have the static library need `memmove` from outside.
 pub fn remove_entry(names: &mut [u32], slot: usize)
     requires { (slot < most_names) × (length names.old ≡ name_words) }
     ensures { names.new ≡ without_entry names.old slot }
 {
     let from = 4 * slot;
-    names.copy_within(from + 4.., from);
+    let many = NAME_WORDS - 4 - from;
+    for k in 0..many {
+        names[from + k] = names[from + k + 4];
+    }
     names[NAME_WORDS - 4..].fill(0);
 }
 

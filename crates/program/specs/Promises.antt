@@ -2,3 +2,4 @@
 pub mod Standing
 pub mod Ranges
 pub mod Fitting
+pub mod Faults

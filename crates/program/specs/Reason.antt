@@ -1,7 +1,5 @@
--- The reasons of refusals and faults, and the number of the reply that each gives.
+-- The reasons of refusals and faults, each with the number of its reply.
 use Rattle.std.specs.Prelude.{ℕ}
-use Rattle.value.specs.declared.Fault.{Fault}
-use Rattle.value.specs.declared.Fault.TheVariants as fault
 use Rattle.program.specs.declared.reply.Reason.{Reason}
 use Rattle.program.specs.declared.reply.Reason.TheVariants.{Buffers, LongSource, NoToken, LargeLiteral, ManyTokens, OtherForm, NotAllowed, UnknownName, UsedName, WrongUse, BareRelation, DeepNesting, ManyNames, Shape, GridLength, Times, LargeIndex, FieldRange, OutOfRange, ZeroDivisor, ArrayIndex, AssignedValue, Dimensions, EmptyRange, LongLoop, ManyFields, ArraySize, ArrayValues, UnreadLine, OutsideGrid, ManyValues, ListedValue, TimeNotRising, TimeBeforeStart, TimePastEnd, ShortRoom, UnsetFlag, NoPlan, WrongPlan, RowCounts, NoZeroRow}
 
@@ -47,8 +45,3 @@ reason_number NoPlan = 59
 reason_number WrongPlan = 60
 reason_number RowCounts = 61
 reason_number NoZeroRow = 62
-
--- the fault of an operation as a reason
-abbrev pub fault_reason : Fault → Reason
-fault_reason fault.OutOfRange = OutOfRange
-fault_reason fault.ZeroDivisor = ZeroDivisor

@@ -1,7 +1,8 @@
 // The replies of refusals and faults: the reasons, each with its number, and a reply with its place.
 ghost use Rattle.std.specs.Prelude.{◌≡◌};
-ghost use Rattle.program.specs.Reason.{reason_number, fault_reason};
+ghost use Rattle.program.specs.Reason.{reason_number};
 ghost use Rattle.program.specs.Refusal.{refusal};
+ghost use Rattle.program.specs.Promises.Faults.{fault_reason};
 
 use value::Fault;
 

@@ -8,7 +8,7 @@ ghost use Rattle.names.specs.declared.Entry.{Entry};
 ghost use Rattle.grammar.specs.Expressions.{plain, field_name, dot_field, read_field, put_field, named_index, fixed_index, read_index, read_indices, read_neighbour, read_own, read_bracket, read_element, array_use, name_use, read_primary, operand_in};
 ghost use Rattle.grammar.specs.Reader.{Reader};
 ghost use Rattle.read_state.specs.Promises.Reading.{Read, anything, InNumber, Ready, Gives, Reads, Stays, Passes};
-ghost use Rattle.read_expressions.specs.Promises.Promises.{cell_as, SlotIn, some_free, inner_in, is_unary, Climbs, are_relations};
+ghost use Rattle.read_expressions.specs.Promises.Promises.{cell_as, SlotIn, some_free, inner_in, is_unary_token, Climbs, are_relations};
 
 use inside::Inside;
 use names::{entry_in, find_name};
@@ -35,7 +35,12 @@ fn plain(words: &[u32], scan: Scan, s: Reading) -> Read
     requires { (scan.count ≤ most_tokens) × (length words.now ≡ table_words) × (s.at ≤ scan.count) }
     ensures { Passes anything plain scan 0 s words.now result }
 {
-    let a = forbid(words, scan, s, kind::BRACKET, Reason::OtherForm)?;
+    // No `?` here and in the readers of expressions: it moves a refusal's two numbers as one word, which overlaps the place of reading, and each
+    // place of reading waits for that.
+    let r = forbid(words, scan, s, kind::BRACKET, Reason::OtherForm);
+    let Ok(a) = r else {
+        return r;
+    };
     forbid(words, scan, a, kind::DOT, Reason::WrongUse)
 }
 
@@ -226,7 +231,7 @@ fn are_relations(own: u32, last: u32) -> bool
 // Whether a token of this kind is a unary operator.
 #[tactic(auto, unfolding(grammar::specs::Constants::is_sign))]
 fn is_unary(kind: u32) -> bool
-    ensures { result ≡ is_unary kind }
+    ensures { result ≡ is_unary_token kind }
 {
     matches!(kind, kind::PLUS | kind::MINUS | kind::NOT)
 }
@@ -248,7 +253,10 @@ pub fn read_expression(
     requires { Ready scan (length names.now) (length words.old) s × (1 ≤ level) }
     ensures { Climbs inside level source.now scan s names.now words.old result words.new }
 {
-    let a = read_operand(source, names, words, scan, s, inside)?;
+    let r = read_operand(source, names, words, scan, s, inside);
+    let Ok(a) = r else {
+        return r;
+    };
     let mut here = a;
     let mut last: u32 = 0;
     loop {
@@ -260,7 +268,10 @@ pub fn read_expression(
         if are_relations(own, last) {
             return refuse(words, scan, here, here.at, Reason::BareRelation);
         }
-        let b = read_expression(source, names, words, scan, here.moved(), inside, own + 1)?;
+        let q = read_expression(source, names, words, scan, here.moved(), inside, own + 1);
+        let Ok(b) = q else {
+            return q;
+        };
         here = b;
         last = own;
     }
@@ -392,6 +403,9 @@ fn read_bracket(
     let Some(inner) = inside.opened() else {
         return refuse(words, scan, s, s.at, Reason::DeepNesting);
     };
-    let a = read_expression(source, names, words, scan, s.moved(), inner, 1)?;
+    let r = read_expression(source, names, words, scan, s.moved(), inner, 1);
+    let Ok(a) = r else {
+        return r;
+    };
     expect(words, scan, a, close, Reason::NotAllowed)
 }

@@ -11,7 +11,7 @@ use Rattle.token.specs.declared.Token.{Token}
 use Rattle.token.specs.Scanning.{kind_in}
 use Rattle.names.specs.declared.Entry.{Entry}
 use Rattle.names.specs.Names.{entry_at, without_entry, find_name}
-use Rattle.names.specs.Promises.Finding.{Found, found_of, Below, Finds}
+use Rattle.names.specs.Promises.Finding.{SlotFound, found_of, Below, Finds}
 use Rattle.program.specs.Refusal.{Refusal}
 use Rattle.program.specs.Table.{with_word}
 use Rattle.program.specs.Promises.Standing.{Stands}
@@ -102,16 +102,16 @@ second_not p q = rw (p, q)
 
 -- ---- steps that only look
 
-seen : (o : Option ℕ) (p : Found) → p ≡ found_of o → (slot : ℕ) → p ≡ Some slot → o ≡ some slot
+seen : (o : Option ℕ) (p : SlotFound) → p ≡ found_of o → (slot : ℕ) → p ≡ Some slot → o ≡ some slot
 seen (some j) p e slot d = cc
 seen none p e slot d = let z : ◌≡◌ {A = ℕ} 0 1 = cc in absurd (omega arith)
 
-unseen : (o : Option ℕ) (p : Found) → p ≡ found_of o → p ≡ None → o ≡ none
+unseen : (o : Option ℕ) (p : SlotFound) → p ≡ found_of o → p ≡ None → o ≡ none
 unseen (some j) p e d = let z : ◌≡◌ {A = ℕ} 0 1 = cc in absurd (omega arith)
 unseen none p e d = refl
 
 -- a slot that was found is one of the list's
-pub below_slot : {n slot : ℕ} {q : Found} → Below n q → q ≡ Some slot → slot < n
+pub below_slot : {n slot : ℕ} {q : SlotFound} → Below n q → q ≡ Some slot → slot < n
 below_slot x e = rw e at x
 
 module _ {A : Type 0} {source : List ℕ} {sc : Scan} {R : A → Reading → Type 0} {s : Reading} {ns ws ns₁ ws₁ : List ℕ} {r : Read} where
@@ -137,7 +137,7 @@ module _ {A : Type 0} {source : List ℕ} {sc : Scan} {R : A → Reading → Typ
   named h slot e x = by_another (ap (λ (u : Entry). h u (input source sc) (state s ns ws)) (sym e)) x
 
   -- a name that is found, and one that is not
-  module _ (t : Token) {fields : Bool} (found : ℕ → Reader A) (missing : Reader A) {q : Found} (x : Finds source ns s.count fields t.start t.len q) where
+  module _ (t : Token) {fields : Bool} (found : ℕ → Reader A) (missing : Reader A) {q : SlotFound} (x : Finds source ns s.count fields t.start t.len q) where
     pub found_it : {slot : ℕ} → q ≡ Some slot → Gives R (found slot) source sc s ns ws r ns₁ ws₁ → Gives R (by_name t fields found missing) source sc s ns ws r ns₁ ws₁
     unfolding by_name
     found_it {slot} e y =

@@ -21,6 +21,9 @@ use read_state::{Read, Reading, declare, expect, forbid, fresh, is_name, refuse}
 use token::{Scan, Token, kind};
 use value::limits::MOST_TURNS;
 
+// Where a statement is read, a refusal is returned as the answer that it came in: `?` would move its two numbers as one word, which the place of
+// reading shares, and each reading would wait for that.
+
 // ---- left sides
 
 // Over the name t on a left side, an old variable or a new one; its number among the variables.
@@ -100,8 +103,14 @@ fn read_target(
     if t.kind == kind::CELL {
         return field_target(source, names, words, scan, s, cell);
     }
-    let a = variable_target(source, names, words, scan, s, t)?;
-    let b = forbid(words, scan, a, kind::DOT, Reason::WrongUse)?;
+    let r = variable_target(source, names, words, scan, s, t);
+    let Ok(a) = r else {
+        return r;
+    };
+    let q = forbid(words, scan, a, kind::DOT, Reason::WrongUse);
+    let Ok(b) = q else {
+        return q;
+    };
     Ok(b.with_number(a.number))
 }
 
@@ -178,9 +187,18 @@ fn read_clause(
     ensures { Each (IsLink link) ChainIn (clause_turn (expression_in inside)) source.now scan s.count (s.at + 1) s names.now words.old result names.now words.new }
 {
     let i = s.at;
-    let a = expect(words, scan, s, kind::ASSIGN, Reason::NotAllowed)?;
-    let b = read_expression(source, names, words, scan, a, inside, 1)?;
-    let d = clause_end(source, names, words, scan, b, inside, i, link)?;
+    let r = expect(words, scan, s, kind::ASSIGN, Reason::NotAllowed);
+    let Ok(a) = r else {
+        return r;
+    };
+    let q = read_expression(source, names, words, scan, a, inside, 1);
+    let Ok(b) = q else {
+        return q;
+    };
+    let p = clause_end(source, names, words, scan, b, inside, i, link);
+    let Ok(d) = p else {
+        return p;
+    };
     put_word(words, i, 3, d.at as u32);
     Ok(d)
 }
@@ -200,7 +218,10 @@ fn read_clauses(
     let mut here = s;
     let mut link = Link::First;
     loop {
-        let a = read_clause(source, names, words, scan, here, inside, link)?;
+        let r = read_clause(source, names, words, scan, here, inside, link);
+        let Ok(a) = r else {
+            return r;
+        };
         if !a.more {
             return Ok(a);
         }
@@ -222,9 +243,18 @@ fn read_assignment(
     ensures { Reads anything (read_assignment (cell_as inside.cell) (expression_in inside)) source.now scan 256 s names.old words.old result names.new words.new }
 {
     let i = s.at;
-    let a = read_target(source, names, words, scan, s, inside.cell)?;
-    let b = forbid(words, scan, a, kind::BRACKET, Reason::OtherForm)?;
-    let d = read_clauses(source, names, words, scan, b, inside)?;
+    let r = read_target(source, names, words, scan, s, inside.cell);
+    let Ok(a) = r else {
+        return r;
+    };
+    let q = forbid(words, scan, a, kind::BRACKET, Reason::OtherForm);
+    let Ok(b) = q else {
+        return q;
+    };
+    let p = read_clauses(source, names, words, scan, b, inside);
+    let Ok(d) = p else {
+        return p;
+    };
     put_word(words, i, 2, a.number);
     put_word(words, i, 3, d.at as u32);
     Ok(d)
@@ -452,7 +482,10 @@ pub fn read_block(
 {
     let mut here = s;
     loop {
-        let a = read_statement(source, names, words, scan, here, inside)?;
+        let r = read_statement(source, names, words, scan, here, inside);
+        let Ok(a) = r else {
+            return r;
+        };
         if a.at == here.at {
             return Ok(a);
         }

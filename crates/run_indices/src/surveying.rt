@@ -15,7 +15,7 @@ pub fn survey(words: &[u32], rule: Rule, sizes: &[u32]) -> Survey
     requires { Sized (length words.now) rule × (length sizes.now ≡ rule.dims) }
     ensures { Surveyed words.now rule sizes.now result }
 {
-    let start = Survey {
+    let mut all = Survey {
         far: None,
         reach: own_only(),
     };
@@ -26,6 +26,7 @@ pub fn survey(words: &[u32], rule: Rule, sizes: &[u32]) -> Survey
         &Loops::none(),
         rule.body,
         rule.tokens,
-        start,
-    )
+        &mut all,
+    );
+    all
 }

@@ -17,7 +17,7 @@ use Rattle.automaton.specs.Promises.Opening.{opens_of}
 use Rattle.automaton.specs.Promises.ShapeLaws.{Inside, Positive, Alike, Within, AllWithin}
 use Rattle.automaton.proofs.ShapeLaws.{product_pos, wrap_mod, reach_opens, mem_box, box_alike, coordinates_inside}
 use Rattle.run_meaning.specs.Reach.{own_only}
-use Rattle.run_marking.specs.Promises.Noting.{note_all, noted_rows, noted_line, noted_lines, box_cells, opened_from, opened_count, cells_opened, Boxed, CountsFit}
+use Rattle.run_marking.specs.Promises.Noting.{note_all, noted_rows, noted_line, noted_lines, box_cells, opened_from, opened_count, cells_opened, Boxed, CountsWithin}
 use Rattle.run_marking.proofs.NotingLaws.{mem_rows, rows_same, Noted, noted_done}
 
 -- ---- one dimension
@@ -298,7 +298,7 @@ module _ (ns firsts counts : List ℕ) (base cells : ℕ) (s : Boxed ns firsts c
       ∙ ap (λ (cs : List ℕ). note_all cs marks) (sym (box_line ns firsts counts base h))
 
   -- the last two dimensions are some lines
-  pub boxed_lines : {m : ℕ} → length ns ≡ 2 → m ≡ entry ns 1 → CountsFit ns counts
+  pub boxed_lines : {m : ℕ} → length ns ≡ 2 → m ≡ entry ns 1 → CountsWithin ns counts
       → (entry firsts 0 < n) × (entry counts 0 ≤ n) × (entry firsts 1 < m) × (entry counts 1 ≤ m) × ((base + 1) * (n * m) ≤ cells) × (cells ≤ 1048576)
   boxed_lines h em f = (boxed_first, rw en (f.each 0 s.some_dims), rw em (s.inside 1 (omega arith)), rw em (f.each 1 (omega arith)), rw (em, ← last_size ns h) whole, s.few)
 
@@ -326,7 +326,7 @@ module _ (ns firsts counts : List ℕ) (base cells : ℕ) (s : Boxed ns firsts c
       ∙ ap (λ (cs : List ℕ). note_all cs marks₀) (sym (box_rows ns firsts counts base s.some_dims s.firsts_fit s.counts_fit))
 
 -- no more coordinates than there are, in the other dimensions
-pub rest_fit : {ns counts : List ℕ} → CountsFit ns counts → CountsFit (rest_of ns) (rest_of counts)
+pub rest_fit : {ns counts : List ℕ} → CountsWithin ns counts → CountsWithin (rest_of ns) (rest_of counts)
 rest_fit {ns} {counts} f =
     rw (part_to_end ns 1, part_to_end counts 1)
     (record { each = λ k h. rw (get_or-drop 1 counts k 0, get_or-drop 1 ns k 0) (f.each (1 + k) (omega (arith, length-drop 1 ns))) })

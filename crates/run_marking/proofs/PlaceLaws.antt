@@ -12,7 +12,7 @@ use Rattle.run_meaning.specs.Promises.Fitting.{no_bound, bound_at, bound_is}
 use Rattle.automaton.specs.Shape.{Bound}
 use Rattle.run_meaning.specs.declared.Bounds.{Bounds}
 use Rattle.run_meaning.proofs.Theorems.Digits.{size_small}
-use Rattle.run_marking.specs.Promises.Noting.{opened_from, opened_count, CountsFit, Prepared, Firsts, NotedCounts}
+use Rattle.run_marking.specs.Promises.Noting.{opened_from, opened_count, CountsWithin, Prepared, Firsts, NotedCounts}
 
 -- ---- sizes
 
@@ -62,7 +62,7 @@ module _ (ns : List ℕ) (bounds : Bounds) where
   counting_done counts k s l = record { len = s.len; each = λ m h. s.each m (omega arith) }
 
 -- they are no more than there are
-pub counts_fit : {ns : List ℕ} {bounds : Bounds} {counts : List ℕ} → NotedCounts ns bounds counts → CountsFit ns counts
+pub counts_fit : {ns : List ℕ} {bounds : Bounds} {counts : List ℕ} → NotedCounts ns bounds counts → CountsWithin ns counts
 counts_fit c = record { each = λ k l. omega (arith, c.each k l) }
 
 -- ---- the first coordinates

@@ -5,7 +5,7 @@ ghost use Rattle.automaton.specs.Shape.{product};
 ghost use Rattle.automaton.specs.Promises.ShapeLaws.{Positive};
 ghost use Rattle.run_meaning.specs.Promises.Fitting.{bound_at};
 ghost use Rattle.run_place_marks.specs.Promises.Placing.{StepCoordinates};
-ghost use Rattle.run_marking.specs.Promises.Noting.{note_all, noted_rows, noted_line, noted_lines, box_cells, cells_opened, cells_back, cells_by, Boxed, Prepared, Led, CountsFit, NotedBelow, Firsts, NotedCounts};
+ghost use Rattle.run_marking.specs.Promises.Noting.{note_all, noted_rows, noted_line, noted_lines, box_cells, cells_opened, cells_back, cells_by, Boxed, Prepared, Led, CountsWithin, NotedBelow, Firsts, NotedCounts};
 
 use run_marked_cells::points::set_point;
 use run_meaning::{Bounds, next_coordinate, wrap_sum};
@@ -97,7 +97,7 @@ fn note_lines(
 // Notes the cells of a box: in each dimension the coordinates from a first one on, as many as a count, wrapped.
 // `base` is the number of the coordinates of the dimensions before.
 fn note_box(sizes: &[u32], firsts: &[usize], counts: &[usize], base: usize, marks: &mut [u8])
-    requires { Boxed sizes.now firsts.now counts.now base (length marks.old) × CountsFit sizes.now counts.now }
+    requires { Boxed sizes.now firsts.now counts.now base (length marks.old) × CountsWithin sizes.now counts.now }
     ensures { marks.new ≡ note_all (box_cells sizes.now (λ k. get_or firsts.now k 0) (λ k. get_or counts.now k 0) base) marks.old }
 {
     let n = sizes[0] as usize;

@@ -9,14 +9,11 @@ use mathlib.Core.List.{List, [], ◌∷◌, ◌++◌}
 use mathlib.Core.Option.{Option, none, some}
 use lib.IntN.{ℤ, pos}
 use lib.ListN.{length, get_or, set, take}
-use lib.Seq.{get_or-set_same, get_or-set_other, get_or-take, length-take-le, ext_get_or}
-use lib.Dec.{eqb}
-use lib.Pointwise.{pointwise}
+use lib.Seq.{get_or-set_same, get_or-set_other, get_or-take, length-take-le}
 use borrow.Author.Tests.{lt-ltb, le-ltb, le-leb, lt-leb}
 use Rattle.value.proofs.Theorems.Truth.{or_true}
 use Rattle.value.specs.Worked.{encode_of, decode_of}
-use Rattle.std.specs.Cmp.Lexicographic.{bytes_decides}
-use Rattle.value.proofs.Theorems.Laws.{never, encode_decode}
+use Rattle.value.proofs.Theorems.Laws.{encode_decode}
 use Rattle.automaton.specs.Listed.{list_of}
 use Rattle.automaton.specs.Promises.ListedLaws.{length_list_of, get_or_list_of, list_of_ext, last_or_below}
 use Rattle.automaton.specs.Grid.{differ}
@@ -29,33 +26,40 @@ use Rattle.run_places.specs.Promises.Widening.{joined, Widens}
 
 -- ---- two places
 
--- words are the same where they stand for the same numbers
-same_words : (dims : ℕ) (a b : List ℕ) → dims ≤ length a → dims ≤ length b → ((k : ℕ) → get_or a k 0 < 4294967296) → ((k : ℕ) → get_or b k 0 < 4294967296)
-    → differ (vector_values a dims) (vector_values b dims) ≡ false → take dims a ≡ take dims b
-same_words dims a b la lb fa fb e =
-    ext_get_or 0 (take dims a) (take dims b) (length-take-le dims a la ∙ sym (length-take-le dims b lb))
-    (λ k h.
-    let l : k < dims = omega (arith, h, length-take-le dims a la) in
-    get_or-take dims a k 0 l ∙ sym (encode_decode (get_or a k 0) (fa k))
-    ∙ ap encode_of (sym (get_or_list_of (λ d. decode_of (get_or a d 0)) dims k (pos 0) l) ∙ ap (λ (p : List ℤ). get_or p k (pos 0)) (differ_false _ _ e) ∙ get_or_list_of (λ d. decode_of (get_or b d 0)) dims k (pos 0) l)
-    ∙ encode_decode (get_or b k 0) (fb k) ∙ sym (get_or-take dims b k 0 l))
+module _ (a b : List ℕ) where
+  -- the first d words are the same
+  pub record Agreeing (d : ℕ) : Type 0 where
+    pub each : (m : ℕ) → m < d → get_or a m 0 ≡ get_or b m 0
 
-same_values : (dims : ℕ) (a b : List ℕ) → take dims a ≡ take dims b → vector_values a dims ≡ vector_values b dims
-same_values dims a b e =
-    list_of_ext _ _ dims (λ k l. ap decode_of (sym (get_or-take dims a k 0 l) ∙ ap (λ (p : List ℕ). get_or p k 0) e ∙ get_or-take dims b k 0 l))
+  pub agreeing_start : Agreeing 0
+  agreeing_start = record { each = λ m l. absurd (not-suc-le-zero l) }
 
-pub same_place : (dims : ℕ) (a b : List ℕ) → dims ≤ length a → dims ≤ length b → ((k : ℕ) → get_or a k 0 < 4294967296) → ((k : ℕ) → get_or b k 0 < 4294967296)
-    → {r : Bool} → r ≡ pointwise eqb (take dims a) (take dims b) → r ≡ not (differ (vector_values a dims) (vector_values b dims))
-same_place dims a b la lb fa fb {r} e = by r e (differ (vector_values a dims) (vector_values b dims)) refl
-  where
-    decides : (pointwise eqb (take dims a) (take dims b) ≡ true → take dims a ≡ take dims b) × (take dims a ≡ take dims b → pointwise eqb (take dims a) (take dims b) ≡ true)
-    decides = bytes_decides (take dims a) (take dims b)
+  pub agreeing_more : (d : ℕ) → Agreeing d → get_or a d 0 ≡ get_or b d 0 → Agreeing (d + 1)
+  agreeing_more d s q = record { each = λ m h. at m (last_or_below (let w : m < suc d = omega arith in w)) }
+    where
+      at : (m : ℕ) → (m ≡ d) ⊎ (m < d) → get_or a m 0 ≡ get_or b m 0
+      at m (inl e) = rw e q
+      at m (inr e) = s.each m e
 
-    by : (r : Bool) → r ≡ pointwise eqb (take dims a) (take dims b) → (d : Bool) → differ (vector_values a dims) (vector_values b dims) ≡ d → r ≡ not d
-    by true e true q = never (sym (differ_self (vector_values b dims)) ∙ ap (λ (p : List ℤ). differ p (vector_values b dims)) (sym (same_values dims a b (decides.0 (sym e)))) ∙ q)
-    by true e false q = refl
-    by false e true q = refl
-    by false e false q = never (e ∙ decides.1 (same_words dims a b la lb fa fb q))
+  module _ (dims : ℕ) where
+    -- words are the same where they stand for the same numbers
+    pub agreeing_not : (d : ℕ) → d < dims → get_or a d 0 < 4294967296 → get_or b d 0 < 4294967296 → (get_or a d 0 ≡ get_or b d 0 → ⊥)
+        → false ≡ not (differ (vector_values a dims) (vector_values b dims))
+    agreeing_not d l fa fb out = go (differ (vector_values a dims) (vector_values b dims)) refl
+      where
+        go : (u : Bool) → differ (vector_values a dims) (vector_values b dims) ≡ u → false ≡ not u
+        go true e = refl
+        go false e =
+            let same : decode_of (get_or a d 0) ≡ decode_of (get_or b d 0) =
+            sym (get_or_list_of (λ m. decode_of (get_or a m 0)) dims d (pos 0) l) ∙ ap (λ (p : List ℤ). get_or p d (pos 0)) (differ_false (vector_values a dims) (vector_values b dims) e)
+            ∙ get_or_list_of (λ m. decode_of (get_or b m 0)) dims d (pos 0) l
+            in
+            absurd (out (sym (encode_decode (get_or a d 0) fa) ∙ ap encode_of same ∙ encode_decode (get_or b d 0) fb))
+
+    pub agreeing_done : (d : ℕ) → Agreeing d → dims ≤ d → true ≡ not (differ (vector_values a dims) (vector_values b dims))
+    agreeing_done d s l =
+        let e : vector_values a dims ≡ vector_values b dims = list_of_ext _ _ dims (λ m h. ap decode_of (s.each m (omega arith))) in
+        sym (ap not (ap (λ (p : List ℤ). differ p (vector_values b dims)) e ∙ differ_self (vector_values b dims)))
 
 -- ---- a place among others
 

@@ -10,11 +10,18 @@ ghost use Rattle.run_places.specs.Promises.Vectors.{vector_values};
 use value::limits::{MOST_DIMS, MOST_PLACES, PLACES_LISTED};
 
 // Whether two places are the same, by their first words.
+// Kept: word by word. A comparison of slices is a call for every two places.
+#[tactic(auto, using(crate::proofs::ListLaws::agreeing_not, crate::proofs::ListLaws::agreeing_done))]
 fn same_place(a: &[u32; MOST_DIMS], b: &[u32; MOST_DIMS], dims: usize) -> bool
     requires { dims ≤ most_dims }
     ensures { result ≡ not (differ (vector_values a.now dims) (vector_values b.now dims)) }
 {
-    a[..dims] == b[..dims]
+    for d in 0..dims {
+        if a[d] != b[d] {
+            return false;
+        }
+    }
+    true
 }
 
 // Whether a place is among others.

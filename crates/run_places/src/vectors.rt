@@ -69,20 +69,24 @@ fn uses(words: &[u32], n: usize, dims: usize, which: usize, at: usize) -> bool
 }
 
 // The open loops, as a relative index has them: those whose variable does not occur in it have the value 0 alone.
-#[tactic(auto, using(crate::proofs::LoopLaws::using_start, crate::proofs::LoopLaws::using_depth, crate::proofs::LoopLaws::using_used, crate::proofs::LoopLaws::using_unused, crate::proofs::LoopLaws::using_done))]
+#[tactic(auto, using(crate::proofs::LoopLaws::using_start, crate::proofs::LoopLaws::using_done))]
 fn used(words: &[u32], n: usize, dims: usize, loops: &Loops, at: usize) -> Loops
     requires { (4 * n ≤ length words.now) × (n ≤ most_tokens) × (dims ≤ most_dims) × (at ≤ most_tokens) }
     ensures { open_loops result ≡ used_ranges (open_loops loops.now) (indices_in (table_of words.now n dims) dims at) }
 {
-    let mut r = Loops::none();
+    let mut lows = loops.lows;
+    let mut highs = loops.highs;
     for d in 0..loops.depth {
-        if uses(words, n, dims, d, at) {
-            r = r.opened(loops.lows[d], loops.highs[d]);
-        } else {
-            r = r.opened(0, 0);
+        if !uses(words, n, dims, d, at) {
+            lows[d] = 0;
+            highs[d] = 0;
         }
     }
-    r
+    Loops {
+        lows,
+        highs,
+        depth: loops.depth,
+    }
 }
 
 // How many values there are from one to another; 257 where there are more than 256.
@@ -141,27 +145,27 @@ fn vector(words: &[u32], n: usize, dims: usize, given: &[u32], at: usize) -> [u3
     place
 }
 
-// The index vectors that a relative index can take, as many as `count`; none, if there are more than 256.
-fn vectors(
+// Sets the first places of a list to the index vectors that a relative index can take, as many as `count`; none, if there are more than 256.
+// Kept: the list is lent. Returned, its 3 KB would be cleared and copied once more for each relative index.
+fn set_vectors(
     words: &[u32],
     n: usize,
     dims: usize,
     loops: &Loops,
     at: usize,
     count: usize,
-) -> [[u32; MOST_DIMS]; MOST_PLACES]
+    list: &mut [[u32; MOST_DIMS]; MOST_PLACES],
+)
     requires { (4 * n ≤ length words.now) × (n ≤ most_tokens) × (dims ≤ most_dims) × (at ≤ most_tokens) × (count ≡ min 257 (choice_count (open_loops loops.now))) }
-    ensures { Vectors dims count (λ e. offsets dims (choice_at (open_loops loops.now) e) (indices_in (table_of words.now n dims) dims at)) result }
+    ensures { Vectors dims count (λ e. offsets dims (choice_at (open_loops loops.now) e) (indices_in (table_of words.now n dims) dims at)) list.new }
 {
-    let mut list = [[0; MOST_DIMS]; MOST_PLACES];
     if MOST_PLACES < count {
-        return list;
+        return;
     }
     for e in 0..count {
         let given = chosen(loops, e);
         list[e] = vector(words, n, dims, &given[..loops.depth], at);
     }
-    list
 }
 
 // The reach of one relative index, with given bounds: its places are the index vectors that it can take.
@@ -173,9 +177,11 @@ pub fn index_reach(words: &[u32], rule: Rule, loops: &Loops, at: usize, bounds: 
     let dims = rule.dims as usize;
     let used = used(words, n, dims, loops, at);
     let count = choices(&used);
+    let mut places = [[0; MOST_DIMS]; MOST_PLACES];
+    set_vectors(words, n, dims, &used, at, count, &mut places);
     Reach {
         bounds,
         count: count as u32,
-        places: vectors(words, n, dims, &used, at, count),
+        places,
     }
 }

@@ -1,7 +1,9 @@
 // What the program is called with, and the request of a run that it makes.
 use run_steps::Manner;
-use tool_console::arguments::{Refusal, refuse, word};
+use tool_console::arguments::{Argument, Refusal, WORD, refuse};
 use tool_console::numbers::{count_in, value_in};
+use tool_console::shapes::{Sizes, shape_argument};
+use tool_console::texts::{Target, open_output, read_file};
 
 const USAGE: &str =
     "usage: run_rule RULE SHAPE START STEPS full|quiet|pause|resume GRID OUT [LIST [CHANGES [PAUSE]]] [--rows R] [--zeros FIELD]
@@ -22,19 +24,19 @@ const USAGE: &str =
 
 // The arguments, each by its name. A file that is left out is not there, also where `-` stands in its place.
 #[derive(Clone, Copy, Debug, PartialEq, Eq)]
-pub struct Call<'a> {
-    pub rule: &'a [u8],
-    pub shape: &'a [u8],
-    pub start: &'a [u8],
-    pub steps: &'a [u8],
-    pub manner: &'a [u8],
-    pub grid: &'a [u8],
-    pub out: &'a [u8],
-    pub list: Option<&'a [u8]>,
-    pub changes: Option<&'a [u8]>,
-    pub pause: Option<&'a [u8]>,
-    pub rows: Option<&'a [u8]>,
-    pub zeros: Option<&'a [u8]>,
+pub struct Call {
+    pub rule: Argument,
+    pub shape: Argument,
+    pub start: Argument,
+    pub steps: Argument,
+    pub manner: Argument,
+    pub grid: Argument,
+    pub out: Argument,
+    pub list: Option<Argument>,
+    pub changes: Option<Argument>,
+    pub pause: Option<Argument>,
+    pub rows: Option<Argument>,
+    pub zeros: Option<Argument>,
 }
 
 // The request of a run: the time it starts at, the steps, its manner, the number of the field whose zeros are counted, if they are, and how many rows can be
@@ -51,13 +53,13 @@ pub struct Order {
 // The arguments before the options, and the values of the options.
 #[derive(Clone, Copy, Debug)]
 struct Split<'a> {
-    plain: &'a [Vec<u8>],
-    rows: Option<&'a [u8]>,
-    zeros: Option<&'a [u8]>,
+    plain: &'a [Argument],
+    rows: Option<Argument>,
+    zeros: Option<Argument>,
 }
 
 // Takes the options off the end of the arguments; nothing if one is there twice.
-fn without_options(arguments: &[Vec<u8>]) -> Option<Split<'_>> {
+fn without_options<'a>(rt: &HostRuntime, arguments: &'a [Argument]) -> Option<Split<'a>> {
     let mut plain = arguments;
     let mut rows = None;
     let mut zeros = None;
@@ -66,7 +68,8 @@ fn without_options(arguments: &[Vec<u8>]) -> Option<Split<'_>> {
         let Some((before, [option, value])) = plain.split_last_chunk::<2>() else {
             break;
         };
-        let taken = match option.as_slice() {
+        let mut buffer = [0u8; WORD];
+        let taken = match option.read(rt, &mut buffer) {
             b"--rows" => &mut rows,
             b"--zeros" => &mut zeros,
             _ => break,
@@ -77,25 +80,21 @@ fn without_options(arguments: &[Vec<u8>]) -> Option<Split<'_>> {
         if taken.is_some() {
             return None;
         }
-        *taken = Some(value.as_slice());
+        *taken = Some(*value);
         plain = before;
     }
     Some(Split { plain, rows, zeros })
 }
 
-// The file that an argument names, if it is there, and is not `-`.
-fn given(argument: Option<&Vec<u8>>) -> Option<&[u8]> {
-    let path = argument?.as_slice();
-    if path == b"-".as_slice() {
-        None
-    } else {
-        Some(path)
-    }
+// The argument that names a file, if it is there, and is not `-`.
+fn given(rt: &HostRuntime, argument: Option<&Argument>) -> Option<Argument> {
+    let path = *argument?;
+    if path.is(rt, b"-") { None } else { Some(path) }
 }
 
 // The arguments by their names, if all are there and none is over, and no option is there twice.
-fn named(arguments: &[Vec<u8>]) -> Option<Call<'_>> {
-    let Split { plain, rows, zeros } = without_options(arguments)?;
+fn named(rt: &HostRuntime, arguments: &[Argument]) -> Option<Call> {
+    let Split { plain, rows, zeros } = without_options(rt, arguments)?;
     let [_, rule, shape, start, steps, manner, grid, out, files @ ..] = plain else {
         return None;
     };
@@ -103,32 +102,33 @@ fn named(arguments: &[Vec<u8>]) -> Option<Call<'_>> {
         return None;
     }
     Some(Call {
-        rule: rule.as_slice(),
-        shape: shape.as_slice(),
-        start: start.as_slice(),
-        steps: steps.as_slice(),
-        manner: manner.as_slice(),
-        grid: grid.as_slice(),
-        out: out.as_slice(),
-        list: given(files.first()),
-        changes: given(files.get(1)),
-        pause: given(files.get(2)),
+        rule: *rule,
+        shape: *shape,
+        start: *start,
+        steps: *steps,
+        manner: *manner,
+        grid: *grid,
+        out: *out,
+        list: given(rt, files.first()),
+        changes: given(rt, files.get(1)),
+        pause: given(rt, files.get(2)),
         rows,
         zeros,
     })
 }
 
 // The arguments by their names. If they are wrong, how to call the program is said.
-pub fn read_call<'a>(rt: &HostRuntime, arguments: &'a [Vec<u8>]) -> Result<Call<'a>, Refusal> {
-    match named(arguments) {
+pub fn read_call(rt: &HostRuntime, arguments: &[Argument]) -> Result<Call, Refusal> {
+    match named(rt, arguments) {
         Some(call) => Ok(call),
         None => Err(refuse(rt, USAGE)),
     }
 }
 
 // The value that an argument is. If it is none, that is said, with the argument's name.
-fn number_argument(rt: &HostRuntime, argument: &[u8], name: &str) -> Result<i64, Refusal> {
-    match value_in(word(argument)) {
+fn number_argument(rt: &HostRuntime, argument: Argument, name: &str) -> Result<i64, Refusal> {
+    let mut buffer = [0u8; WORD];
+    match value_in(argument.read(rt, &mut buffer)) {
         Some(n) => Ok(i64::from(n)),
         None => Err(refuse(
             rt,
@@ -137,9 +137,10 @@ fn number_argument(rt: &HostRuntime, argument: &[u8], name: &str) -> Result<i64,
     }
 }
 
-// The manner that a word names.
-fn manner_of(word: &[u8]) -> Option<Manner> {
-    match word {
+// The manner that an argument names.
+fn manner_argument(rt: &HostRuntime, argument: Argument) -> Option<Manner> {
+    let mut buffer = [0u8; WORD];
+    match argument.read(rt, &mut buffer) {
         b"full" => Some(Manner::Full),
         b"quiet" => Some(Manner::Quiet),
         b"pause" => Some(Manner::Pausing),
@@ -149,8 +150,9 @@ fn manner_of(word: &[u8]) -> Option<Manner> {
 }
 
 // How many rows can be held, by the value of `--rows`. If it is wrong, or the run is not a full one, that is said.
-fn rows_held(rt: &HostRuntime, rows: &[u8], manner: Manner) -> Result<u32, Refusal> {
-    let Some(held) = count_in(word(rows)) else {
+fn rows_held(rt: &HostRuntime, rows: Argument, manner: Manner) -> Result<u32, Refusal> {
+    let mut buffer = [0u8; WORD];
+    let Some(held) = count_in(rows.read(rt, &mut buffer)) else {
         return Err(refuse(
             rt,
             "run_rule: R is not a whole number from 0 to 2147483647\n",
@@ -162,12 +164,13 @@ fn rows_held(rt: &HostRuntime, rows: &[u8], manner: Manner) -> Result<u32, Refus
     }
 }
 
-impl Call<'_> {
+impl Call {
     // The request of a run, without the zeros. If an argument is wrong, that is said.
+    #[inline(never)]
     pub fn order(&self, rt: &HostRuntime) -> Result<Order, Refusal> {
         let start = number_argument(rt, self.start, "START")?;
         let steps = number_argument(rt, self.steps, "STEPS")?;
-        let Some(manner) = manner_of(self.manner) else {
+        let Some(manner) = manner_argument(rt, self.manner) else {
             return Err(refuse(
                 rt,
                 "run_rule: the fifth argument is none of full, quiet, pause and resume\n",
@@ -185,4 +188,30 @@ impl Call<'_> {
             held,
         })
     }
+}
+
+// The shape of the grid. If it is none, that is said. This function and the next ones are not inlined, so that their rooms are free again when a run takes its own.
+#[inline(never)]
+pub fn read_shape(rt: &HostRuntime, call: &Call) -> Result<Sizes, Refusal> {
+    let mut buffer = [0u8; WORD];
+    shape_argument(rt, call.shape.read(rt, &mut buffer), "run_rule: SHAPE")
+}
+
+// Reads the file that an argument names, as much as there is room for. If it cannot be read, that is said, with the argument's name.
+#[inline(never)]
+pub fn file_argument<'a>(
+    rt: &HostRuntime,
+    argument: Argument,
+    name: &str,
+    room: &'a mut [u8],
+) -> Result<&'a [u8], Refusal> {
+    let mut path = io::buffer();
+    read_file(rt, argument.read(rt, &mut path), name, room)
+}
+
+// Opens the file that an argument names to write it anew, `-` for standard output.
+#[inline(never)]
+pub fn output_argument(rt: &HostRuntime, argument: Argument) -> Result<Target, Refusal> {
+    let mut path = io::buffer();
+    open_output(rt, argument.read(rt, &mut path))
 }

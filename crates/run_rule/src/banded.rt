@@ -43,6 +43,21 @@ fn say_plan(rt: &HostRuntime, number: u32, plan: Plan, held: u32) {
     }
 }
 
+// Reports a run on a grid of so many entries and cells.
+#[inline(never)]
+fn tell_ran(
+    rt: &HostRuntime,
+    task: &Task<'_>,
+    report: Report,
+    words: &[u32; TABLE_WORDS],
+    entries: usize,
+    cells: usize,
+) {
+    let told = field_told(report, words, fields_of(entries, cells));
+    let named = told.and_then(|field| field_name(task.source, records_of(task.source).rows, field));
+    reports::tell(rt, task, report, named, entries, cells);
+}
+
 // Runs a source on a grid by bands of rows, reports, and writes what is left. Returns the report.
 pub fn run_and_tell(
     rt: &HostRuntime,
@@ -53,7 +68,6 @@ pub fn run_and_tell(
     marks: &mut [u8],
     counts: &mut [u32],
 ) -> Report {
-    let fields = fields_of(grid.len(), marks.len());
     let mut words = [0u32; TABLE_WORDS];
     let order = task.order;
     let request = Request {
@@ -67,9 +81,7 @@ pub fn run_and_tell(
     };
     let made = plan_and_run(request, &mut words, grid, scratch, marks, counts);
     let report = made.report;
-    let told = field_told(report, &words, fields);
-    let named = told.and_then(|field| field_name(task.source, records_of(task.source).rows, field));
-    reports::tell(rt, task, report, named, grid.len(), marks.len());
+    tell_ran(rt, task, report, &words, grid.len(), marks.len());
     say_plan(rt, report.number, made.plan, held);
     write_left(rt, task, report, grid, marks, counts);
     report

@@ -1,17 +1,17 @@
 // The value list that leads from the grid that is given to the grid that is left.
 use crate::Task;
-use crate::arguments::Call;
+use crate::arguments::{Call, output_argument};
 use list_writer::write_list;
 use run_steps::Report;
 use std::io::Write;
-use tool_console::arguments::{Refusal, refuse};
+use tool_console::arguments::{Argument, Refusal, refuse};
 use tool_console::replies::Reply;
 use tool_console::rooms::{ROOM, TEXT, room};
-use tool_console::texts::{complain, fail, open_output};
+use tool_console::texts::{complain, fail};
 use value::limits::{NAME_WORDS, TABLE_WORDS};
 
 // Tests that a grid of so many entries can be kept, if it has to be: it takes half of the room. If not, that is said.
-pub fn test_size(rt: &HostRuntime, call: &Call<'_>, entries: usize) -> Result<(), Refusal> {
+pub fn test_size(rt: &HostRuntime, call: &Call, entries: usize) -> Result<(), Refusal> {
     if call.changes.is_none() || entries <= ROOM / 2 {
         return Ok(());
     }
@@ -22,7 +22,7 @@ pub fn test_size(rt: &HostRuntime, call: &Call<'_>, entries: usize) -> Result<()
 }
 
 // Keeps a copy of a grid at the start of a room, if the list of changes is requested.
-pub fn keep<'a>(call: &Call<'_>, grid: &[i32], room: &'a mut [i32]) -> Option<&'a [i32]> {
+pub fn keep<'a>(call: &Call, grid: &[i32], room: &'a mut [i32]) -> Option<&'a [i32]> {
     call.changes?;
     let copy = room.get_mut(..grid.len())?;
     copy.copy_from_slice(grid);
@@ -49,8 +49,8 @@ fn complain_reply(rt: &HostRuntime, number: u32) {
 }
 
 // Writes a text to CHANGES. If that cannot be done, it is said.
-fn write_text(rt: &HostRuntime, path: &[u8], text: &[u8]) {
-    let Ok(mut file) = open_output(rt, path) else {
+fn write_text(rt: &HostRuntime, argument: Argument, text: &[u8]) {
+    let Ok(mut file) = output_argument(rt, argument) else {
         return;
     };
     if let Err(error) = file.write_all(text) {
@@ -66,7 +66,7 @@ pub fn write(
     later: &[i32],
     report: Report,
 ) {
-    let (Some(path), Some(earlier)) = (task.call.changes, earlier) else {
+    let (Some(argument), Some(earlier)) = (task.call.changes, earlier) else {
         return;
     };
     if !Reply(report.number).has_begun() {
@@ -89,7 +89,7 @@ pub fn write(
         &mut text,
     );
     match written {
-        Ok(length) => write_text(rt, path, &text[..text.len().min(length as usize)]),
+        Ok(length) => write_text(rt, argument, &text[..text.len().min(length as usize)]),
         Err(refusal) => complain_reply(rt, refusal.number),
     }
 }

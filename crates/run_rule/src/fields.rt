@@ -7,6 +7,7 @@ use token::kind;
 use value::limits::{MOST_FIELDS, MOST_NAMES, MOST_TOKENS, TABLE_WORDS};
 
 // The records of the names of a source: those of a run that is refused for its one size, 0, once the source is accepted.
+#[inline(never)]
 pub fn records_of(source: &[u8]) -> Ran {
     let list = spelling::BUILT_IN;
     api_naming::run(

@@ -22,20 +22,19 @@ mod values;
 mod zeros;
 
 use api_naming::Ran;
-use arguments::{Call, Order, read_call};
+use arguments::{Call, Order, file_argument, read_call, read_shape};
 use rows::write_grid;
 use run_steps::Report;
-use tool_console::arguments::{Refusal, arguments, end, refuse};
-use tool_console::grids::read_grid;
+use tool_console::arguments::{Refusal, arguments, refuse};
+use tool_console::grids::grid_argument;
 use tool_console::rooms::{LIST, ROOM, SCRATCH, room};
-use tool_console::shapes::{cells_of, fields_of, row, shape_argument};
-use tool_console::texts::read_file;
+use tool_console::shapes::{cells_of, fields_of, row};
 use value::limits::TABLE_WORDS;
 
 // What a run is made of: the arguments, the source, the sizes of the grid, the value list and the request.
 #[derive(Clone, Copy)]
 struct Task<'a> {
-    call: Call<'a>,
+    call: Call,
     source: &'a [u8],
     sizes: &'a [u32],
     values: &'a [u8],
@@ -81,6 +80,7 @@ fn run(
 }
 
 // Writes where a run paused and which cells are left with 0 in a field, if requested, and then what is left.
+#[inline(never)]
 fn write_left(
     rt: &HostRuntime,
     task: &Task<'_>,
@@ -98,6 +98,24 @@ fn write_left(
         row(task.sizes, grid.len(), marks.len()),
     );
     pauses::write(rt, task, report, marks, written);
+}
+
+// Reports a run on a grid of so many entries and cells. Like the next functions with rooms or records of their own it is not inlined, so that the stack has
+// these only when no run is on it.
+#[inline(never)]
+fn tell_ran(
+    rt: &HostRuntime,
+    task: &Task<'_>,
+    ran: &Ran,
+    words: &[u32; TABLE_WORDS],
+    entries: usize,
+    cells: usize,
+) {
+    let report = ran.report;
+    let rows = ran.rows;
+    let told = fields::field_told(report, words, fields_of(entries, cells));
+    let named = told.and_then(|field| fields::field_name(task.source, rows, field));
+    reports::tell(rt, task, report, named, entries, cells);
 }
 
 // Runs a source on a grid, reports, and writes what is left. Returns the report.
@@ -122,10 +140,7 @@ fn run_and_tell(
         counts,
     );
     let report = ran.report;
-    let rows = ran.rows;
-    let told = fields::field_told(report, &words, fields_of(grid.len(), marks.len()));
-    let named = told.and_then(|field| fields::field_name(task.source, rows, field));
-    reports::tell(rt, task, report, named, grid.len(), marks.len());
+    tell_ran(rt, task, &ran, &words, grid.len(), marks.len());
     write_left(rt, task, report, grid, marks, counts);
     report
 }
@@ -182,11 +197,11 @@ fn run_and_compare(
 // Reads the grid, and runs a source on it. Standard input is not left for GRID where RULE has read it.
 fn run_on_grid(rt: &HostRuntime, task: &Task<'_>, cells: usize) -> Result<(), Refusal> {
     let call = task.call;
-    if call.rule == b"-".as_slice() && call.grid == b"-".as_slice() {
+    if call.rule.is(rt, b"-") && call.grid.is(rt, b"-") {
         return Err(refuse(rt, "run_rule: GRID: Bad file descriptor\n"));
     }
     let mut grid: [i32; ROOM] = room(0);
-    let count = read_grid(rt, call.grid, "run_rule: GRID", &mut grid)?;
+    let count = grid_argument(rt, call.grid, "run_rule: GRID", &mut grid)?;
     changes::test_size(rt, &call, count)?;
     banded::test_size(rt, task.sizes, count, task.order)?;
     run_and_compare(rt, task, cells, &mut grid, count)
@@ -195,7 +210,7 @@ fn run_on_grid(rt: &HostRuntime, task: &Task<'_>, cells: usize) -> Result<(), Re
 // Reads the value list.
 fn run_with_list(
     rt: &HostRuntime,
-    call: Call<'_>,
+    call: Call,
     source: &[u8],
     sizes: &[u32],
     cells: usize,
@@ -214,7 +229,7 @@ fn run_with_list(
 }
 
 // Takes the other arguments, and reads the rule.
-fn run_in_shape(rt: &HostRuntime, call: Call<'_>, sizes: &[u32]) -> Result<(), Refusal> {
+fn run_in_shape(rt: &HostRuntime, call: Call, sizes: &[u32]) -> Result<(), Refusal> {
     let cells = cells_of(sizes);
     if cells > ROOM {
         return Err(refuse(rt, "run_rule: SHAPE has more than 786432 cells\n"));
@@ -222,19 +237,20 @@ fn run_in_shape(rt: &HostRuntime, call: Call<'_>, sizes: &[u32]) -> Result<(), R
     let asked = call.order(rt)?;
     pauses::test_file(rt, &call, asked.manner)?;
     let mut buffer = io::large_buffer();
-    let source = read_file(rt, call.rule, "RULE", &mut buffer)?;
+    let source = file_argument(rt, call.rule, "RULE", &mut buffer)?;
     let order = zeros::with_zeros(rt, &call, source, asked)?;
     run_with_list(rt, call, source, sizes, cells, order)
 }
 
 // Takes the shape.
 fn run_rule(rt: &HostRuntime) -> Result<(), Refusal> {
-    let given = arguments(rt)?;
+    let given = arguments(rt);
     let call = read_call(rt, given.as_slice())?;
-    let sizes = shape_argument(rt, call.shape, "run_rule: SHAPE")?;
+    let sizes = read_shape(rt, &call)?;
     run_in_shape(rt, call, sizes.as_slice())
 }
 
-fn main(rt: HostRuntime) -> std::io::Result<()> {
-    end(run_rule(&rt))
+// What goes wrong has been said when it ends.
+fn main(rt: HostRuntime) {
+    let _ = run_rule(&rt);
 }

@@ -1,16 +1,17 @@
 // The file by which a paused run is resumed: the time that the run has reached, in a line, and then the marks of the cells, 0 or 1, a line for each
 // row. A mark is 1 where one more step would open the cell.
 use crate::Task;
-use crate::arguments::Call;
+use crate::arguments::{Call, output_argument};
 use crate::changes::time_after;
-use crate::rows::write_entry;
+use crate::rows::Sink;
 use run_steps::{Manner, Report};
-use std::io::{BufWriter, Result as Written, Write};
+use std::fmt::Write;
+use std::io::Result as Written;
 use tool_console::arguments::{Refusal, refuse};
-use tool_console::grids::read_grid;
+use tool_console::grids::grid_argument;
 use tool_console::replies::Reply;
 use tool_console::shapes::row;
-use tool_console::texts::{Target, complain, fail, open_output, say};
+use tool_console::texts::{Target, complain, fail, say};
 
 // Whether a run leaves its marks to the file.
 fn leaves_marks(manner: Manner) -> bool {
@@ -18,7 +19,7 @@ fn leaves_marks(manner: Manner) -> bool {
 }
 
 // Tests that the file is named if a run needs it, and only then. If not, that is said.
-pub fn test_file(rt: &HostRuntime, call: &Call<'_>, manner: Manner) -> Result<(), Refusal> {
+pub fn test_file(rt: &HostRuntime, call: &Call, manner: Manner) -> Result<(), Refusal> {
     match (leaves_marks(manner), call.pause) {
         (true, None) => Err(refuse(rt, "run_rule: pause and resume need the file PAUSE\n")),
         (false, Some(_)) => Err(refuse(rt, "run_rule: PAUSE is for pause and resume alone\n")),
@@ -73,8 +74,8 @@ pub fn read(
 ) -> Result<(), Refusal> {
     let order = task.order;
     match (order.manner, task.call.pause) {
-        (Manner::Resuming, Some(path)) => {
-            let count = read_grid(rt, path, "run_rule: PAUSE", room)?;
+        (Manner::Resuming, Some(argument)) => {
+            let count = grid_argument(rt, argument, "run_rule: PAUSE", room)?;
             take(rt, &room[..count], marks, cells, order.start)
         }
         _ => Ok(()),
@@ -98,27 +99,35 @@ pub fn tell(rt: &HostRuntime, task: &Task<'_>, report: Report, marks: &[u8]) {
     }
 }
 
-// Writes a time and the marks by way of a buffer.
-fn write_marks(
-    rt: &HostRuntime,
-    target: Target,
-    time: u64,
-    marks: &[u8],
-    row: usize,
-) -> Written<()> {
-    let mut file = BufWriter::new(rt.alloc(), target)?;
-    writeln!(file, "{time}")?;
+// Writes a time in a line.
+#[inline(never)]
+fn write_time(file: &mut Target, time: u64) -> Written<()> {
+    let mut sink = Sink::new(file);
+    let _ = writeln!(sink, "{time}");
+    sink.finish()
+}
+
+// Writes marks, as numbers.
+#[inline(never)]
+fn write_marks(file: &mut Target, marks: &[u8], row: usize) -> Written<()> {
+    let mut sink = Sink::new(file);
     for (i, mark) in marks.iter().enumerate() {
-        let n = i32::from(*mark != 0);
-        write_entry(&mut file, n, i, marks.len(), row)?;
+        sink.put_entry(i32::from(*mark != 0), i, marks.len(), row);
     }
-    file.flush()
+    sink.finish()
+}
+
+// Writes a time and then the marks, also where the time could not be written. Of two errors that of the marks is returned.
+fn write_both(file: &mut Target, time: u64, marks: &[u8], row: usize) -> Written<()> {
+    let timed = write_time(file, time);
+    let marked = write_marks(file, marks, row);
+    marked.and(timed)
 }
 
 // Writes the file, if a run has paused. It is of no use without the grid: if that was not written, the file is not either, which is said.
 pub fn write(rt: &HostRuntime, task: &Task<'_>, report: Report, marks: &[u8], written: bool) {
     let order = task.order;
-    let Some(path) = task.call.pause else {
+    let Some(argument) = task.call.pause else {
         return;
     };
     if report.number != 0 || !leaves_marks(order.manner) {
@@ -128,12 +137,12 @@ pub fn write(rt: &HostRuntime, task: &Task<'_>, report: Report, marks: &[u8], wr
         complain(rt, "run_rule: PAUSE is not written, since OUT is not\n");
         return;
     }
-    let Ok(target) = open_output(rt, path) else {
+    let Ok(mut file) = output_argument(rt, argument) else {
         return;
     };
     let time = time_after(order.start, report.steps);
     let cells = marks.len();
-    if let Err(error) = write_marks(rt, target, time, marks, row(task.sizes, cells, cells)) {
+    if let Err(error) = write_both(&mut file, time, marks, row(task.sizes, cells, cells)) {
         fail(rt, b"PAUSE", &error);
     }
 }

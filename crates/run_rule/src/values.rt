@@ -1,20 +1,20 @@
 // The value list of a run: its file, and its lines.
-use crate::arguments::Call;
+use crate::arguments::{Call, file_argument};
 use tool_console::arguments::{Refusal, refuse};
 use tool_console::lines::say_first_line;
-use tool_console::texts::{read_file, say};
+use tool_console::texts::say;
 
 // Puts the list that is named at the start of a room; it is empty where none is. If it cannot be taken, that is said.
 pub fn read_list<'a>(
     rt: &HostRuntime,
-    call: &Call<'_>,
+    call: &Call,
     room: &'a mut [u8],
 ) -> Result<&'a [u8], Refusal> {
     let Some(path) = call.list else {
         return Ok(&[]);
     };
     let length = room.len();
-    let list = read_file(rt, path, "LIST", room)?;
+    let list = file_argument(rt, path, "LIST", room)?;
     if list.len() >= length {
         return Err(refuse(rt, "run_rule: LIST is longer than 524287 bytes\n"));
     }

@@ -4,20 +4,21 @@ use crate::arguments::{Call, Order};
 use crate::fields::{field_named, records_of};
 use run_row_counts::queries::{first_zero_row, zeros_in_rows};
 use run_steps::Report;
-use tool_console::arguments::Refusal;
+use tool_console::arguments::{Argument, Refusal};
 use tool_console::replies::Reply;
 use tool_console::shapes::rows_of;
 use tool_console::texts::{complain, complain_bytes, say, say_bytes};
 
 // The request of a run, with the field that is named, if any. If there is no such field, that is said. A rule that is refused has no fields, and is run to
 // report why.
+#[inline(never)]
 pub fn with_zeros(
     rt: &HostRuntime,
-    call: &Call<'_>,
+    call: &Call,
     source: &[u8],
     order: Order,
 ) -> Result<Order, Refusal> {
-    let Some(name) = call.zeros else {
+    let Some(argument) = call.zeros else {
         return Ok(order);
     };
     let ran = records_of(source);
@@ -26,6 +27,8 @@ pub fn with_zeros(
         return Ok(order);
     }
     let rows = ran.rows;
+    let mut buffer = io::buffer();
+    let name = argument.read(rt, &mut buffer);
     match field_named(source, rows, name) {
         Some(field) => Ok(Order {
             zeros: Some(field),
@@ -49,10 +52,17 @@ pub fn counts_of(sizes: &[u32], order: Order) -> usize {
     }
 }
 
+// Writes the name of the field.
+#[inline(never)]
+fn say_name(rt: &HostRuntime, argument: Argument) {
+    let mut buffer = io::buffer();
+    say_bytes(rt, argument.read(rt, &mut buffer));
+}
+
 // Writes what the counts say of the grid that is left, if zeros are counted and the run began: how many cells have 0 in the field, and which row is the first
 // with one.
 pub fn tell(rt: &HostRuntime, task: &Task<'_>, report: Report, counts: &[u32]) {
-    let Some(name) = task.call.zeros else {
+    let Some(argument) = task.call.zeros else {
         return;
     };
     let order = task.order;
@@ -63,7 +73,7 @@ pub fn tell(rt: &HostRuntime, task: &Task<'_>, report: Report, counts: &[u32]) {
         return;
     }
     say(rt, "zeros: field ");
-    say_bytes(rt, name);
+    say_name(rt, argument);
     let total = zeros_in_rows(counts, 0, last).unwrap_or(0);
     say(rt, format_args!(", {total} cells in rows 0 to {last}"));
     if let Ok(row) = first_zero_row(counts) {

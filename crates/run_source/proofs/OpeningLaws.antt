@@ -48,7 +48,7 @@ use Rattle.run_admission.proofs.RequestLaws.{cast_in}
 use Rattle.run_admission.specs.Promises.Admitting.{refusal_told, request_of, Admitted, Admits}
 use Rattle.run_source.specs.declared.opening.Opening.{Opening}
 use Rattle.run_source.specs.declared.opening.Stop.{Stop}
-use Rattle.run_source.specs.Promises.Sourcewise.{stopped, counts_right, RunBegun, RunOpens}
+use Rattle.run_source.specs.Promises.Sourcewise.{run_stopped, counts_right, RunBegun, RunOpens}
 
 -- ---- an accepted source
 
@@ -101,7 +101,7 @@ module _ (counted : Bool) (field rows fields : ℕ) (sizes : List ℕ) where
 
 -- the opening of a run that does not begin
 abbrev Closed : Result Opening Stop → ℕ → ℕ → ℕ → Type 0
-Closed r number place line = r ≡ Err (stopped number place line)
+Closed r number place line = r ≡ Err (run_stopped number place line)
 
 -- what the exit of a `?` returns
 pub stopped_by : {q : Result Opening Stop} {u : Stop} → IsErrAnd q (λ (f : Stop). f ≡ u) → q ≡ Err u

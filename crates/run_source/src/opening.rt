@@ -4,7 +4,7 @@ ghost use Rattle.grammar.specs.Checking.{rooms_fit};
 ghost use Rattle.program.specs.Reason.{reason_number};
 ghost use Rattle.run_calls.specs.Running.{counts_of, ask};
 ghost use Rattle.run_admission.specs.Promises.Admitting.{request_of};
-ghost use Rattle.run_source.specs.Promises.Sourcewise.{stopped, not_begun, counts_right, RunOpens};
+ghost use Rattle.run_source.specs.Promises.Sourcewise.{run_stopped, not_begun, counts_right, RunOpens};
 
 use list_reader::checking::{ListRefusal, check_list};
 use move_profile::flag_of;
@@ -32,7 +32,7 @@ pub struct Stop {
 }
 
 impl From<Refusal> for Stop {
-    ghost from_gives = { λ r s. s ≡ stopped r.number r.place 0 };
+    ghost from_gives = { λ r s. s ≡ run_stopped r.number r.place 0 };
 
     fn from(refusal: Refusal) -> Self {
         Stop {
@@ -44,7 +44,7 @@ impl From<Refusal> for Stop {
 }
 
 impl From<ListRefusal> for Stop {
-    ghost from_gives = { λ r s. s ≡ stopped (reason_number r.reason) 0 r.line };
+    ghost from_gives = { λ r s. s ≡ run_stopped (reason_number r.reason) 0 r.line };
 
     fn from(refusal: ListRefusal) -> Self {
         Stop {

@@ -142,7 +142,7 @@ module _ (sizes : List ℕ) (grid : List ℤ) (marks : List ℕ) (time : ℕ) wh
         })
           where
             here : (p : Program) → Held p → result (cell_of rule.fields scratch' i) ≡ given p rule.fields sizes grid time i
-            here p h = ap (λ (x : running_of.Outcome). outcome_is x (cell_of rule.fields scratch' i)) (sym e) ∙ w.says p (holds p h)
+            here p h = ap (λ (x : running_of.CellResult). outcome_is x (cell_of rule.fields scratch' i)) (sym e) ∙ w.says p (holds p h)
 
             by : (p : Program) → Held p → (c : ℕ) → (c ≡ i) ⊎ (c < i) → marked marks c ≡ true
                 → given p rule.fields sizes grid time c ≡ result (cell_of rule.fields scratch' c)
@@ -161,7 +161,7 @@ module _ (sizes : List ℕ) (grid : List ℤ) (marks : List ℕ) (time : ℕ) wh
         }
           where
             here : (p : Program) → Held p → outcome p i ≡ fault f.number f.place
-            here p h = of_marked p h i is_on ∙ sym (ap (λ (x : running_of.Outcome). outcome_is x (cell_of rule.fields scratch' i)) (sym e) ∙ w.says p (holds p h))
+            here p h = of_marked p h i is_on ∙ sym (ap (λ (x : running_of.CellResult). outcome_is x (cell_of rule.fields scratch' i)) (sym e) ∙ w.says p (holds p h))
 
             first : (p : Program) → Held p → first_fault (outcome p) (running p sizes).cells ≡ fault_at i f.number f.place
             first p h = first_fault_here (outcome p) (running p sizes).cells i f.number f.place (g.clear p h) (here p h) (rw (cells_are p) l)

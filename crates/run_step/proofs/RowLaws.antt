@@ -96,7 +96,7 @@ module _ (words : List ℕ) (rule : Rule) (sizes : List ℕ) (from : ℕ) (grid 
     })
       where
         here : (p : Program) → Holds words rule p → result (cell_of rule.fields next' i) ≡ gives p i
-        here p h = ap (λ (x : running_of.Outcome). outcome_is x (cell_of rule.fields next' i)) (sym e) ∙ t.says p h
+        here p h = ap (λ (x : running_of.CellResult). outcome_is x (cell_of rule.fields next' i)) (sym e) ∙ t.says p h
 
         by : (p : Program) → Holds words rule p → (c : ℕ) → (c ≡ i) ⊎ (c < i) → gives p c ≡ result (cell_of rule.fields next' c)
         by p h c (inl q) = subst (λ (x : ℕ). gives p x ≡ result (cell_of rule.fields next' x)) (sym q) (sym (here p h))
@@ -105,7 +105,7 @@ module _ (words : List ℕ) (rule : Rule) (sizes : List ℕ) (from : ℕ) (grid 
     pub rowing_stop : {cells : ℕ} {f : Refusal} → r.outcome ≡ Err f → i < cells → {s : Step} → s.count ≡ r.count → fault_in s ≡ fault_at i f.number f.place
         → CellsStepped words rule sizes from cells grid time count s next'
     rowing_stop {cells} {f} e l {s} same is = record {
-      fault = λ p h. is ∙ sym (first_fault_here (gives p) cells i f.number f.place (w.clear p h) (sym (ap (λ (x : running_of.Outcome). outcome_is x (cell_of rule.fields next' i)) (sym e) ∙ t.says p h)) l);
+      fault = λ p h. is ∙ sym (first_fault_here (gives p) cells i f.number f.place (w.clear p h) (sym (ap (λ (x : running_of.CellResult). outcome_is x (cell_of rule.fields next' i)) (sym e) ∙ t.says p h)) l);
       count_is = same ∙ all ∙ ap (λ (a : Fault). count + reached cells a) (sym is);
       counted = let a = same ∙ all in omega arith;
       next = λ none. absurd (let y = sym is ∙ none in let z : ◌≡◌ {A = ℕ} 0 1 = cc in omega arith);

@@ -9,7 +9,6 @@ use lib.ListN.{length, take, drop}
 use lib.Pointwise.{pointwise}
 use borrow.Author.Tests.{eq-eqb, ne_eqb, le-leb, lt-leb, lt-ltb, le-ltb}
 use Rattle.std.specs.Prelude.{if◌then◌else◌, Option, Some, None}
-use Rattle.std.specs.declared.ops.Range.{Range}
 use Rattle.std.proofs.lemmas.Bool.{true≢false, false≢true, and_parts}
 use Rattle.std.proofs.lemmas.Option.{none-some, same_Some}
 use Rattle.token.specs.Bytes.{same}
@@ -42,17 +41,14 @@ token_fits k len place size l h = by (eqb k 3) (eqb k 4) (eqb k 18 && eqb len 6)
 
 module _ (source : List ℕ) (number place : ℕ) where
   none : part false 0 0 ≡ part_at source number place → IsPart source number place None
-  none e = record { is = e; in_list = λ r z. absurd (none-some _ z); in_source = λ r z. absurd (none-some _ z) }
-
-  plus_one : place + 1 - place ≡ 1
-  plus_one = omega arith
+  none e = record { is = e; in_list = λ start len z. absurd (none-some _ z); in_source = λ start len z. absurd (none-some _ z) }
 
   one : (q : code.Part) → length source ≤ 65535 → Fits (length source) (part_of (Some q)) → part_of (Some q) ≡ part_at source number place → IsPart source number place (Some q)
   one q l f e =
       record {
         is = e;
-        in_list = λ r z. let g = subst (λ (x : code.Part). Fits (length source) (part_of (Some x))) (same_Some _ _ z) f in let h = g.in_list refl in (omega (arith, g.some), omega (arith, g.some, h));
-        in_source = λ r z. let g = subst (λ (x : code.Part). Fits (length source) (part_of (Some x))) (same_Some _ _ z) f in let h = g.in_source refl in (omega (arith, g.some), omega (arith, g.some, h), omega (arith, g.some, h, l));
+        in_list = λ start len z. let g = subst (λ (x : code.Part). Fits (length source) (part_of (Some x))) (same_Some _ _ z) f in (g.some, g.in_list refl);
+        in_source = λ start len z. let g = subst (λ (x : code.Part). Fits (length source) (part_of (Some x))) (same_Some _ _ z) f in let h = g.in_source refl in (g.some, h, omega (arith, h, l));
       }
 
   pub at_no_token : names_token number ≡ false → IsPart source number place None
@@ -70,11 +66,11 @@ module _ (source : List ℕ) (number place : ℕ) where
       at_long l = none (simp (e, lt-leb (length source) place h, lt-ltb 65535 (length source) l))
 
       module _ (l : length source ≤ 65535) where
-        pub at_byte : number ≡ 3 → IsPart source number place (Some (Source (record { start = place; end = place + 1 })))
+        pub at_byte : number ≡ 3 → IsPart source number place (Some (Source place 1))
         unfolding part_at
         at_byte q =
             one _ l (record { some = omega arith; in_list = λ z. absurd (false≢true z); in_source = λ z. omega arith })
-            (simp (e, lt-leb (length source) place h, le-ltb 65535 (length source) l, eq-eqb number 3 q, plus_one))
+            (simp (e, lt-leb (length source) place h, le-ltb 65535 (length source) l, eq-eqb number 3 q))
 
         pub at_token : (number ≡ 3 → ⊥) → {r : Lexed} {q : code.Part} → token.ReadsToken source place r → part_of (Some q) ≡ token_part r.token.kind r.token.len place → IsPart source number place (Some q)
         unfolding part_at
@@ -104,6 +100,10 @@ same_length (x ∷ a) (y ∷ b) e = ap suc (same_length a b (and_parts (eqb x y)
 
 -- ---- the spelling
 
+-- a part's end less its start is its length
+span : (start len : ℕ) → start + len - start ≡ len
+span start len = omega arith
+
 module _ (source list : List ℕ) (number place : ℕ) where
   pub no_list : same list built_in_names ≡ false → [] ≡ spelling_of source list number place
   unfolding spelling_of
@@ -120,11 +120,11 @@ module _ (source list : List ℕ) (number place : ℕ) where
     pub no_part : p ≡ None → [] ≡ spelling_of source list number place
     no_part q = ap (λ (z : Option code.Part). taken source list (part_of z)) (sym q) ∙ spelt
 
-    pub listed_part : {r : Range ℕ} → p ≡ Some (Listed r) → take (r.end - r.start) (drop r.start list) ≡ spelling_of source list number place
-    listed_part q = ap (λ (z : Option code.Part). taken source list (part_of z)) (sym q) ∙ spelt
+    pub listed_part : {start len : ℕ} → p ≡ Some (Listed start len) → take (start + len - start) (drop start list) ≡ spelling_of source list number place
+    listed_part {start} {len} q = rw (span start len) (ap (λ (z : Option code.Part). taken source list (part_of z)) (sym q) ∙ spelt)
 
-    pub source_part : {r : Range ℕ} → p ≡ Some (Source r) → take (r.end - r.start) (drop r.start source) ≡ spelling_of source list number place
-    source_part q = ap (λ (z : Option code.Part). taken source list (part_of z)) (sym q) ∙ spelt
+    pub source_part : {start len : ℕ} → p ≡ Some (Source start len) → take (start + len - start) (drop start source) ≡ spelling_of source list number place
+    source_part {start} {len} q = rw (span start len) (ap (λ (z : Option code.Part). taken source list (part_of z)) (sym q) ∙ spelt)
 
 -- ---- the spelling in numbers
 
@@ -135,8 +135,8 @@ module _ (source : List ℕ) (number place : ℕ) {p : Option code.Part} (x : Is
   pub told_none : p ≡ None → 0 ∷ 0 ∷ 0 ∷ [] ≡ part_entries (part_at source number place)
   told_none q = ap (λ (z : Option code.Part). part_entries (part_of z)) (sym q) ∙ told_by
 
-  pub told_listed : {r : Range ℕ} → p ≡ Some (Listed r) → 2 ∷ r.start ∷ (r.end - r.start) ∷ [] ≡ part_entries (part_at source number place)
-  told_listed {r} q = let h = (x.in_list r q).0 in sym (rw (ne_eqb (r.end - r.start) 0 (λ z. omega arith))) ∙ ap (λ (z : Option code.Part). part_entries (part_of z)) (sym q) ∙ told_by
+  pub told_listed : {start len : ℕ} → p ≡ Some (Listed start len) → 2 ∷ start ∷ len ∷ [] ≡ part_entries (part_at source number place)
+  told_listed {start} {len} q = let h = (x.in_list start len q).0 in sym (rw (ne_eqb len 0 (λ z. omega arith))) ∙ ap (λ (z : Option code.Part). part_entries (part_of z)) (sym q) ∙ told_by
 
-  pub told_source : {r : Range ℕ} → p ≡ Some (Source r) → 1 ∷ r.start ∷ (r.end - r.start) ∷ [] ≡ part_entries (part_at source number place)
-  told_source {r} q = let h = (x.in_source r q).0 in sym (rw (ne_eqb (r.end - r.start) 0 (λ z. omega arith))) ∙ ap (λ (z : Option code.Part). part_entries (part_of z)) (sym q) ∙ told_by
+  pub told_source : {start len : ℕ} → p ≡ Some (Source start len) → 1 ∷ start ∷ len ∷ [] ≡ part_entries (part_at source number place)
+  told_source {start} {len} q = let h = (x.in_source start len q).0 in sym (rw (ne_eqb len 0 (λ z. omega arith))) ∙ ap (λ (z : Option code.Part). part_entries (part_of z)) (sym q) ∙ told_by

@@ -1,21 +1,19 @@
 #![tactic(auto)]
 
 // The spelling that is returned with a refusal: a part of the source, or of the built-in list that is passed beside it.
-ghost use Rattle.std.specs.Prelude.{◌≡◌, ◌+◌, ◌≤◌, Some};
-ghost use Rattle.value.specs.Limits.{most_bytes};
+ghost use Rattle.std.specs.Prelude.{◌≡◌, Some};
 ghost use Rattle.token.specs.Lexeme.{is_built_in};
 ghost use Rattle.spelling.specs.Spelling.{names_token, token_part, part_at, part_entries};
 ghost use Rattle.spelling.specs.Promises.Parts.{told_entries, part_of, spelling_of, IsPart};
 
-use std::ops::Range;
 use token::kind;
 use value::limits::MOST_BYTES;
 
-// Where a spelling is: which bytes of the built-in list or of the source.
-#[derive(Drop, Clone, Debug, PartialEq, Eq)]
+// Where a spelling is: in the built-in list or in the source, its first byte and its length.
+#[derive(Clone, Copy, Debug, PartialEq, Eq)]
 pub enum Part {
-    Listed(Range<usize>),
-    Source(Range<usize>),
+    Listed { start: usize, len: usize },
+    Source { start: usize, len: usize },
 }
 
 #[tactic(auto, unfolding(crate::specs::Spelling::names_token))]
@@ -27,14 +25,13 @@ fn names_token(number: u32) -> bool
 
 // The spelling of a token of a kind and a length at a place.
 fn token_part(k: u32, len: usize, place: usize) -> Part
-    requires { place + len ≤ most_bytes }
     ensures { part_of (Some result) ≡ token_part k len place }
 {
     match k {
-        kind::CELL => Part::Listed(0..4),
-        kind::TIME => Part::Listed(5..9),
-        kind::REFUSED if len == 6 => Part::Listed(10..16),
-        _ => Part::Source(place..place + len),
+        kind::CELL => Part::Listed { start: 0, len: 4 },
+        kind::TIME => Part::Listed { start: 5, len: 4 },
+        kind::REFUSED if len == 6 => Part::Listed { start: 10, len: 6 },
+        _ => Part::Source { start: place, len },
     }
 }
 
@@ -53,7 +50,7 @@ fn part_at(source: &[u8], number: u32, place: u32) -> Option<Part>
         return None;
     }
     if number == 3 {
-        return Some(Part::Source(at..at + 1));
+        return Some(Part::Source { start: at, len: 1 });
     }
     let token = token::read_at(source, at).token;
     Some(token_part(token.kind, token.len as usize, at))
@@ -73,15 +70,15 @@ pub fn told_part(source: &[u8], number: u32, place: u32) -> Told
     ensures { told_entries result ≡ part_entries (part_at source.now number place) }
 {
     match part_at(source, number, place) {
-        Some(Part::Listed(part)) => Told {
+        Some(Part::Listed { start, len }) => Told {
             stands: 2,
-            start: part.start as u32,
-            len: (part.end - part.start) as u32,
+            start: start as u32,
+            len: len as u32,
         },
-        Some(Part::Source(part)) => Told {
+        Some(Part::Source { start, len }) => Told {
             stands: 1,
-            start: part.start as u32,
-            len: (part.end - part.start) as u32,
+            start: start as u32,
+            len: len as u32,
         },
         None => Told {
             stands: 0,
@@ -108,8 +105,8 @@ pub fn spelling<'a>(source: &'a [u8], list: &'a [u8], number: u32, place: u32) -
         return &[];
     }
     match part_at(source, number, place) {
-        Some(Part::Listed(part)) => &list[part],
-        Some(Part::Source(part)) => &source[part],
+        Some(Part::Listed { start, len }) => &list[start..start + len],
+        Some(Part::Source { start, len }) => &source[start..start + len],
         None => &[],
     }
 }

@@ -16,7 +16,7 @@ use Rattle.token.specs.Lexeme.{Lexeme, find_kind, keywords, two_byte_tokens, sta
 use Rattle.token.specs.declared.Lexed.{Lexed}
 use Rattle.token.specs.declared.bytes.ByteKind.{ByteKind}
 use Rattle.token.specs.declared.bytes.ByteKind.TheVariants.{Letter, Digit, Underscore, Sign}
-use Rattle.token.specs.Promises.Promises.{WalksTokens, kind_number, head_kind, too_large, of_length, spelled_of, Finds, word_here, digits_here, lexed_of, ReadsToken}
+use Rattle.token.specs.Promises.Promises.{WalksTokens, kind_number, head_kind, too_large, of_length, spelled_of, FindsKind, word_here, digits_here, lexed_of, ReadsToken}
 use Rattle.token.proofs.Heads.{drop_here, starts_as}
 use Rattle.token.proofs.Extents.{extent_within, extent_first}
 use Rattle.token.proofs.Numbers.{apart_eqb}
@@ -24,7 +24,7 @@ use Rattle.token.proofs.Words.{by_length, some_kind, signs_fold, too_short}
 
 -- ---- a word
 
-pub word_read : (s : List ℕ) (at : ℕ) {end : ℕ} (t : List (Bor (List ℕ) × ℕ)) {o : Option ℕ} {k n : ℕ} {r : Lexed} → WalksTokens (extent in_name (drop at s)) s at end → at < length s → n ≡ length (take (end - at) (drop at s)) → spelled_of t ≡ of_length n keywords → Finds (map fold (take (end - at) (drop at s))) (spelled_of t) o → k ≡ unwrap_or o 1 → r ≡ lexed_of (lexeme_of k n 0) at → r ≡ lexed_of (word_here (drop at s)) at
+pub word_read : (s : List ℕ) (at : ℕ) {end : ℕ} (t : List (Bor (List ℕ) × ℕ)) {o : Option ℕ} {k n : ℕ} {r : Lexed} → WalksTokens (extent in_name (drop at s)) s at end → at < length s → n ≡ length (take (end - at) (drop at s)) → spelled_of t ≡ of_length n keywords → FindsKind (map fold (take (end - at) (drop at s))) (spelled_of t) o → k ≡ unwrap_or o 1 → r ≡ lexed_of (lexeme_of k n 0) at → r ≡ lexed_of (word_here (drop at s)) at
 unfolding word
 word_read s at {end} t {o} {k} {n} e l m g f q p =
     let size : n ≡ end - at = m ∙ length-take (end - at) (drop at s) ∙ simp length-drop (omega (arith, e.within)) in
@@ -71,25 +71,25 @@ pub ruleset Digits = (digits_letter, digits_underscore, digits_large, digits_val
 
 -- ---- a token of signs
 
-pub pair_read : (s : List ℕ) (at : ℕ) (t : List (Bor (List ℕ) × ℕ)) {o : Option ℕ} → spelled_of t ≡ two_byte_tokens → Finds (map fold (take 2 (drop at s))) (spelled_of t) o → Finds (take 2 (drop at s)) two_byte_tokens o
+pub pair_read : (s : List ℕ) (at : ℕ) (t : List (Bor (List ℕ) × ℕ)) {o : Option ℕ} → spelled_of t ≡ two_byte_tokens → FindsKind (map fold (take 2 (drop at s))) (spelled_of t) o → FindsKind (take 2 (drop at s)) two_byte_tokens o
 pair_read s at t g f = record { is = λ other. f.is other ∙ rw g (signs_fold (take 2 (drop at s)) two_byte_tokens other tt) }
 
-pub pair_none : (s : List ℕ) (at : ℕ) → at < length s → length s ≤ at + 1 → Finds (take 2 (drop at s)) two_byte_tokens None
+pub pair_none : (s : List ℕ) (at : ℕ) → at < length s → length s ≤ at + 1 → FindsKind (take 2 (drop at s)) two_byte_tokens None
 pair_none s at h l = record { is = λ other. sym (rw (drop_here s at h, drop_of_length-le s l) (too_short (get_or s at 0 ∷ []) two_byte_tokens other tt)) }
 
 first : (s : List ℕ) (at : ℕ) → get_or (drop at s) 0 0 ≡ get_or s at 0
 first s at = get_or-drop at s 0 0 ∙ rw (add-zero at)
 
 -- no two-byte token has kind 0
-some_pair : (w : List ℕ) {two : ℕ} → Finds w two_byte_tokens (Some two) → two ≡ 0 → ⊥
+some_pair : (w : List ℕ) {two : ℕ} → FindsKind w two_byte_tokens (Some two) → two ≡ 0 → ⊥
 some_pair w e z = let p = some_kind w two_byte_tokens 1 tt (omega arith) in let q : unwrap_or (Some 0) 1 ≡ find_kind w two_byte_tokens 1 = rw (← z) (e.is 1) in omega (arith, p, q)
 
 module _ (s : List ℕ) (at : ℕ) {r : Lexed} where
-  pub sign_two : {two : ℕ} → Finds (take 2 (drop at s)) two_byte_tokens (Some two) → r ≡ lexed_of (lexeme_of two 2 0) at → r ≡ lexed_of (punctuation (drop at s)) at
+  pub sign_two : {two : ℕ} → FindsKind (take 2 (drop at s)) two_byte_tokens (Some two) → r ≡ lexed_of (lexeme_of two 2 0) at → r ≡ lexed_of (punctuation (drop at s)) at
   unfolding punctuation
   sign_two {two} e p = p ∙ simp (← e.is 0, ne_eqb two 0 (some_pair (take 2 (drop at s)) e))
 
-  module _ (e : Finds (take 2 (drop at s)) two_byte_tokens None) where
+  module _ (e : FindsKind (take 2 (drop at s)) two_byte_tokens None) where
     pub sign_quote : get_or s at 0 ≡ 34 → r ≡ lexed_of (lexeme_of 18 1 0) at → r ≡ lexed_of (punctuation (drop at s)) at
     unfolding punctuation
     sign_quote q p = p ∙ simp (← e.is 0, first s at, q)

@@ -18,7 +18,7 @@ use Rattle.std.proofs.lemmas.Bool.{cases_lt}
 use Rattle.std.proofs.lemmas.Str.Ascii.{lowercase_is}
 use Rattle.token.specs.Bytes.{between, fold, same}
 use Rattle.token.specs.Lexeme.{Spelled, find_kind}
-use Rattle.token.specs.Promises.Promises.{of_length, spelled_of, Finds, Groups}
+use Rattle.token.specs.Promises.Promises.{of_length, spelled_of, FindsKind, Groups}
 
 -- ---- a letter's lower case: std's is the definition's
 
@@ -179,7 +179,7 @@ pub seek_start : (w : List ℕ) (t : List (Bor (List ℕ) × ℕ)) → Seeking w
 seek_start w t = record { left = λ other. refl }
 
 module _ (w : List ℕ) (t : List (Bor (List ℕ) × ℕ)) {i : ℕ} (k : Seeking w t i) where
-  pub seek_none : length t ≤ i → Finds w (spelled_of t) None
+  pub seek_none : length t ≤ i → FindsKind w (spelled_of t) None
   unfolding find_kind
   seek_none h = record { is = λ other. sym (k.left other ∙ rw (drop_of_length-le t h)) }
 
@@ -189,7 +189,7 @@ module _ (w : List ℕ) (t : List (Bor (List ℕ) × ℕ)) {i : ℕ} (k : Seekin
         let split : drop i t ≡ get_or t i d ∷ drop (i + 1) t = rw (add-one, drop-cons t i d h) in
         k.left other ∙ ap (λ (r : List (Bor (List ℕ) × ℕ)). find_kind w (spelled_of r) other) split
 
-    pub seek_found : b ≡ true → Finds w (spelled_of t) (Some (get_or t i d).1)
+    pub seek_found : b ≡ true → FindsKind w (spelled_of t) (Some (get_or t i d).1)
     seek_found e = record { is = λ other. sym (left other ∙ found w _ _ other (sym q ∙ e)) }
 
     pub seek_next : b ≡ false → Seeking w t (i + 1)

@@ -2,7 +2,7 @@
 ghost use Rattle.std.specs.Prelude.{◌≡◌, ◌≤◌, ◌<◌, length, take, drop};
 ghost use Rattle.value.specs.Limits.{most_bytes};
 ghost use Rattle.token.specs.Lexeme.{two_byte_tokens, lexeme_of, punctuation};
-ghost use Rattle.token.specs.Promises.Promises.{Finds, lexed_of, word_here, digits_here};
+ghost use Rattle.token.specs.Promises.Promises.{FindsKind, lexed_of, word_here, digits_here};
 
 use crate::bytes::{ByteKind, kind_at};
 use crate::runs::{Run, TOO_LARGE, literal_value, run_end};
@@ -60,7 +60,7 @@ pub fn read_digits(source: &[u8], at: usize) -> Lexed
 #[tactic(auto, using(crate::proofs::Lexemes::pair_read, crate::proofs::Lexemes::pair_none))]
 fn pair_kind(source: &[u8], at: usize) -> Option<u32>
     requires { (at < length source.now) × (length source.now ≤ most_bytes) }
-    ensures { Finds (take 2 (drop at source.now)) two_byte_tokens result }
+    ensures { FindsKind (take 2 (drop at source.now)) two_byte_tokens result }
 {
     let pair = source.get(at..at + 2)?;
     find_kind(pair, two_byte())

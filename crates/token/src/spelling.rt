@@ -2,7 +2,7 @@
 ghost use Rattle.std.specs.Prelude.{◌≡◌, map};
 ghost use Rattle.token.specs.Bytes.{fold, same};
 ghost use Rattle.token.specs.Lexeme.{keywords, two_byte_tokens};
-ghost use Rattle.token.specs.Promises.Promises.{spellings, spelled_of, of_length, Groups, Finds};
+ghost use Rattle.token.specs.Promises.Promises.{spellings, spelled_of, of_length, Groups, FindsKind};
 
 use crate::kind;
 use std::ops::Range;
@@ -92,7 +92,7 @@ fn spells(word: &[u8], letters: &[u8]) -> bool
 
 // The kind of a word in a table, letter case aside.
 pub fn find_kind(word: &[u8], table: &[Fixed]) -> Option<u32>
-    ensures { Finds (map fold word.now) (spelled_of table.now) result }
+    ensures { FindsKind (map fold word.now) (spelled_of table.now) result }
 {
     for &(letters, kind) in table {
         if spells(word, letters) {

@@ -1,7 +1,7 @@
 // A grid that is read from a text: whole numbers, with blanks and line breaks between them.
 ghost use Rattle.std.specs.Prelude.{◌≡◌, ◌≤◌, length, IfOk};
 
-use crate::arguments::{Refusal, refuse};
+use crate::arguments::{Argument, Refusal, refuse};
 use crate::numbers::Number;
 use crate::rooms::ROOM;
 use crate::texts::{Source, fail, open_input};
@@ -141,4 +141,19 @@ pub fn read_grid(
 {
     let mut file = open_input(rt, path)?;
     read_parts(rt, &mut file, name, grid)
+}
+
+// Puts the entries of the grid that an argument names at the start of a row, as `read_grid` does.
+#[inline(never)]
+pub fn grid_argument(
+    rt: &HostRuntime,
+    argument: Argument,
+    name: &str,
+    grid: &mut [i32],
+) -> Result<usize, Refusal>
+    ensures length { length grid.new ≡ length grid.old }
+    ensures ok { IfOk result (λ n. n ≤ length grid.new) }
+{
+    let mut path = io::buffer();
+    read_grid(rt, argument.read(rt, &mut path), name, grid)
 }

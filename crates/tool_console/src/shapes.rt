@@ -1,12 +1,42 @@
 // The shape of a grid: its sizes, as `8x8`.
+ghost use Rattle.std.specs.Prelude.{◌≡◌, ◌≤◌, length, min};
+
 use crate::arguments::{Refusal, refuse, word};
 use crate::numbers::Number;
 use crate::rooms::ROOM;
-use arrayvec::ArrayVec;
 use value::limits::MOST_DIMS;
 
 // The sizes of a grid, one for each dimension.
-pub type Sizes = ArrayVec<u32, MOST_DIMS>;
+#[derive(Clone, Copy, Debug, PartialEq, Eq)]
+pub struct Sizes {
+    sizes: [u32; MOST_DIMS],
+    dims: usize,
+}
+
+impl Sizes {
+    // No sizes yet.
+    fn new() -> Sizes {
+        Sizes {
+            sizes: [0; MOST_DIMS],
+            dims: 0,
+        }
+    }
+
+    // Adds a size, if there are not as many as a grid may have.
+    fn push(&mut self, size: u32) -> Option<()> {
+        *self.sizes.get_mut(self.dims)? = size;
+        self.dims += 1;
+        Some(())
+    }
+
+    // The sizes in their order.
+    pub fn as_slice(&self) -> &[u32]
+        ensures most { length result.now ≤ 3 }
+        ensures count { length result.now ≡ min self.now.dims 3 }
+    {
+        &self.sizes[..self.dims.min(MOST_DIMS)]
+    }
+}
 
 // The size that a text is: digits alone.
 fn size_in(text: &[u8]) -> Option<u32> {
@@ -22,7 +52,7 @@ fn size_in(text: &[u8]) -> Option<u32> {
 fn sizes_in(text: &[u8]) -> Option<Sizes> {
     let mut sizes = Sizes::new();
     for part in text.split(|b| *b == b'x') {
-        sizes.try_push(size_in(part)?).ok()?;
+        sizes.push(size_in(part)?)?;
     }
     Some(sizes)
 }

@@ -49,9 +49,8 @@ fn replies(rt: HostRuntime) -> Result<(), Fail> {
     Ok(())
 }
 
-// What asks for memory gets it.
+// The arguments need no memory, and the program's own name is there.
 #[test]
-fn memory(rt: HostRuntime) -> Result<(), Fail> {
-    assert!(rt; !arguments(&rt)?.is_empty());
-    Ok(())
+fn memory(rt: HostRuntime) {
+    assert!(rt; !arguments(&rt).as_slice().is_empty());
 }

@@ -48,7 +48,8 @@ impl Write for Target {
     }
 }
 
-// Writes to standard output. What cannot be written there is let go.
+// Writes to standard output. What cannot be written there is let go. It is not inlined, so that one caller has no more than one buffer for text on the stack.
+#[inline(never)]
 pub fn say<D: Display + Drop>(rt: &HostRuntime, value: D) {
     let _ = rt.print(value);
 }
@@ -59,6 +60,7 @@ pub fn say_bytes(rt: &HostRuntime, bytes: &[u8]) {
 }
 
 // Writes to standard error.
+#[inline(never)]
 pub fn complain<D: Display + Drop>(rt: &HostRuntime, value: D) {
     let _ = rt.eprint(value);
 }

@@ -48,6 +48,7 @@ pub fn can_be_held(sizes: &[u32], entries: usize, held: u32) -> bool {
 }
 
 // How many rows a band of one row needs with its border rows.
+#[inline(never)]
 fn rows_needed(request: Request<'_>, words: &mut [u32]) -> u64 {
     let list = spelling::BUILT_IN;
     let mut names = [0u32; NAME_WORDS];
@@ -118,7 +119,8 @@ fn without_plan() -> Report {
     }
 }
 
-// A run under a plan, with as much of a room as the rows have that can be held.
+// A run under a plan, with as much of a room as the rows have that can be held. It is not inlined: the room is on the stack only while it runs.
+#[inline(never)]
 fn run_in_room(
     request: Request<'_>,
     words: &mut [u32],

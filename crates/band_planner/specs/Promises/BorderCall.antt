@@ -12,12 +12,14 @@ abbrev pub borders_in : Result Border Refusal → Borders
 borders_in (Ok b) = record { number = 0; place = 0; before = b.before; behind = b.behind }
 borders_in (Err e) = no_borders e.number e.place
 
--- `borders_listed`: the reply to a source, and what is left, whether or not the rooms fit
+-- `borders_listed`: the reply to a source, 0 for `Ok` alone, and what is left, whether or not the rooms fit
 pub record BordersSource (fit : Bool) (source sizes words names : List ℕ) (r : Result Border Refusal) (words' names' : List ℕ) : Type 0 where
   pub reply : borders_in r ≡ borders_source fit source sizes
+  pub refuses : (e : Refusal) → r ≡ Err e → e.number ≡ 0 → ⊥
   pub words_are : words' ≡ words_after fit source words
   pub names_are : names' ≡ names_after fit source names
 
--- `borders_of`: the reply, and the memory that it leaves, are those of the definition
+-- `borders_of`: the reply, 0 for `Ok` alone, and the memory that it leaves, are those of the definition
 pub record BordersLeaves {N : Type 0} (form : NameForm N) (l : SourceLent N) (sizes : List ℕ) (r : Result Border Refusal) (words : List ℕ) (names : List N) : Type 0 where
   pub is : record { answer = borders_in r; words = words; names = names } ≡ borders_left form l sizes
+  pub refuses : (e : Refusal) → r ≡ Err e → e.number ≡ 0 → ⊥

@@ -10,15 +10,17 @@ use Rattle.run_admission.specs.Promises.Admitting.{refusal_told}
 use Rattle.band_meaning.specs.Plans as plans
 use Rattle.band_meaning.specs.PlanCalls.{check_plan_source, plan_check_left, planned_source, planner_left}
 
--- `check_listed`: the reply to a source, and what is left, whether or not the rooms fit
+-- `check_listed`: the reply to a source, 0 for `Ok` alone, and what is left, whether or not the rooms fit
 pub record ChecksSource (fit : Bool) (source sizes : List ℕ) (held : ℕ) (plan words names : List ℕ) (r : Result (Unit {0}) Refusal) (words' names' : List ℕ) : Type 0 where
   pub reply : refusal_told r ≡ check_plan_source fit source sizes held plan
+  pub refuses : (e : Refusal) → r ≡ Err e → e.number ≡ 0 → ⊥
   pub words_are : words' ≡ words_after fit source words
   pub names_are : names' ≡ names_after fit source names
 
--- `check_plan`: the reply, and the memory that it leaves, are those of the definition
+-- `check_plan`: the reply, 0 for `Ok` alone, and the memory that it leaves, are those of the definition
 pub record CheckLeaves {N : Type 0} (form : NameForm N) (l : SourceLent N) (sizes : List ℕ) (held : ℕ) (plan : List ℕ) (r : Result (Unit {0}) Refusal) (words : List ℕ) (names : List N) : Type 0 where
   pub is : record { answer = refusal_told r; words = words; names = names } ≡ plan_check_left form l sizes held plan
+  pub refuses : (e : Refusal) → r ≡ Err e → e.number ≡ 0 → ⊥
 
 -- the numbers that the planner's result gives, with the room
 abbrev pub planned_of : Result ℕ Refusal → List ℕ → plans.Planned

@@ -7,8 +7,8 @@ use Rattle.band_meaning.specs.Plans.{band, put_plan}
 use Rattle.band_planner.specs.declared.plans.Band.{Band}
 
 -- a band by its rows
-abbrev pub band_of : Band → automaton.Band
-band_of b = band b.first b.last
+abbrev pub band_told : Band → automaton.Band
+band_told b = band b.first b.last
 
 -- `band_fits`: a band begins at a row, is not empty, and can be held with its border rows
 abbrev pub band_runs : automaton.Band → ℕ → Bound → ℕ → Bool

@@ -53,27 +53,27 @@ pub record SiteReady (leaves words sizes point : List ℕ) (grid : List ℤ) (si
 -- ---- answers
 
 -- what an evaluator returns: a value with the position past the expression, or a fault with its place
-abbrev pub Told : Type 0
-Told = Result Evaluated Refusal
+abbrev pub EvaluationResult : Type 0
+EvaluationResult = Result Evaluated Refusal
 
-abbrev pub Found : Value → ℕ → Told
-Found v next = Ok (record { value = v; next = next })
+abbrev pub EvaluatedTo : Value → ℕ → EvaluationResult
+EvaluatedTo v next = Ok (record { value = v; next = next })
 
-abbrev pub Failed : ℕ → ℕ → Told
+abbrev pub Failed : ℕ → ℕ → EvaluationResult
 Failed number place = Err (refusal number place)
 
 -- what a short way finds, which may be left: where it is, a fault that says nothing
-abbrev pub short : Option Evaluated → Told
+abbrev pub short : Option Evaluated → EvaluationResult
 short (Some e) = Ok e
 short None = Failed 0 0
 
 -- an evaluator's answer, by the outcome
-abbrev pub told_of : Outcome ℤ → ℕ → Told
-told_of (result z) next = Found (value z) next
+abbrev pub told_of : Outcome ℤ → ℕ → EvaluationResult
+told_of (result z) next = EvaluatedTo (value z) next
 told_of (fault number place) next = Failed number place
 
 -- an answer's position lies past `at` and not past the last token
-abbrev pub OperandOnward : ℕ → ℕ → Told → Type 0
+abbrev pub OperandOnward : ℕ → ℕ → EvaluationResult → Type 0
 OperandOnward at n (Ok e) = (at < e.next) × (e.next ≤ n)
 OperandOnward at n (Err f) = Unit {0}
 
@@ -82,52 +82,52 @@ abbrev pub primary_from : ℕ → ℕ → ℕ
 primary_from k at = if is_unary k then at + 1 else at
 
 -- r is what the expression of operators of a level or tighter is worth that stands at a position, whichever it is
-pub record EvalsExpression (t : Table) (env : Env) (vars vs : List ℤ) (n at level : ℕ) (r : Told) : Type 0 where
+pub record EvalsExpression (t : Table) (env : Env) (vars vs : List ℤ) (n at level : ℕ) (r : EvaluationResult) : Type 0 where
   pub says : (fuel : ℕ) (e : Expr) (next : ℕ) → decode_expression fuel t level at ≡ parsed e next → r ≡ told_of (eval env vars vs e) next
   pub onward : OperandOnward at n r
 
-pub record EvalsOperand (t : Table) (env : Env) (vars vs : List ℤ) (n at : ℕ) (r : Told) : Type 0 where
+pub record EvalsOperand (t : Table) (env : Env) (vars vs : List ℤ) (n at : ℕ) (r : EvaluationResult) : Type 0 where
   pub says : (fuel : ℕ) (e : Expr) (next : ℕ) → decode_operand fuel t at ≡ parsed e next → r ≡ told_of (eval env vars vs e) next
   pub onward : OperandOnward at n r
 
-pub record EvalsPrimary (t : Table) (env : Env) (vars vs : List ℤ) (n at : ℕ) (r : Told) : Type 0 where
+pub record EvalsPrimary (t : Table) (env : Env) (vars vs : List ℤ) (n at : ℕ) (r : EvaluationResult) : Type 0 where
   pub says : (fuel : ℕ) (e : Expr) (next : ℕ) → decode_primary fuel t at ≡ parsed e next → r ≡ told_of (eval env vars vs e) next
   pub onward : OperandOnward at n r
 
 -- a name in use, but for that of an array constant
-pub record EvalsName (t : Table) (env : Env) (vars vs : List ℤ) (n at : ℕ) (r : Told) : Type 0 where
+pub record EvalsName (t : Table) (env : Env) (vars vs : List ℤ) (n at : ℕ) (r : EvaluationResult) : Type 0 where
   pub says : (t.word2 at ≡ refers.array → ⊥) → (fuel : ℕ) (e : Expr) (next : ℕ) → decode_name fuel t at ≡ parsed e next → r ≡ told_of (eval env vars vs e) next
   pub onward : OperandOnward at n r
 
 -- a primary, but for names and parentheses
-pub record EvalsPlain (t : Table) (env : Env) (vars vs : List ℤ) (n at : ℕ) (r : Told) : Type 0 where
+pub record EvalsPlain (t : Table) (env : Env) (vars vs : List ℤ) (n at : ℕ) (r : EvaluationResult) : Type 0 where
   pub says : (t.kind at ≡ kind.name → ⊥) → (t.kind at ≡ delimiter.paren → ⊥)
       → (fuel : ℕ) (e : Expr) (next : ℕ) → decode_primary fuel t at ≡ parsed e next → r ≡ told_of (eval env vars vs e) next
   pub onward : OperandOnward at n r
 
-pub record EvalsBracket (t : Table) (env : Env) (vars vs : List ℤ) (n at close : ℕ) (r : Told) : Type 0 where
+pub record EvalsBracket (t : Table) (env : Env) (vars vs : List ℤ) (n at close : ℕ) (r : EvaluationResult) : Type 0 where
   pub says : (fuel : ℕ) (e : Expr) (next : ℕ) → decode_bracket fuel t close at ≡ parsed e next → r ≡ told_of (eval env vars vs e) next
   pub onward : OperandOnward at n r
 
 -- ---- the short ways, which may be left
 
 -- a value that is found is that of the operand at a position
-pub record Leaf (t : Table) (env : Env) (vars vs : List ℤ) (n at : ℕ) (r : Told) : Type 0 where
-  pub found : (v : Value) (next : ℕ) → r ≡ Found v next → EvalsOperand t env vars vs n at r
+pub record Leaf (t : Table) (env : Env) (vars vs : List ℤ) (n at : ℕ) (r : EvaluationResult) : Type 0 where
+  pub found : (v : Value) (next : ℕ) → r ≡ EvaluatedTo v next → EvalsOperand t env vars vs n at r
   -- where no parentheses and no array constant stand there, it is the primary
   pub only : (t.kind at ≡ delimiter.paren → ⊥) → (t.kind at ≡ kind.name → t.word2 at ≡ refers.array → ⊥) → EvalsPrimary t env vars vs n at r
 
 -- a value that is found is that of a leaf; else nothing is said
-pub record OperandNoted (t : Table) (env : Env) (vars vs : List ℤ) (n at : ℕ) (r : Told) : Type 0 where
-  pub found : (v : Value) (next : ℕ) → r ≡ Found v next → Leaf t env vars vs n at r
+pub record OperandNoted (t : Table) (env : Env) (vars vs : List ℤ) (n at : ℕ) (r : EvaluationResult) : Type 0 where
+  pub found : (v : Value) (next : ℕ) → r ≡ EvaluatedTo v next → Leaf t env vars vs n at r
 
 -- a value that is found is that of the expression at a position
-pub record Quick (t : Table) (env : Env) (vars vs : List ℤ) (n at level : ℕ) (r : Told) : Type 0 where
-  pub found : (v : Value) (next : ℕ) → r ≡ Found v next → EvalsExpression t env vars vs n at level r
+pub record Quick (t : Table) (env : Env) (vars vs : List ℤ) (n at level : ℕ) (r : EvaluationResult) : Type 0 where
+  pub found : (v : Value) (next : ℕ) → r ≡ EvaluatedTo v next → EvalsExpression t env vars vs n at level r
   -- of operators tighter than all there are, it is the primary, where no parentheses and no array constant stand there
   pub only : level ≡ 5 → (t.kind at ≡ delimiter.paren → ⊥) → (t.kind at ≡ kind.name → t.word2 at ≡ refers.array → ⊥) → EvalsPrimary t env vars vs n at r
 
 -- a value is joined by an operator with the one before it; or is alone, where the operator is 0
-pub record Joins (place op : ℕ) (a : ℤ) (b : Value) (next : ℕ) (r : Told) : Type 0 where
-  pub alone : op ≡ 0 → r ≡ Found b next
+pub record Joins (place op : ℕ) (a : ℤ) (b : Value) (next : ℕ) (r : EvaluationResult) : Type 0 where
+  pub alone : op ≡ 0 → r ≡ EvaluatedTo b next
   pub applied : (op ≡ 0 → ⊥) → r ≡ told_of (placed place (apply_binary op a b.n)) next

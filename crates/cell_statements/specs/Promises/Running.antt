@@ -58,14 +58,14 @@ ConditionAt t none at = t.word2 at ≡ 0
 ConditionAt t (some e) at = (past : ℕ) × (t.word2 at ≡ 0 → ⊥) × ExprAt t e (t.inner at) past
 
 -- what is found of a condition: whether it holds, or a fault
-abbrev pub Verdict : Type 0
-Verdict = Result Bool Refusal
+abbrev pub ConditionResult : Type 0
+ConditionResult = Result Bool Refusal
 
-abbrev pub guarded : Verdict → Step.Outcome Bool
+abbrev pub guarded : ConditionResult → Step.Outcome Bool
 guarded (Ok holds) = Step.result holds
 guarded (Err f) = Step.fault f.number f.place
 
-pub record Guards (t : Table) (env : Env) (vs : List ℤ) (here : ℕ) (vars : List ℤ) (r : Verdict) : Type 0 where
+pub record Guards (t : Table) (env : Env) (vs : List ℤ) (here : ℕ) (vars : List ℤ) (r : ConditionResult) : Type 0 where
   pub says : (o : Option Expr) → ConditionAt t o here → met env vars vs o ≡ guarded r
   pub asked : r ≡ Ok false → t.word2 here ≡ 0 → ⊥
 
@@ -140,14 +140,14 @@ pub record Fit (leaves words : List ℕ) (rule : Rule) (sizes point : List ℕ) 
   pub noted : Leaves leaves words sizes rule.tokens rule.fields rule.slots
 
 -- the outcome of a cell whose next fields are left in `next`
-abbrev pub Outcome : Type 0
-Outcome = Result (Unit {0}) Refusal
+abbrev pub CellResult : Type 0
+CellResult = Result (Unit {0}) Refusal
 
-abbrev pub outcome_is : Outcome → List ℤ → Step.Outcome (List ℤ)
+abbrev pub outcome_is : CellResult → List ℤ → Step.Outcome (List ℤ)
 outcome_is (Ok done) next = Step.result next
 outcome_is (Err f) next = Step.fault f.number f.place
 
 -- whichever program stands in the table, the outcome is what its evaluation gives
-pub record Evaluates (words : List ℕ) (rule : Rule) (sizes : List ℕ) (cell : ℕ) (grid next : List ℤ) (time : ℕ) (r : Outcome) : Type 0 where
+pub record Evaluates (words : List ℕ) (rule : Rule) (sizes : List ℕ) (cell : ℕ) (grid next : List ℤ) (time : ℕ) (r : CellResult) : Type 0 where
   pub says : (p : Program) → Holds words rule p
       → outcome_is r next ≡ evaluate p (λ ds. cell_of rule.fields grid (neighbour sizes cell ds)) time

@@ -3,7 +3,6 @@ ghost use Rattle.cellang.specs.Promises.Told.{TellsComparison};
 
 use api_comparison::compare;
 use api_entries::put_comparison;
-use program::reply::Reason;
 
 // Lists the entries in which two grids differ, as `compare` does, and returns the reply's number. Writes number and total to `reply`.
 pub fn cellang_compare(
@@ -17,7 +16,7 @@ pub fn cellang_compare(
 {
     let (number, total) = match compare(left, right, k, room) {
         Ok(total) => (0, total),
-        Err(_) => (Reason::GridLength.number(), 0),
+        Err(refusal) => (refusal.number(), 0),
     };
     put_comparison(reply, number, total);
     number

@@ -7,7 +7,7 @@ use Rattle.list_meaning.specs.Lines.{Said, bad, indices, cell_of_index, said_in}
 use Rattle.list_meaning.specs.ListChecking.{Limits, time_number, line_number, time_behind, Verdict, verdict, check_list}
 use Rattle.program.specs.Reason.{reason_number}
 use Rattle.program.specs.declared.reply.Reason.{Reason}
-use Rattle.list_reader.specs.Promises.Values.{told}
+use Rattle.list_reader.specs.Promises.Values.{reason_told}
 use Rattle.list_reader.specs.declared.checking.ListRefusal.{ListRefusal}
 
 -- the limits of a run, with its flag told by a number: a number behind the last field is no flag (`told_check` of the lists)
@@ -23,7 +23,7 @@ time_before (Some t) = some t
 
 -- r says what there is to say of a time
 pub record ChecksTime (first last : ℕ) (before : Optional ℕ) (t : ℕ) (r : Result (Unit {0}) Reason) : Type 0 where
-  pub is : (q : Limits) → q.first ≡ first → q.last ≡ last → told r ≡ time_number q (time_before before) t
+  pub is : (q : Limits) → q.first ≡ first → q.last ≡ last → reason_told r ≡ time_number q (time_before before) t
 
 -- ---- a cell
 
@@ -34,7 +34,7 @@ cell_said (some ps) = cell_of_index (indices ps)
 
 -- r says what there is to say of a cell's line behind some time, which stands in `line` from behind its `[` on
 pub record ChecksCell (sizes : List ℕ) (fields : List Range) (flag : ℕ) (line : List ℕ) (r : Result (Unit {0}) Reason) : Type 0 where
-  pub is : (q : Limits) (t : ℕ) → q.sizes ≡ sizes → q.fields ≡ fields → q.flag ≡ some flag → told r ≡ line_number q (some t) (cell_said (pieces 0 line))
+  pub is : (q : Limits) (t : ℕ) → q.sizes ≡ sizes → q.fields ≡ fields → q.flag ≡ some flag → reason_told r ≡ line_number q (some t) (cell_said (pieces 0 line))
 
 -- ---- a line
 

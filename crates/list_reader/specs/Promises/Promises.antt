@@ -60,27 +60,27 @@ NoSign (some (literal n ∷ ps)) = Unit {0}
 NoSign (some (sign b ∷ ps)) = ⊥
 
 -- a number that was read, and the rest of the line after it
-abbrev pub Read : Type 0
-Read = ℕ × Bor (List ℕ)
+abbrev pub NumberRead : Type 0
+NumberRead = ℕ × Bor (List ℕ)
 
-abbrev pub ReadOnward : List ℕ → Optional Read → Type 0
+abbrev pub ReadOnward : List ℕ → Optional NumberRead → Type 0
 ReadOnward line None = Unit {0}
 ReadOnward line (Some r) = (length r.1.now < length line) × IsEnd line r.1.now
 
-abbrev pub LiteralFirst : Option (List Piece) → Optional Read → Type 0
+abbrev pub LiteralFirst : Option (List Piece) → Optional NumberRead → Type 0
 LiteralFirst o None = NoLiteral o
 LiteralFirst o (Some r) = (o ≡ with_piece (literal r.0) (pieces 0 r.1.now)) × (r.0 < too_large)
 
-abbrev pub SignFirst : Option (List Piece) → Optional Read → Type 0
+abbrev pub SignFirst : Option (List Piece) → Optional NumberRead → Type 0
 SignFirst o None = NoSign o
 SignFirst o (Some r) = o ≡ with_piece (sign r.0) (pieces 0 r.1.now)
 
 -- r is the literal that leads the tokens of a line
-pub record ReadsLiteral (line : List ℕ) (r : Optional Read) : Type 0 where
+pub record ReadsLiteral (line : List ℕ) (r : Optional NumberRead) : Type 0 where
   pub is : LiteralFirst (pieces 0 line) r
   pub onward : ReadOnward line r
 
 -- r is the single byte that leads the tokens of a line
-pub record ReadsSign (line : List ℕ) (r : Optional Read) : Type 0 where
+pub record ReadsSign (line : List ℕ) (r : Optional NumberRead) : Type 0 where
   pub is : SignFirst (pieces 0 line) r
   pub onward : ReadOnward line r

@@ -94,10 +94,10 @@ pub record StillKept (flag k : ℕ) (v : Optional Value) (kept r : Bool) : Type 
 abbrev pub count_number : ℕ → ℕ → Bool → Bool → ℕ
 count_number fields count fit kept = if ltb fields count then 52 else if not fit then 53 else if not kept then 58 else 0
 
--- the number of what is told: 0 where nothing is refused
-abbrev pub told : Result (Unit {0}) Reason → ℕ
-told (Ok a) = 0
-told (Err e) = reason_number e
+-- the number of a reason that is told: 0 where nothing is refused
+abbrev pub reason_told : Result (Unit {0}) Reason → ℕ
+reason_told (Ok a) = 0
+reason_told (Err e) = reason_number e
 
 -- the number of the values of a line: 50 where they cannot be read
 abbrev pub values_told : ℕ → Optional Values → ℕ

@@ -1,25 +1,18 @@
--- The flag of a source in the profile, and the answer.
-use Rattle.std.specs.Prelude.{◌≡◌, Bool, List, ℕ, Result, Ok, Err}
+-- What the functions promise of the flag of a source in the profile, of the first rule that it misses, and of the whole check.
+use Rattle.std.specs.Prelude.{◌≡◌, Bool, List, ℕ, Result}
 use Rattle.program.specs.declared.Rule.{Rule}
 use Rattle.grammar.specs.Source.{Accepted}
 use Rattle.grammar.specs.Checking.{words_after}
 use Rattle.grammar.specs.Promises.Flat.{names_after}
-use Rattle.move_meaning.specs.Profile.{flag_field, profile_flag, rule_missed, Answer, missed, one_move}
+use Rattle.move_meaning.specs.Profile.{flag_field, profile_flag, rule_missed, missed, one_move}
 use Rattle.move_meaning.specs.Promises.Flags.{flag_told}
 use Rattle.move_profile.specs.declared.Missed.{Missed}
-use Rattle.move_profile.specs.declared.Missed.TheVariants.{Refused, NoFlag, OtherStatements}
 use Rattle.move_profile.specs.Promises.Standing.{Stood}
+use Rattle.move_profile.specs.Promises.Public.{answer_told}
 
 -- the flag of an accepted source: its field's number, or the number of fields for none
 pub record FlagOf (source words names : List ℕ) (rule : Rule) (r : ℕ) : Type 0 where
   pub is : (a : Accepted) → Stood source words names rule a → r ≡ flag_told rule.fields (profile_flag source a)
-
--- the answer, as numbers
-abbrev pub answer_told : Result (Unit {0}) Missed → Answer
-answer_told (Ok a) = missed 0 0 0
-answer_told (Err (Refused r)) = missed 1 r.number r.place
-answer_told (Err NoFlag) = missed 2 0 0
-answer_told (Err OtherStatements) = missed 3 0 0
 
 -- the first rule that an accepted source misses
 pub record RuleMissed (source words names : List ℕ) (rule : Rule) (r : Result (Unit {0}) Missed) : Type 0 where

@@ -15,18 +15,18 @@ pub record Matches (source names : List ℕ) (slot : ℕ) (fields : Bool) (start
   pub is : r ≡ match_of source fields start n (entry_at names slot)
 
 -- the slot of a name, or that there is none
-abbrev pub Found : Type 0
-Found = rust.Option ℕ
+abbrev pub SlotFound : Type 0
+SlotFound = rust.Option ℕ
 
-abbrev pub found_of : Option ℕ → Found
+abbrev pub found_of : Option ℕ → SlotFound
 found_of (some slot) = Some slot
 found_of none = None
 
-abbrev pub Below : ℕ → Found → Type 0
+abbrev pub Below : ℕ → SlotFound → Type 0
 Below n (Some slot) = slot < n
 Below n None = Unit {0}
 
 -- the slot of the name, which is one of the list's, or that there is none
-pub record Finds (source names : List ℕ) (count : ℕ) (fields : Bool) (start n : ℕ) (r : Found) : Type 0 where
+pub record Finds (source names : List ℕ) (count : ℕ) (fields : Bool) (start n : ℕ) (r : SlotFound) : Type 0 where
   pub is : r ≡ found_of (find_name source names count fields start n)
   pub below : Below count r

@@ -64,20 +64,19 @@ pub read_bracket-returns-in_default : goal.read_bracket-returns-in_default
 read_bracket-returns-in_default t c =
     let y = c.refuse.ensures in record { gives = closed c.args.inside c.opened.ensures _ c.in_default.is y; onward = nowhere y }
 
-pub read_bracket-returns-in_err-a : goal.read_bracket-returns-in_err-a
+pub read_bracket-returns-in_default-r : goal.read_bracket-returns-in_default-r
 unfolding grammar.read_bracket
-read_bracket-returns-in_err-a t c =
-    let e = c.in_err-a.was in
-    rw (passed c.from_residual.ensures.1 e)
-    record { gives = off _ (entered c.args.inside c.opened.ensures c.in-Some.is c.moved.ensures (c.read_expression.ensures.gives 4 (omega arith))) e; onward = nowhere e }
+read_bracket-returns-in_default-r t c =
+    let e = c.in_default-r.is in
+    record { gives = off _ (entered c.args.inside c.opened.ensures c.in-Some.is c.moved.ensures (c.read_expression-r.ensures.gives 4 (omega arith))) e; onward = nowhere e }
 
 pub read_bracket-returns : goal.read_bracket-returns
 unfolding grammar.read_bracket
 read_bracket-returns t c =
     let m = c.moved.ensures in
-    let w = went c.read_expression.ensures.onward c.in_ok-a.was in
+    let w = went c.read_expression-r.ensures.onward c.in-Ok.is in
     record {
-      gives = on _ (entered c.args.inside c.opened.ensures c.in-Some.is m (c.read_expression.ensures.gives 4 (omega arith))) c.in_ok-a.was (λ _ _. made _ (c.expect.ensures.gives _ _) (λ _ _ _. tt));
+      gives = on _ (entered c.args.inside c.opened.ensures c.in-Some.is m (c.read_expression-r.ensures.gives 4 (omega arith))) c.in-Ok.is (λ _ _. made _ (c.expect.ensures.gives _ _) (λ _ _ _. tt));
       onward = further c.expect.ensures.onward (omega (arith, m.at, w.past)) (omega (arith, m.count, w.few));
     }
 
@@ -97,38 +96,37 @@ read_element-returns t c =
     let w = went read_bracket.ensures.onward c.in_ok-a.was in
     λ e. record { gives = looked _ (stated _ (on _ read_bracket.ensures.gives c.in_ok-a.was (λ _ _. made _ (forbid.ensures.gives _ _) (λ _ _ _. tt)))); onward = further forbid.ensures.onward (omega (arith, w.past)) w.few }
 
-pub read_expression-returns-in_err-a : goal.read_expression-returns-in_err-a
+pub read_expression-returns-in_default : goal.read_expression-returns-in_default
 unfolding climb
-read_expression-returns-in_err-a t c =
-    let read_operand = c.read_operand in
-    let e = c.in_err-a.was in
-    rw (passed c.from_residual.ensures.1 c.in_err-a.was)
+read_expression-returns-in_default t c =
+    let read_operand = c.read_operand-r in
+    let e = c.in_default.is in
     record { gives = climbed _ _ (λ more h. off _ read_operand.ensures.gives e); onward = nowhere e }
 
 pub read_expression-loop-scan-init : goal.read_expression-loop-scan-init
 read_expression-loop-scan-init t c =
-    let read_operand = c.read_operand in
-    let w = went read_operand.ensures.onward c.in_ok-a.was in
+    let read_operand = c.read_operand-r in
+    let w = went read_operand.ensures.onward c.in-Ok.is in
     (λ more h e. turn_first (left_part e 0) refl, read_operand.auto.words ∙ c.requires.0.table, omega arith, w.within, omega arith)
 
 pub read_expression-returns-then-own-level : goal.read_expression-returns-then-own-level
 unfolding climb
 read_expression-returns-then-own-level t c =
-    let read_operand = c.read_operand in
+    let read_operand = c.read_operand-r in
     let loop = c.loop-scan in
     let token_at = c.token_at-t in
     let level_of = c.level_of-own in
     let if1 = c.if-own-level in
-    let w = went read_operand.ensures.onward c.in_ok-a.was in
+    let w = went read_operand.ensures.onward c.in-Ok.is in
     record {
-      gives = climbed _ _ (λ more h. on _ read_operand.ensures.gives c.in_ok-a.was (λ e _. turn_done (loop.invariant.0 more h e) (omega (arith, loop.invariant.3, c.requires.0.tokens)) (λ l p. turn_ends _ _ token_at.ensures level_of.ensures l p if1.true)));
+      gives = climbed _ _ (λ more h. on _ read_operand.ensures.gives c.in-Ok.is (λ e _. turn_done (loop.invariant.0 more h e) (omega (arith, loop.invariant.3, c.requires.0.tokens)) (λ l p. turn_ends _ _ token_at.ensures level_of.ensures l p if1.true)));
       onward = goes_on (omega (arith, w.past, loop.invariant.2)) loop.invariant.3 (omega (arith, w.few, loop.invariant.4));
     }
 
 pub read_expression-returns-then-are_relations : goal.read_expression-returns-then-are_relations
 unfolding climb
 read_expression-returns-then-are_relations t c =
-    let read_operand = c.read_operand in
+    let read_operand = c.read_operand-r in
     let loop = c.loop-scan in
     let token_at = c.token_at-t in
     let level_of = c.level_of-own in
@@ -138,7 +136,7 @@ read_expression-returns-then-are_relations t c =
     let refuse = c.refuse in
     let y = refuse.ensures in
     record {
-      gives = climbed _ _ (λ more h. on _ read_operand.ensures.gives c.in_ok-a.was (λ e _. turn_refused (loop.invariant.0 more h e) (omega (arith, loop.invariant.3, c.requires.0.tokens)) (λ l p. turn_clashes _ _ token_at.ensures level_of.ensures l p if1.false are_relations.ensures if2.true y) y));
+      gives = climbed _ _ (λ more h. on _ read_operand.ensures.gives c.in-Ok.is (λ e _. turn_refused (loop.invariant.0 more h e) (omega (arith, loop.invariant.3, c.requires.0.tokens)) (λ l p. turn_clashes _ _ token_at.ensures level_of.ensures l p if1.false are_relations.ensures if2.true y) y));
       onward = nowhere y;
     }
 
@@ -155,23 +153,23 @@ read_expression-overflow_add-own t c =
     let level_of = c.level_of-own in
     omega (arith, level_few token_at.result.kind, level_of.ensures)
 
-pub read_expression-read_expression-requires : goal.read_expression-read_expression-requires
-read_expression-read_expression-requires t c =
-    let read_operand = c.read_operand in
+pub read_expression-read_expression-q-requires : goal.read_expression-read_expression-q-requires
+read_expression-read_expression-q-requires t c =
+    let read_operand = c.read_operand-r in
     let loop = c.loop-scan in
     let token_at = c.token_at-t in
     let level_of = c.level_of-own in
     let if1 = c.if-own-level in
     let moved = c.moved in
     let i = operator_inside token_at.ensures level_of.ensures (omega (arith, if1.false, c.requires.1)) in
-    let w = went read_operand.ensures.onward c.in_ok-a.was in
+    let w = went read_operand.ensures.onward c.in-Ok.is in
     let m = moved.ensures in
     (omega (arith, c.decreases, w.past, loop.invariant.2, m.at, i), (record { tokens = c.requires.0.tokens; table = loop.invariant.1; list = c.requires.0.list; here = omega (arith, m.at, i); few = omega (arith, m.count, loop.invariant.4, w.few, c.requires.0.few) }, omega arith))
 
-pub read_expression-returns-in_err-b : goal.read_expression-returns-in_err-b
+pub read_expression-returns-in_default-q : goal.read_expression-returns-in_default-q
 unfolding climb
-read_expression-returns-in_err-b t c =
-    let read_operand = c.read_operand in
+read_expression-returns-in_default-q t c =
+    let read_operand = c.read_operand-r in
     let loop = c.loop-scan in
     let token_at = c.token_at-t in
     let level_of = c.level_of-own in
@@ -179,11 +177,10 @@ read_expression-returns-in_err-b t c =
     let are_relations = c.are_relations in
     let if2 = c.if-are_relations in
     let moved = c.moved in
-    let read_expression = c.read_expression in
-    let d = c.in_err-b.was in
-    rw (passed c.from_residual-in_err-b.ensures.1 c.in_err-b.was)
+    let read_expression = c.read_expression-q in
+    let d = c.in_default-q.is in
     record {
-      gives = climbed _ _ (λ more h. on _ read_operand.ensures.gives c.in_ok-a.was (λ e _. turn_refused (loop.invariant.0 more h e) (omega (arith, loop.invariant.3, c.requires.0.tokens)) (λ l p. no_further (turn_right _ _ token_at.ensures level_of.ensures l p if1.false are_relations.ensures if2.false moved.ensures (read_expression.ensures.gives more (omega (arith, h, if1.false)))) d) d));
+      gives = climbed _ _ (λ more h. on _ read_operand.ensures.gives c.in-Ok.is (λ e _. turn_refused (loop.invariant.0 more h e) (omega (arith, loop.invariant.3, c.requires.0.tokens)) (λ l p. no_further (turn_right _ _ token_at.ensures level_of.ensures l p if1.false are_relations.ensures if2.false moved.ensures (read_expression.ensures.gives more (omega (arith, h, if1.false)))) d) d));
       onward = nowhere d;
     }
 
@@ -197,10 +194,10 @@ read_expression-loop-scan-preserved t c =
     let are_relations = c.are_relations in
     let if2 = c.if-are_relations in
     let moved = c.moved in
-    let read_expression = c.read_expression in
-    let w = went read_expression.ensures.onward c.in_ok-b.was in
+    let read_expression = c.read_expression-q in
+    let w = went read_expression.ensures.onward c.in-Ok-q.is in
     let m = moved.ensures in
-    (λ more h e. turn_again (loop.invariant.0 more h e) (omega (arith, loop.invariant.3, c.requires.0.tokens)) (λ l p. went_on (turn_right _ _ token_at.ensures level_of.ensures l p if1.false are_relations.ensures if2.false m (read_expression.ensures.gives more (omega (arith, h, if1.false)))) c.in_ok-b.was) (omega (arith, w.past, m.at)), read_expression.auto.words ∙ loop.invariant.1, omega (arith, w.past, m.at, loop.invariant.2), w.within, omega (arith, w.few, m.count, loop.invariant.4))
+    (λ more h e. turn_again (loop.invariant.0 more h e) (omega (arith, loop.invariant.3, c.requires.0.tokens)) (λ l p. went_on (turn_right _ _ token_at.ensures level_of.ensures l p if1.false are_relations.ensures if2.false m (read_expression.ensures.gives more (omega (arith, h, if1.false)))) c.in-Ok-q.is) (omega (arith, w.past, m.at)), read_expression.auto.words ∙ loop.invariant.1, omega (arith, w.past, m.at, loop.invariant.2), w.within, omega (arith, w.few, m.count, loop.invariant.4))
 
 pub read_operand-returns-then-is_unary : goal.read_operand-returns-then-is_unary
 unfolding grammar.read_operand

@@ -34,8 +34,8 @@ abbrev pub are_relations : ℕ → ℕ → Bool
 are_relations own last = eqb own 2 && eqb last 2
 
 -- whether a token of a kind is a unary operator
-abbrev pub is_unary : ℕ → Bool
-is_unary k = eqb k operation.plus || eqb k operation.minus || eqb k operation.not
+abbrev pub is_unary_token : ℕ → Bool
+is_unary_token k = eqb k operation.plus || eqb k operation.minus || eqb k operation.not
 
 -- an expression of operators of a level or tighter: `more` levels may be entered, enough for the levels from this one on
 pub record Climbs (inside : Inside) (level : ℕ) (source : List ℕ) (scan : Scan) (s : Reading) (ns ws : List ℕ) (r : Read) (ws' : List ℕ) : Type 0 where

@@ -131,37 +131,36 @@ pub read_block-loop-a-init : goal.read_block-loop-a-init
 read_block-loop-a-init t c =
     let z = c.requires in (block_first _ _ _, refl, refl, omega arith, z.here, z.few)
 
-pub read_block-returns-in_err-a : goal.read_block-returns-in_err-a
-read_block-returns-in_err-a t c =
+pub read_block-returns-in_default : goal.read_block-returns-in_default
+read_block-returns-in_default t c =
     let loop = c.loop-a in
-    let read-statement = c.read_statement in
+    let read-statement = c.read_statement-r in
     let v = loop.invariant in
-    rw (passed c.from_residual.ensures.1 c.in_err-a.was)
     record {
-      gives = turn_refused v.0 (omega (arith, v.4, c.requires.tokens)) (λ x p. told_as (read-statement.ensures.gives x p) (λ _ _ _. tt)) c.in_err-a.was;
-      onward = nowhere c.in_err-a.was;
+      gives = turn_refused v.0 (omega (arith, v.4, c.requires.tokens)) (λ x p. told_as (read-statement.ensures.gives x p) (λ _ _ _. tt)) c.in_default.is;
+      onward = nowhere c.in_default.is;
     }
 
 pub read_block-returns-then-a-here : goal.read_block-returns-then-a-here
 read_block-returns-then-a-here t c =
     let loop = c.loop-a in
-    let read-statement = c.read_statement in
+    let read-statement = c.read_statement-r in
     let if1 = c.if-a-here in
     let v = loop.invariant in
-    let w = went read-statement.ensures.onward c.in_ok-a.was in
+    let w = went read-statement.ensures.onward c.in-Ok.is in
     record {
-      gives = turn_done v.0 (omega (arith, v.4, c.requires.tokens)) (λ x p. went_done (read-statement.ensures.gives x p) c.in_ok-a.was (λ y q. omega (arith, q, if1.true)));
+      gives = turn_done v.0 (omega (arith, v.4, c.requires.tokens)) (λ x p. went_done (read-statement.ensures.gives x p) c.in-Ok.is (λ y q. omega (arith, q, if1.true)));
       onward = goes_on (omega (arith, w.past, v.3)) w.within w.few;
     }
 
 pub read_block-loop-a-preserved : goal.read_block-loop-a-preserved
 read_block-loop-a-preserved t c =
     let loop = c.loop-a in
-    let read-statement = c.read_statement in
+    let read-statement = c.read_statement-r in
     let if1 = c.if-a-here in
     let v = loop.invariant in
-    let w = went read-statement.ensures.onward c.in_ok-a.was in
-    (turn_again v.0 (omega (arith, v.4, c.requires.tokens)) (λ x p. went_again (read-statement.ensures.gives x p) c.in_ok-a.was if1.false (λ y q. tt)) (omega (arith, w.past, if1.false)), read-statement.auto.names ∙ v.1, read-statement.auto.words ∙ v.2, omega (arith, w.past, v.3), w.within, w.few)
+    let w = went read-statement.ensures.onward c.in-Ok.is in
+    (turn_again v.0 (omega (arith, v.4, c.requires.tokens)) (λ x p. went_again (read-statement.ensures.gives x p) c.in-Ok.is if1.false (λ y q. tt)) (omega (arith, w.past, if1.false)), read-statement.auto.names ∙ v.1, read-statement.auto.words ∙ v.2, omega (arith, w.past, v.3), w.within, w.few)
 
 pub read_forall-returns-in_default : goal.read_forall-returns-in_default
 read_forall-returns-in_default t c =

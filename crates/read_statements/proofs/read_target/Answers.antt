@@ -1,4 +1,3 @@
-use Rattle.read_state.proofs.Going.{passed}
 use Rattle.program.specs.Syntax.{to_field, to_variable}
 use Rattle.read_state.specs.Promises.Reading.{InNumber}
 use Rattle.read_state.proofs.Steps.{on, on_told, off, made, so, other, token, refused, carried}
@@ -30,31 +29,29 @@ returns-then-t-eq-CELL c =
       onward = further field_target.ensures.onward (omega arith) pre.0.few;
     }
 
-pub returns-in_err-a : goal.returns-in_err-a
+pub returns-in_default : goal.returns-in_default
 unfolding read_target
-returns-in_err-a c =
+returns-in_default c =
     let token_at = c.token_at-t in
     let if1 = c.if-t-eq-TIME in
     let if2 = c.if-t-eq-CELL in
-    let variable-target = c.variable_target in
-    rw (passed c.from_residual.ensures.1 c.in_err-a.was)
+    let variable-target = c.variable_target-r in
     record {
-      gives = token _ token_at.ensures (other _ _ (ne_eqb _ _ if1.false) (other _ _ (ne_eqb _ _ if2.false) (off {R = InNumber} _ (off _ variable-target.ensures.gives c.in_err-a.was) c.in_err-a.was)));
-      onward = nowhere c.in_err-a.was;
+      gives = token _ token_at.ensures (other _ _ (ne_eqb _ _ if1.false) (other _ _ (ne_eqb _ _ if2.false) (off {R = InNumber} _ (off _ variable-target.ensures.gives c.in_default.is) c.in_default.is)));
+      onward = nowhere c.in_default.is;
     }
 
-pub returns-in_err-b : goal.returns-in_err-b
+pub returns-in_default-q : goal.returns-in_default-q
 unfolding read_target
-returns-in_err-b c =
+returns-in_default-q c =
     let token_at = c.token_at-t in
     let if1 = c.if-t-eq-TIME in
     let if2 = c.if-t-eq-CELL in
-    let variable-target = c.variable_target in
-    let forbid = c.forbid in
-    rw (passed c.from_residual-in_err-b.ensures.1 c.in_err-b.was)
+    let variable-target = c.variable_target-r in
+    let forbid = c.forbid-q in
     record {
-      gives = token _ token_at.ensures (other _ _ (ne_eqb _ _ if1.false) (other _ _ (ne_eqb _ _ if2.false) (off {R = InNumber} _ (on_told _ variable-target.ensures.gives c.in_ok-a.was (off _ (forbid.ensures.gives _ _) c.in_err-b.was)) c.in_err-b.was)));
-      onward = nowhere c.in_err-b.was;
+      gives = token _ token_at.ensures (other _ _ (ne_eqb _ _ if1.false) (other _ _ (ne_eqb _ _ if2.false) (off {R = InNumber} _ (on_told _ variable-target.ensures.gives c.in-Ok.is (off _ (forbid.ensures.gives _ _) c.in_default-q.is)) c.in_default-q.is)));
+      onward = nowhere c.in_default-q.is;
     }
 
 pub returns : goal.returns
@@ -63,13 +60,13 @@ returns c =
     let token_at = c.token_at-t in
     let if1 = c.if-t-eq-TIME in
     let if2 = c.if-t-eq-CELL in
-    let variable-target = c.variable_target in
-    let forbid = c.forbid in
+    let variable-target = c.variable_target-r in
+    let forbid = c.forbid-q in
     let carrying_number = c.with_number in
-    let v = went variable-target.ensures.onward c.in_ok-a.was in
-    let w = went forbid.ensures.onward c.in_ok-b.was in
+    let v = went variable-target.ensures.onward c.in-Ok.is in
+    let w = went forbid.ensures.onward c.in-Ok-q.is in
     let k = carrying_number.ensures in
     record {
-      gives = token _ token_at.ensures (other _ _ (ne_eqb _ _ if1.false) (other _ _ (ne_eqb _ _ if2.false) (made {R = InNumber} to_variable (on_told _ variable-target.ensures.gives c.in_ok-a.was (on _ (forbid.ensures.gives _ _) c.in_ok-b.was (λ _ _. carried _ k (sym k.number)))) (λ a t p. p))));
+      gives = token _ token_at.ensures (other _ _ (ne_eqb _ _ if1.false) (other _ _ (ne_eqb _ _ if2.false) (made {R = InNumber} to_variable (on_told _ variable-target.ensures.gives c.in-Ok.is (on _ (forbid.ensures.gives _ _) c.in-Ok-q.is (λ _ _. carried _ k (sym k.number)))) (λ a t p. p))));
       onward = goes_on (omega (arith, v.past, w.past, k.at)) (omega (arith, w.within, k.at)) (omega (arith, v.few, w.few, k.count));
     }

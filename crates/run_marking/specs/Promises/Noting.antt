@@ -75,7 +75,7 @@ pub record Boxed (ns firsts counts : List ℕ) (base cells : ℕ) : Type 0 where
   pub few : cells ≤ most_cells
 
 -- a change opens no more coordinates of a dimension than there are
-pub record CountsFit (ns counts : List ℕ) : Type 0 where
+pub record CountsWithin (ns counts : List ℕ) : Type 0 where
   pub each : (k : ℕ) → k < length ns → get_or counts k 0 ≤ get_or ns k 0
 
 -- what is asked of the sizes and of the box

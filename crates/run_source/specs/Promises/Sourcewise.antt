@@ -65,8 +65,8 @@ pub record RunBegun (fit : Bool) (source : List ℕ) (q : Asked) (words : List �
   pub listed : Listed q.request.sizes q.values (nat_abs q.request.start)
 
 -- why a run does not begin: the number and the place of the reply, and its line in the value list
-abbrev pub stopped : ℕ → ℕ → ℕ → Stop
-stopped number place line = record { number = number; place = place; line = line }
+abbrev pub run_stopped : ℕ → ℕ → ℕ → Stop
+run_stopped number place line = record { number = number; place = place; line = line }
 
 -- the report of a run that does not begin
 abbrev pub not_begun : Stop → Report

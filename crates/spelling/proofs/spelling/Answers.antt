@@ -9,7 +9,7 @@ pub returns-then-not-is_built_in : goal.returns-then-not-is_built_in
 returns-then-not-is_built_in c = no_list c.args.source.now c.args.list.now c.args.number c.args.place (sym c.is_built_in.ensures ∙ not-true _ c.if-not-is_built_in.true-raw)
 
 pub slice_bounds-result-end-in-Some-Listed : goal.slice_bounds-result-end-in-Some-Listed
-slice_bounds-result-end-in-Some-Listed c = let h = c.part_at.ensures.in_list _ (c.in-Some-Listed.is ∙ ap Some c.in-Some-Listed.field-0-is) in omega (arith, h.0, h.1, sixteen c.args.source.now c.args.list.now c.args.number c.args.place (sym c.is_built_in.ensures ∙ not-false _ c.if-not-is_built_in.false-raw) c.part_at.ensures)
+slice_bounds-result-end-in-Some-Listed c = let h = c.part_at.ensures.in_list _ _ (c.in-Some-Listed.is ∙ ap Some c.in-Some-Listed.field-0-is) in omega (arith, h.0, h.1, sixteen c.args.source.now c.args.list.now c.args.number c.args.place (sym c.is_built_in.ensures ∙ not-false _ c.if-not-is_built_in.false-raw) c.part_at.ensures)
 
 pub returns-in-Some-Listed : goal.returns-in-Some-Listed
 returns-in-Some-Listed c = listed_part c.args.source.now c.args.list.now c.args.number c.args.place (sym c.is_built_in.ensures ∙ not-false _ c.if-not-is_built_in.false-raw) c.part_at.ensures (c.in-Some-Listed.is ∙ ap Some c.in-Some-Listed.field-0-is)

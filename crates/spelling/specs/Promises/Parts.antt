@@ -1,8 +1,7 @@
 -- The spelling of a reply as bytes, and what the functions promise of it.
-use Rattle.std.specs.Prelude.{◌≡◌, true, false, List, [], ◌∷◌, ℕ, ◌-◌, ◌<◌, ◌≤◌, length, take, drop, if◌then◌else◌, Option, Some, None}
+use Rattle.std.specs.Prelude.{◌≡◌, true, false, List, [], ◌∷◌, ℕ, ◌+◌, ◌<◌, ◌≤◌, length, take, drop, if◌then◌else◌, Option, Some, None}
 use Rattle.value.specs.Limits.{most_bytes}
 use Rattle.token.specs.Lexeme.{is_built_in}
-use Rattle.std.specs.declared.ops.Range.{Range}
 use Rattle.spelling.specs.declared.Part as code
 use Rattle.spelling.specs.declared.Part.TheVariants.{Listed, Source}
 use Rattle.spelling.specs.declared.Told.{Told}
@@ -21,12 +20,12 @@ told_entries t = t.stands ∷ t.start ∷ t.len ∷ []
 
 -- the part that the code has found
 abbrev pub part_of : Option code.Part → Part
-part_of (Some (Listed r)) = part true r.start (r.end - r.start)
-part_of (Some (Source r)) = part false r.start (r.end - r.start)
+part_of (Some (Listed start len)) = part true start len
+part_of (Some (Source start len)) = part false start len
 part_of None = part false 0 0
 
 -- what `part_at` promises: the part, which is not empty and lies within the list or the source
 pub record IsPart (source : List ℕ) (number place : ℕ) (p : Option code.Part) : Type 0 where
   pub is : part_of p ≡ part_at source number place
-  pub in_list : (r : Range ℕ) → p ≡ Some (Listed r) → (r.start < r.end) × (r.end ≤ 16)
-  pub in_source : (r : Range ℕ) → p ≡ Some (Source r) → (r.start < r.end) × (r.end ≤ length source) × (r.end ≤ most_bytes)
+  pub in_list : (start len : ℕ) → p ≡ Some (Listed start len) → (0 < len) × (start + len ≤ 16)
+  pub in_source : (start len : ℕ) → p ≡ Some (Source start len) → (0 < len) × (start + len ≤ length source) × (start + len ≤ most_bytes)

@@ -94,7 +94,7 @@ spelled_of [] = []
 spelled_of (f ∷ fs) = record { letters = f.0.now; kind = f.1 } ∷ spelled_of fs
 
 -- r is the kind of a spelling in a table, none if it is not there
-pub record Finds (w : List ℕ) (table : List Spelled) (r : Option ℕ) : Type 0 where
+pub record FindsKind (w : List ℕ) (table : List Spelled) (r : Option ℕ) : Type 0 where
   pub is : (other : ℕ) → unwrap_or r other ≡ find_kind w table other
 
 -- the numbers of the keywords and predefined names of n letters

@@ -1,4 +1,3 @@
-use Rattle.cell_operands.proofs.LeafLaws.{passed}
 use native.Mathlib.Omega.{arith}
 use mathlib.Core.Path.{sym}
 use Rattle.cell_operands.proofs.TableLaws.{token, link_bounds}
@@ -12,14 +11,14 @@ pub returns-then-condition-n : goal.returns-then-condition-n
 returns-then-condition-n c =
     let inv = c.loop-condition.invariant in
     let settled-ensures = c.evaluated.ensures in
-    choice_then _ _ _ _ _ _ _ inv settled-ensures c.in_ok-condition.was c.is_true.ensures
+    choice_then _ _ _ _ _ _ _ inv settled-ensures c.in-Ok.is c.is_true.ensures
     c.if-is_true.true (rw c.tokens-n.ensures.is at c.if-condition-n.true)
 
 pub returns-then-is_true : goal.returns-then-is_true
 returns-then-is_true c =
     let inv = c.loop-condition.invariant in
     let settled-ensures = c.evaluated.ensures in
-    choice_wrong _ _ _ _ _ _ _ inv settled-ensures c.in_ok-condition.was c.is_true.ensures
+    choice_wrong _ _ _ _ _ _ _ inv settled-ensures c.in-Ok.is c.is_true.ensures
     (λ i e. token _ _ i (sym e) (omega arith)) (rw c.tokens-n.ensures.is at c.if-condition-n.false)
 
 pub overflow_add-result-then-kind-eq-ELSE_WORD : goal.overflow_add-result-then-kind-eq-ELSE_WORD
@@ -32,7 +31,7 @@ returns-then-kind-eq-ELSE_WORD c =
     let settled-ensures = c.evaluated.ensures in
     let link-at-ensures = c.inner-other.ensures in
     let word-at-ensures = c.kind-kind.ensures.is in
-    choice_else _ _ _ _ _ _ _ inv settled-ensures c.in_ok-condition.was c.is_true.ensures
+    choice_else _ _ _ _ _ _ _ inv settled-ensures c.in-Ok.is c.is_true.ensures
     c.if-is_true.false link-at-ensures word-at-ensures c.if-kind-eq-ELSE_WORD.true (link_bounds _ _ _ link-at-ensures inv.within).0
     (token _ _ _ word-at-ensures (omega arith))
 
@@ -41,7 +40,7 @@ returns-then-kind-ne-ELSIF_WORD c =
     let inv = c.loop-condition.invariant in
     let settled-ensures = c.evaluated.ensures in
     let is-true-ensures = c.is_true.ensures in
-    choice_end _ _ _ _ _ _ _ inv settled-ensures c.in_ok-condition.was is-true-ensures c.if-is_true.false
+    choice_end _ _ _ _ _ _ _ inv settled-ensures c.in-Ok.is is-true-ensures c.if-is_true.false
     c.inner-other.ensures c.kind-kind.ensures.is c.if-kind-eq-ELSE_WORD.false c.if-kind-ne-ELSIF_WORD.true
 
 pub loop-condition-smaller : goal.loop-condition-smaller
@@ -56,10 +55,8 @@ loop-condition-preserved c =
     let is-true-ensures = c.is_true.ensures in
     let link-at-ensures = c.inner-other.ensures in
     let word-at-ensures = c.kind-kind.ensures.is in
-    arms_more _ _ _ _ _ _ _ inv settled-ensures c.in_ok-condition.was is-true-ensures c.if-is_true.false link-at-ensures
+    arms_more _ _ _ _ _ _ _ inv settled-ensures c.in-Ok.is is-true-ensures c.if-is_true.false link-at-ensures
     word-at-ensures c.if-kind-ne-ELSIF_WORD.false (link_bounds _ _ _ link-at-ensures inv.within).0 (token _ _ _ word-at-ensures (omega arith))
 
-pub returns-in_err-condition : goal.returns-in_err-condition
-returns-in_err-condition c =
-    let y = c.in_err-condition.was in
-    rw (passed c.from_residual.ensures.1 y) (choice_fault _ _ _ _ _ _ _ c.loop-condition.invariant c.evaluated.ensures y)
+pub returns-in-Err : goal.returns-in-Err
+returns-in-Err c = choice_fault _ _ _ _ _ _ _ c.loop-condition.invariant c.evaluated.ensures c.in-Err.is

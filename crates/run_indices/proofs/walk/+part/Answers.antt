@@ -12,8 +12,8 @@ use Rattle.run_indices.proofs.walk.+part.Goals.{then-opens, else-opens}
 pub opened-inner-requires : goal.opened-inner-requires
 opened-inner-requires t c = opens_deep (eqb (word_in c.args.words.now c.args.rule.tokens 0 c.loop-at.at) 12) c.args.loops.now.depth c.opens.ensures c.if-opens.true
 
-pub part-now-requires : goal.part-now-requires
-part-now-requires t c =
+pub part-requires : goal.part-requires
+part-requires t c =
     let l = c.loop-at in
     let a = c.args in
     let inside : l.at < a.rule.tokens = omega (arith, c.requires.1, c.loop-at-test.true) in
@@ -35,12 +35,12 @@ loop-at-preserved t c =
     let loops = open_loops a.loops.now in
     elim c.if-opens.branch [
       | then-opens w ↦
-          going_loop a.words.now a.rule a.sizes.now loops a.from a.to a.s l.invariant c.requires.1 less c.behind-at.ensures
-          w.now-is (open_length a.loops.now) opens w.if-opens.true (loops_opened a.words.now a.rule loops l.at w.word_at.ensures w.word_at-then-opens.ensures w.opened-inner.ensures) w.link_at-first.ensures
-          w.link_at-past.ensures w.part-now.ensures
+          going_loop a.words.now a.rule a.sizes.now loops a.from a.to a.s.now l.invariant c.requires.1 less c.behind-at.ensures
+          w.s-is (open_length a.loops.now) opens w.if-opens.true (loops_opened a.words.now a.rule loops l.at w.word_at.ensures w.word_at-then-opens.ensures w.opened-inner.ensures) w.link_at-first.ensures
+          w.link_at-past.ensures w.part.ensures
       | else-opens w ↦
-          going_plain a.words.now a.rule a.sizes.now loops a.from a.to a.s l.invariant c.requires.1 less c.behind-at.ensures
-          w.now-is (open_length a.loops.now) opens w.if-opens.false w.index_at-now.ensures
+          going_plain a.words.now a.rule a.sizes.now loops a.from a.to a.s.now l.invariant c.requires.1 less c.behind-at.ensures
+          w.s-is (open_length a.loops.now) opens w.if-opens.false w.index_at.ensures
     ]
 
 pub returns : goal.returns

@@ -7,7 +7,7 @@ abbrev pub decreases-part : goal.decreases-part
 decreases-part l = l.rule.tokens - l.from
 
 abbrev pub invariant-loop-at : goal.invariant-loop-at
-invariant-loop-at l = Going l.words l.rule l.sizes (open_loops l.loops) l.from l.to l.initial.now l.at l.now
+invariant-loop-at l = Going l.words l.rule l.sizes (open_loops l.loops) l.from l.to l.initial.s l.at l.s
 
 abbrev pub decreases-loop-at : goal.decreases-loop-at
 decreases-loop-at l = l.to - l.at

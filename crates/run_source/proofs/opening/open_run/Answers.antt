@@ -2,7 +2,7 @@ use mathlib.Core.Path.{refl, sym, ap, ◌∙◌}
 use borrow.Author.Rules.{rules}
 use Rattle.std.specs.Prelude.{Err}
 use Rattle.program.specs.Refusal.{Refusal}
-use Rattle.run_source.specs.Promises.Sourcewise.{stopped}
+use Rattle.run_source.specs.Promises.Sourcewise.{run_stopped}
 use Rattle.run_loading.proofs.Theorems.SourceLoaded.{accepts}
 use Rattle.run_source.proofs.OpeningLaws as laws
 use Rattle.run_source.proofs.OpeningLaws.{stopped_by, unread, not_admitted, some_sizes, not_counted, flag_ready, list_ready, not_listed, begun, read_opens}
@@ -26,7 +26,7 @@ pub returns-then-not-counts_fit : goal.returns-then-not-counts_fit
 returns-then-not-counts_fit c =
     read_opens c.ranges.start c.ranges.steps
     (not_counted (rw c.in_ok-rule.was at c.load.ensures.checks) (rw c.in_ok-rule.was at c.load.ensures.loads) refl c.admit.ensures c.in_ok-reach.was c.args.counted c.args.field c.args.rows
-    (sym c.counts_fit.ensures ∙ c.if-not-counts_fit.true) (ap Err (c.from.ensures ∙ ap (λ (x : Refusal). stopped x.number x.place 0) c.new.ensures)))
+    (sym c.counts_fit.ensures ∙ c.if-not-counts_fit.true) (ap Err (c.from.ensures ∙ ap (λ (x : Refusal). run_stopped x.number x.place 0) c.new.ensures)))
 
 pub flag_of-flag-requires : goal.flag_of-flag-requires
 flag_of-flag-requires c = flag_ready (rw c.in_ok-rule.was at c.load.ensures.checks) (rw c.in_ok-rule.was at c.load.ensures.loads) refl c.load.auto.names

@@ -5,7 +5,7 @@ use Rattle.cell_meaning.specs.Promises.Stands.{indices_in}
 use Rattle.cell_meaning.specs.Links.{table_of}
 use Rattle.run_places.proofs.LoopLaws.{values_taken}
 use Rattle.run_places.proofs.VectorLaws.{filling_more}
-use Rattle.run_places.proofs.vectors.vectors.Goals as goal
+use Rattle.run_places.proofs.vectors.set_vectors.Goals as goal
 
 pub loop-e-preserved : goal.loop-e-preserved
 loop-e-preserved c =
