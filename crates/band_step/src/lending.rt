@@ -3,6 +3,7 @@ ghost use Rattle.std.specs.Prelude.{◌≡◌, ◌∷◌, ◌+◌, ◌%◌, ◌<
 ghost use Rattle.value.specs.Limits.{most_dims};
 ghost use Rattle.band_step.specs.Promises.Lending.{RowFits, copied, Lending, with_rows};
 
+use run_marked_cells::rooms::copy_numbers;
 use run_meaning::next_coordinate;
 use value::limits::MOST_DIMS;
 
@@ -11,7 +12,7 @@ fn copy_row(grid: &[i32], from: usize, room: &mut [i32], to: usize, width: usize
     requires { RowFits (length grid.now) (length room.old) from to width }
     ensures { room.new ≡ copied grid.now room.old from to width }
 {
-    room[to..to + width].copy_from_slice(&grid[from..from + width]);
+    copy_numbers(&grid[from..from + width], &mut room[to..to + width]);
 }
 
 // Copies so many rows of a grid, from `before` rows before a row on, to the front of a room. They wrap at the edges, and may repeat. `row` is

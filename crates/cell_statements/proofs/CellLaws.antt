@@ -26,22 +26,6 @@ use Rattle.cell_operands.specs.Promises.Working.{site_table, env_of, SiteReady}
 use Rattle.cell_operands.proofs.PrimaryLaws.{own_is}
 use Rattle.cell_statements.specs.Promises.Running.{Going, CellResult, left_by_exit, RunsBlock, Fit, outcome_is, Evaluates}
 
--- the fields of a cell, as a part of the grid
-pub cell_part : (fields : ℕ) (g : List ℤ) (c : ℕ) → c * fields + fields ≤ length g → take (c * fields + fields - c * fields) (drop (c * fields) g) ≡ cell_of fields g c
-unfolding cell_of
-cell_part fields g c l =
-    ap (λ (n : ℕ). take n (drop (c * fields) g)) back
-    ∙ ext_get_or (pos 0) (take fields (drop (c * fields) g)) _ (size ∙ sym (length_list_of _ fields)) (λ k h. at k (subst (λ (n : ℕ). k < n) size h))
-  where
-    back : c * fields + fields - c * fields ≡ fields
-    back = omega arith
-
-    size : length (take fields (drop (c * fields) g)) ≡ fields
-    size = length-take-le fields (drop (c * fields) g) (omega (arith, length-drop (c * fields) g))
-
-    at : (k : ℕ) → k < fields → get_or (take fields (drop (c * fields) g)) k (pos 0) ≡ get_or (list_of (λ j. get_or g (c * fields + j) (pos 0)) fields) k (pos 0)
-    at k h = get_or-take fields (drop (c * fields) g) k (pos 0) h ∙ get_or-drop (c * fields) g k (pos 0) ∙ sym (get_or_list_of _ fields k (pos 0) h)
-
 -- what is asked of a site
 pub ready : {leaves words : List ℕ} {rule : Rule} {sizes point : List ℕ} {cell : ℕ} {grid : List ℤ} {fields time : ℕ} → Fit leaves words rule sizes point cell grid fields time
     → SiteReady leaves words sizes point grid (record { tokens = rule.tokens; base = rule.base; fields = rule.fields; slots = rule.slots; cell = cell; time = time }) 0

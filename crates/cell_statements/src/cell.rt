@@ -25,7 +25,10 @@ fn copy_fields(grid: &[i32], cell: usize, next: &mut [i32])
 {
     let fields = next.len();
     let from = cell * fields;
-    next.copy_from_slice(&grid[from..from + fields]);
+    // Kept: one by one, since `copy_from_slice` would have the static library need `memmove` from outside.
+    for k in 0..fields {
+        next[k] = grid[from + k];
+    }
 }
 
 // Evaluates a cell, by the rule that stands in the table: its next fields are in `next`, unless there is a fault. Variables start at 0.

@@ -31,9 +31,9 @@ use Rattle.read_source.specs.declared.checking.ProgramRead.{ProgramRead}
 use Rattle.read_source.proofs.Finishing.{cell_is, in_cell, never_next, few_left}
 
 -- reading begins with the default
-pub starts : (s : Reading) → (s.at ≡ 0) × ((s.noted ≡ None) × ((s.count ≡ 0) × ((s.value ≡ 0) × ((s.low ≡ 0) × ((s.number ≡ 0) × ((s.fields ≡ 0) × ((s.named ≡ false) × (s.more ≡ false)))))))) → s ≡ begun
+pub starts : (s : Reading) → (s.at ≡ 0) × ((s.count ≡ 0) × ((s.value ≡ 0) × ((s.low ≡ 0) × ((s.number ≡ 0) × ((s.fields ≡ 0) × ((s.noted ≡ None) × ((s.named ≡ false) × (s.more ≡ false)))))))) → s ≡ begun
 starts s e =
-    let z : ◌≡◌ {A = Reading} (record { at = s.at; noted = s.noted; count = s.count; value = s.value; low = s.low; number = s.number; fields = s.fields; named = s.named; more = s.more }) begun =
+    let z : ◌≡◌ {A = Reading} (record { at = s.at; count = s.count; value = s.value; low = s.low; number = s.number; fields = s.fields; noted = s.noted; named = s.named; more = s.more }) begun =
     rw (e.0, e.1.0, e.1.1.0, e.1.1.1.0, e.1.1.1.1.0, e.1.1.1.1.1.0, e.1.1.1.1.1.1.0, e.1.1.1.1.1.1.1.0, e.1.1.1.1.1.1.1.1) refl in
     z
 

@@ -27,17 +27,19 @@ pub struct Note {
 #[derive(Clone, Copy, Debug, Default, PartialEq, Eq, Hash)]
 pub struct Reading {
     pub at: usize,
-    pub noted: Option<Note>,
     pub count: usize,
     pub value: u32,
     pub low: u32,
     pub number: u32,
     pub fields: u32,
+    pub noted: Option<Note>,
     pub named: bool,
     pub more: bool,
 }
 
 // How a reading ends: with its state then, or with the reply that refuses.
+// What is refused and the steps over a token are put in place where they are called, so that such an answer stays in registers: else it is copied through
+// memory, part by part, and reading takes 1.6 times as long.
 pub type Read = Result<Reading, Refusal>;
 
 // ---- refusals
@@ -56,6 +58,7 @@ fn rank(n: u32) -> u64
 
 // Whether refusal a goes before b, or is the same.
 #[tactic(auto, unfolding(grammar::specs::Ranking::before))]
+#[inline(always)]
 fn goes_before(a: Refusal, b: Refusal) -> bool
     ensures { result ≡ before a b }
 {
@@ -64,6 +67,7 @@ fn goes_before(a: Refusal, b: Refusal) -> bool
 
 // What is refused for a reason at a token; at a stop, the first of the two.
 #[tactic(auto, unfolding(grammar::specs::Ranking::broken, grammar::specs::Ranking::first_number))]
+#[inline(always)]
 fn broken(t: Token, reason: Reason) -> Refusal
     ensures { result ≡ broken (reason_number reason) t }
 {
@@ -84,6 +88,7 @@ impl From<Note> for Refusal {
 }
 
 // The first of what was noted, if there is anything, and a new refusal.
+#[inline(always)]
 fn first(noted: Option<Note>, new: Refusal) -> Refusal
     ensures { result ≡ first_of (refusal_noted noted) new }
 {
@@ -94,6 +99,7 @@ fn first(noted: Option<Note>, new: Refusal) -> Refusal
 }
 
 // Refused for a reason at the token at position i, or by what was noted before.
+#[inline(always)]
 pub fn refuse(words: &[u32], scan: Scan, s: Reading, i: usize, reason: Reason) -> Read
     requires { (scan.count ≤ most_tokens) × (length words.now ≡ table_words) }
     ensures { result ≡ refusing words.now scan s i (reason_number reason) }
@@ -102,6 +108,7 @@ pub fn refuse(words: &[u32], scan: Scan, s: Reading, i: usize, reason: Reason) -
 }
 
 // A rule is broken at the next token, and reading goes on.
+#[inline(always)]
 pub fn noting(words: &[u32], scan: Scan, s: Reading, reason: Reason) -> Reading
     requires { (scan.count ≤ most_tokens) × (length words.now ≡ table_words) }
     ensures { Noted words.now scan s (reason_number reason) result }
@@ -176,6 +183,7 @@ impl Reading {
 // ---- tokens
 
 // Over a token of the kind, else refused for the reason.
+#[inline(always)]
 pub fn expect(words: &[u32], scan: Scan, s: Reading, kind: u32, reason: Reason) -> Read
     requires { (scan.count ≤ most_tokens) × (length words.now ≡ table_words) × (1 ≤ kind) }
     ensures { Passes anything (expect_or kind (reason_number reason)) scan 1 s words.now result }
@@ -188,6 +196,7 @@ pub fn expect(words: &[u32], scan: Scan, s: Reading, kind: u32, reason: Reason) 
 }
 
 // The next token must not be of the kind, else refused for the reason.
+#[inline(always)]
 pub fn forbid(words: &[u32], scan: Scan, s: Reading, kind: u32, reason: Reason) -> Read
     requires { (scan.count ≤ most_tokens) × (length words.now ≡ table_words) × (s.at ≤ scan.count) }
     ensures { Passes anything (forbid kind (reason_number reason)) scan 0 s words.now result }
@@ -201,6 +210,7 @@ pub fn forbid(words: &[u32], scan: Scan, s: Reading, kind: u32, reason: Reason) 
 
 // Kept: whether one more may be open (`free`) is plain data, here and in read_constants.
 // Over an opening token, where one more may be open, else refused 14.
+#[inline(always)]
 pub fn opening(words: &[u32], scan: Scan, s: Reading, free: bool) -> Read
     requires { (scan.count ≤ most_tokens) × (length words.now ≡ table_words) × (s.at < scan.count) }
     ensures { Passes anything (opening free) scan 1 s words.now result }

@@ -22,11 +22,13 @@ use token::{Scan, Token, kind};
 use value::limits::MOST_TURNS;
 
 // Where a statement is read, a refusal is returned as the answer that it came in: `?` would move its two numbers as one word, which the place of
-// reading shares, and each reading would wait for that.
+// reading shares, and each reading would wait for that. The readers of the parts of a statement are put in place where they are called, so that their answers
+// stay in registers.
 
 // ---- left sides
 
 // Over the name t on a left side, an old variable or a new one; its number among the variables.
+#[inline(always)]
 fn variable_target(
     source: &[u8],
     names: &mut [u32],
@@ -52,6 +54,7 @@ fn variable_target(
 }
 
 // `.name` on a left side; the field's number.
+#[inline(always)]
 fn named_target(source: &[u8], names: &[u32], words: &[u32], scan: Scan, s: Reading) -> Read
     requires { Ready scan (length names.now) (length words.now) s }
     ensures { Reads InNumber named_target source.now scan s.count s names.now words.now result names.now words.now }
@@ -65,6 +68,7 @@ fn named_target(source: &[u8], names: &[u32], words: &[u32], scan: Scan, s: Read
 }
 
 // `cell` on a left side, with `.name` where fields are named; the field's number.
+#[inline(always)]
 fn field_target(
     source: &[u8],
     names: &[u32],
@@ -85,6 +89,7 @@ fn field_target(
 }
 
 // The left side of an assignment; its number.
+#[inline(always)]
 fn read_target(
     source: &[u8],
     names: &mut [u32],
@@ -124,6 +129,7 @@ enum Link {
 }
 
 // `when` and a condition, whose position is noted at the clause's `:=`, at position i. Carries whether one more clause follows.
+#[inline(always)]
 fn when_clause(
     source: &[u8],
     names: &[u32],
@@ -144,6 +150,7 @@ fn when_clause(
 }
 
 // What follows a clause's expression. Carries whether one more clause follows.
+#[inline(always)]
 fn clause_end(
     source: &[u8],
     names: &[u32],
@@ -174,6 +181,7 @@ fn clause_end(
 }
 
 // One more clause, from its `:=` on. Carries whether one more follows.
+#[inline(always)]
 fn read_clause(
     source: &[u8],
     names: &[u32],
@@ -204,6 +212,7 @@ fn read_clause(
 }
 
 // The clauses of an assignment.
+#[inline(always)]
 fn read_clauses(
     source: &[u8],
     names: &[u32],
@@ -231,6 +240,7 @@ fn read_clauses(
 }
 
 // An assignment. Its target and the position past it are noted at its first token.
+#[inline(always)]
 fn read_assignment(
     source: &[u8],
     names: &mut [u32],
@@ -263,6 +273,7 @@ fn read_assignment(
 // ---- choices
 
 // Over an `end`. Carries that no more follows.
+#[inline(always)]
 fn read_end(words: &[u32], scan: Scan, s: Reading) -> Read
     requires { (scan.count ≤ most_tokens) × (length words.now ≡ table_words) }
     ensures { Passes NoneFollows (expect keyword.end) scan 1 s words.now result }
@@ -274,6 +285,7 @@ fn read_end(words: &[u32], scan: Scan, s: Reading) -> Read
 // ---- loops
 
 // The range of a loop, noted at its index's name, at position i.
+#[inline(always)]
 fn loop_range(
     source: &[u8],
     names: &[u32],
@@ -293,6 +305,7 @@ fn loop_range(
 }
 
 // A loop's index and range. The index's record holds its loop's depth; its slot is carried on.
+#[inline(always)]
 fn loop_head(
     source: &[u8],
     names: &mut [u32],
@@ -311,6 +324,7 @@ fn loop_head(
 }
 
 // The end of a loop: its index's record is free again, and its body's position and the position past it are noted at its `forall`, at position i.
+#[inline(always)]
 fn loop_end(
     names: &mut [u32],
     words: &mut [u32],
@@ -331,6 +345,7 @@ fn loop_end(
 }
 
 // Over an `exit`, with the position past it noted at it.
+#[inline(always)]
 fn read_exit(words: &mut [u32], s: Reading) -> Reading
     requires { (length words.old ≡ table_words) × (s.at < most_tokens) }
     ensures { Exits s words.old result words.new }
@@ -344,6 +359,7 @@ fn read_exit(words: &mut [u32], s: Reading) -> Reading
 
 // What follows an arm's statements. Carries whether one more arm follows.
 #[cycle(statements)]
+#[inline(always)]
 fn arm_end(
     source: &[u8],
     names: &mut [u32],
@@ -368,6 +384,7 @@ fn arm_end(
 
 // One more arm, from its `if` or `elsif` on. Carries whether one more follows.
 #[cycle(statements)]
+#[inline(always)]
 fn read_arm(
     source: &[u8],
     names: &mut [u32],

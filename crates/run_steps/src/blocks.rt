@@ -3,6 +3,7 @@ ghost use Rattle.std.specs.Prelude.{◌≡◌, ◌≤◌, length};
 ghost use Rattle.run_steps.specs.Promises.Blockwise.{is_due, Settable, DueSet};
 
 use list_reader::setting::{Block, next_time, set_lines};
+use run_marked_cells::rooms::copy_numbers;
 use run_marking::mark_changed;
 use run_meaning::Bounds;
 
@@ -45,7 +46,7 @@ pub fn set_due(
         let at = set_lines(values, block.behind, sizes, fields, grid);
         return next_time(values, at);
     }
-    scratch.copy_from_slice(grid);
+    copy_numbers(grid, scratch);
     let at = set_lines(values, block.behind, sizes, fields, grid);
     mark_changed(
         sizes,

@@ -14,7 +14,7 @@ use crate::{Bands, Report};
 use cell_leaves::fill_leaves;
 use list_reader::setting::next_time;
 use program::Rule;
-use run_marked_cells::rooms::flag_marks;
+use run_marked_cells::rooms::{copy_numbers, flag_marks};
 use run_marking::mark_open;
 use run_marking::ways::set_ways;
 use run_meaning::{Bounds, Reach};
@@ -48,7 +48,7 @@ fn begin_marks(resumed: bool, all_open: bool, grid: &[i32], scratch: &mut [i32],
     ensures { Started (from_lent resumed all_open) grid.now marks.old scratch.new marks.new }
 {
     if lent_marks(resumed, all_open) {
-        scratch.copy_from_slice(grid);
+        copy_numbers(grid, scratch);
         flag_marks(marks);
         return;
     }

@@ -3,44 +3,99 @@ use crate::reading::End;
 use crate::rooms::Left;
 use program::reply::Refusal;
 use run_steps::Report;
-use std::alloc::AllocError;
-use std::fmt::Display;
+use std::fmt;
+use std::fmt::{Display, Write};
+use std::io::Stdout;
 
-// Puts values, each after a space.
-fn put_all<T: Display>(line: &mut String, values: &[T]) -> Result<(), AllocError> {
-    for value in values {
-        write!(line, " {value}")?;
+// A line that is written by way of a room: how many bytes are in the room.
+// Kept: only Drop, since it is a room.
+#[derive(Drop)]
+struct Line {
+    output: Stdout,
+    room: [u8; 65536],
+    count: usize,
+}
+
+impl Line {
+    // Nothing is in the room yet.
+    fn new(rt: &HostRuntime) -> Line {
+        Line {
+            output: rt.stdout(),
+            room: [0; 65536],
+            count: 0,
+        }
     }
-    Ok(())
-}
 
-// Puts bytes in hexadecimal digits.
-fn put_bytes(line: &mut String, bytes: &[u8]) -> Result<(), AllocError> {
-    for b in bytes {
-        write!(line, "{b:02x}")?;
+    // Writes what is in the room.
+    fn flush(&mut self) -> fmt::Result {
+        let text = self.room.get(..self.count).unwrap_or(&[]);
+        self.count = 0;
+        Print::write_all(&self.output, text).map_err(|_| fmt::Error)
     }
-    Ok(())
+
+    // Puts bytes into the room, after what is in it is written where they have no room beside that.
+    fn put(&mut self, bytes: &[u8]) -> fmt::Result {
+        if self.room.len().saturating_sub(self.count) < bytes.len() {
+            self.flush()?;
+        }
+        let end = self.count.saturating_add(bytes.len());
+        let room = self.room.get_mut(self.count..end).ok_or(fmt::Error)?;
+        room.copy_from_slice(bytes);
+        self.count = end;
+        Ok(())
+    }
+
+    // Puts values, each after a space.
+    fn put_all<T: Display>(&mut self, values: &[T]) -> fmt::Result {
+        for value in values {
+            write!(self, " {value}")?;
+        }
+        Ok(())
+    }
+
+    // Puts bytes in hexadecimal digits.
+    fn put_digits(&mut self, bytes: &[u8]) -> fmt::Result {
+        for b in bytes {
+            self.put(&[digit(*b / 16), digit(*b % 16)])?;
+        }
+        Ok(())
+    }
+
+    // Puts the numbers of a report, and what became of scratch.
+    fn put_report(&mut self, report: Report, scratch: Left) -> fmt::Result {
+        let number = report.number;
+        let place = report.place;
+        let list_line = report.line;
+        let cell = report.cell;
+        let steps = report.steps;
+        let count = report.count;
+        write!(
+            self,
+            "{number} {place} {list_line} {cell} {steps} {count} {scratch}"
+        )
+    }
+
+    // Ends the line, and writes it.
+    fn write_ended(mut self) -> Result<(), End> {
+        self.put(b"\n")?;
+        self.flush()?;
+        Ok(())
+    }
 }
 
-// Puts the numbers of a report, and what became of scratch.
-fn put_report(line: &mut String, report: Report, scratch: Left) -> Result<(), AllocError> {
-    let number = report.number;
-    let place = report.place;
-    let list_line = report.line;
-    let cell = report.cell;
-    let steps = report.steps;
-    let count = report.count;
-    write!(
-        line,
-        "{number} {place} {list_line} {cell} {steps} {count} {scratch}"
-    )
+impl fmt::Write for Line {
+    fn write_str(&mut self, text: &str) -> fmt::Result {
+        self.put(text.as_bytes())
+    }
 }
 
-// Ends a line, and writes it.
-fn write_ended(rt: &HostRuntime, mut line: String) -> Result<(), End> {
-    line.push_str("\n")?;
-    rt.write_all(line.as_bytes())?;
-    Ok(())
+// The hexadecimal digit of a number below 16.
+fn digit(n: u8) -> u8 {
+    match n {
+        0..=9 => b'0' + n,
+        10..=15 => b'a' - 10 + n,
+        _ => b'?',
+    }
 }
 
 // Writes the line of a run.
@@ -51,11 +106,11 @@ pub fn write_run(
     marks: Left,
     grid: &[i32],
 ) -> Result<(), End> {
-    let mut line = String::new(rt.alloc());
-    put_report(&mut line, report, scratch)?;
-    write!(&mut line, " {marks} :")?;
-    put_all(&mut line, grid)?;
-    write_ended(rt, line)
+    let mut line = Line::new(rt);
+    line.put_report(report, scratch)?;
+    write!(line, " {marks} :")?;
+    line.put_all(grid)?;
+    line.write_ended()
 }
 
 // Writes the line of a run in a manner.
@@ -67,15 +122,15 @@ pub fn write_call(
     marks: &[u8],
     counts: &[u32],
 ) -> Result<(), End> {
-    let mut line = String::new(rt.alloc());
-    put_report(&mut line, report, scratch)?;
-    line.push_str(" :")?;
-    put_all(&mut line, grid)?;
-    line.push_str(" : ")?;
-    put_bytes(&mut line, marks)?;
-    line.push_str(" :")?;
-    put_all(&mut line, counts)?;
-    write_ended(rt, line)
+    let mut line = Line::new(rt);
+    line.put_report(report, scratch)?;
+    line.put(b" :")?;
+    line.put_all(grid)?;
+    line.put(b" : ")?;
+    line.put_digits(marks)?;
+    line.put(b" :")?;
+    line.put_all(counts)?;
+    line.write_ended()
 }
 
 // Writes the line of a writing.
@@ -84,11 +139,11 @@ pub fn write_writing(
     written: Result<u64, Refusal>,
     room: &[u8],
 ) -> Result<(), End> {
-    let mut line = String::new(rt.alloc());
+    let mut line = Line::new(rt);
     match written {
-        Ok(length) => write!(&mut line, "0 0 {length} : ")?,
-        Err(Refusal { number, place }) => write!(&mut line, "{number} {place} 0 : ")?,
+        Ok(length) => write!(line, "0 0 {length} : ")?,
+        Err(Refusal { number, place }) => write!(line, "{number} {place} 0 : ")?,
     }
-    put_bytes(&mut line, room)?;
-    write_ended(rt, line)
+    line.put_digits(room)?;
+    line.write_ended()
 }

@@ -1,7 +1,7 @@
-// What a case has: numbers, the lowest byte first, and bytes.
+// What a case has: numbers, the lowest byte first, and bytes. A case is read in parts, each in a room that has a little more than a case may use.
 ghost use Rattle.std.specs.Prelude.{◌≤◌, IfOk};
 
-use std::alloc::{AllocError, AllocFailed, Global};
+use std::fmt;
 use std::io::{Error, Read};
 
 // Why the answers end.
@@ -9,8 +9,6 @@ use std::io::{Error, Read};
 pub enum End {
     // The input has ended, a case does not fit, or an answer cannot be written.
     Over,
-    // There is no memory.
-    Memory,
 }
 
 impl From<Error> for End {
@@ -19,15 +17,9 @@ impl From<Error> for End {
     }
 }
 
-impl From<AllocError> for End {
-    fn from(_error: AllocError) -> End {
-        End::Memory
-    }
-}
-
-impl<T: Drop> From<AllocFailed<T>> for End {
-    fn from(_error: AllocFailed<T>) -> End {
-        End::Memory
+impl From<fmt::Error> for End {
+    fn from(_error: fmt::Error) -> End {
+        End::Over
     }
 }
 
@@ -40,6 +32,31 @@ pub fn within(length: u32, most: u32) -> Result<usize, End>
     } else {
         Err(End::Over)
     }
+}
+
+// The first n entries of a room, if it has as many.
+pub fn front<T>(room: &mut [T], n: usize) -> Result<&mut [T], End> {
+    room.get_mut(..n).ok_or(End::Over)
+}
+
+// Reads the next n bytes into a room, at once.
+pub fn part<'a, R: Read>(input: &mut R, room: &'a mut [u8], n: usize) -> Result<&'a [u8], End> {
+    let bytes = front(room, n)?;
+    input.read_exact(bytes)?;
+    Ok(bytes)
+}
+
+// Reads the bytes of a grid that has so many entries, and so many bytes after it.
+pub fn grid_part<'a, R: Read>(
+    input: &mut R,
+    room: &'a mut [u8],
+    entries: u32,
+    after: usize,
+) -> Result<(&'a [u8], &'a [u8]), End> {
+    let n = 4 * within(entries, 4100)?;
+    part(input, room, n.saturating_add(after))?
+        .split_at_checked(n)
+        .ok_or(End::Over)
 }
 
 // The next bytes, as many as an array has.
@@ -59,27 +76,18 @@ pub fn long<R: Read>(input: &mut R) -> Result<i64, End> {
     Ok(i64::from_le_bytes(array(input)?))
 }
 
-// The next n bytes.
-pub fn bytes<R: Read>(alloc: Global, input: &mut R, n: usize) -> Result<Vec<u8>, End> {
-    let mut bytes = vec![in alloc; 0u8; n]?;
-    input.read_exact(bytes.as_mut_slice())?;
-    Ok(bytes)
-}
-
-// The next n numbers of four bytes, each as a function makes it of them.
-pub fn numbers<R: Read, T: Drop, F: Fn([u8; 4]) -> T>(
-    alloc: Global,
-    input: &mut R,
-    n: u32,
+// Puts the numbers of four bytes each that a part has into a room, each as a function makes it of them.
+pub fn numbers<'a, T: Copy, F: Fn([u8; 4]) -> T>(
+    part: &[u8],
+    room: &'a mut [T],
     number: F,
-) -> Result<Vec<T>, End>
+) -> Result<&'a mut [T], End>
     requires { F.IsAlwaysCallable number }
 {
-    let all = bytes(alloc, input, 4 * n as usize)?;
-    let (each, _) = all.as_slice().as_chunks::<4>();
-    let mut made = Vec::with_capacity(alloc, each.len())?;
-    for four in each {
-        made.push(number(*four))?;
+    let (each, _) = part.as_chunks::<4>();
+    let made = front(room, each.len())?;
+    for (to, four) in made.iter_mut().zip(each) {
+        *to = number(*four);
     }
     Ok(made)
 }

@@ -1,5 +1,5 @@
 // Scratch, marks and a writer's room: what is in them on entry, and what is left of scratch and marks.
-use std::alloc::{AllocError, Global};
+use crate::reading::{End, front};
 use std::fmt;
 
 // What became of a room: zeros throughout, what was there on entry, or something else.
@@ -35,19 +35,19 @@ pub fn room_entry(i: usize) -> u8 {
     ((i % 256 * 3 + 5) % 256) as u8
 }
 
-// A room of n entries, each as a function makes it of its number.
-pub fn filled<T: Drop, F: Fn(usize) -> T>(
-    alloc: Global,
+// The first n entries of a room, each as a function makes it of its number, if there are as many.
+pub fn filled<T: Copy, F: Fn(usize) -> T>(
+    room: &mut [T],
     n: usize,
     entry: F,
-) -> Result<Vec<T>, AllocError>
+) -> Result<&mut [T], End>
     requires { F.IsAlwaysCallable entry }
 {
-    let mut room = Vec::with_capacity(alloc, n)?;
-    for i in 0..n {
-        room.push(entry(i))?;
+    let used = front(room, n)?;
+    for (i, to) in used.iter_mut().enumerate() {
+        *to = entry(i);
     }
-    Ok(room)
+    Ok(used)
 }
 
 // What became of a room. One that is zero and the same, as an empty one, counts as cleared where the run began, and as untouched where it did not.

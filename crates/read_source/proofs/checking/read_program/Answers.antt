@@ -13,7 +13,7 @@ pub read_constants-requires : goal.read_constants-requires
 read_constants-requires c =
     let pre = c.requires in
     let d = c.default.ensures in
-    record { tokens = pre.0; table = pre.1; list = pre.2; here = omega (arith, d.0); few = omega (arith, d.1.1.0) }
+    record { tokens = pre.0; table = pre.1; list = pre.2; here = omega (arith, d.0); few = omega (arith, d.1.0) }
 
 pub returns-in_err-a : goal.returns-in_err-a
 unfolding read_program
