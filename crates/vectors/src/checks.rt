@@ -1,4 +1,5 @@
 // Reading the source of a check, and writing its lines.
+use crate::lines::write_check;
 use crate::reading::End;
 use move_profile::{Profile, check_one_move};
 use std::io::Read;
@@ -45,12 +46,11 @@ pub fn answer_check<R: Read>(rt: &HostRuntime, input: &mut R, length: u32) -> Re
         part.len,
         &mut line,
     );
-    rt.write_all(&line[..end.min(66)])?;
-    let sums = (total(&words, 0), total(&names, 2));
-    let (word_sum, name_sum) = sums;
-    let rule = fit.rule;
-    let number = fit.number;
-    let place = fit.place;
-    println!(rt; "{word_sum} {name_sum} {rule} {number} {place}")?;
-    Ok(())
+    write_check(
+        rt,
+        &line[..end.min(66)],
+        total(&words, 0),
+        total(&names, 2),
+        fit,
+    )
 }

@@ -1,6 +1,7 @@
-// The line of a run, of a run in a manner, and of a writing.
+// The lines of a check, and the line of a run, of a run in a manner, and of a writing.
 use crate::reading::End;
 use crate::rooms::Left;
+use move_profile::Profile;
 use program::reply::Refusal;
 use run_steps::Report;
 use std::fmt;
@@ -98,6 +99,23 @@ fn digit(n: u8) -> u8 {
     }
 }
 
+// Writes the lines of a check at once: that of the reply, with its end, and that of the two sums and of the profile.
+pub fn write_check(
+    rt: &HostRuntime,
+    reply: &[u8],
+    word_sum: u64,
+    name_sum: u64,
+    fit: Profile,
+) -> Result<(), End> {
+    let mut line = Line::new(rt);
+    line.put(reply)?;
+    let rule = fit.rule;
+    let number = fit.number;
+    let place = fit.place;
+    write!(line, "{word_sum} {name_sum} {rule} {number} {place}")?;
+    line.write_ended()
+}
+
 // Writes the line of a run.
 pub fn write_run(
     rt: &HostRuntime,
@@ -113,7 +131,7 @@ pub fn write_run(
     line.write_ended()
 }
 
-// Writes the line of a run in a manner.
+// Writes the line of a run in a manner, up to its counts and then these.
 pub fn write_call(
     rt: &HostRuntime,
     report: Report,
@@ -129,6 +147,7 @@ pub fn write_call(
     line.put(b" : ")?;
     line.put_digits(marks)?;
     line.put(b" :")?;
+    line.flush()?;
     line.put_all(counts)?;
     line.write_ended()
 }
