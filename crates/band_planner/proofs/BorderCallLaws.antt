@@ -20,7 +20,7 @@ use Rattle.band_planner.specs.declared.borders.Border.{Border}
 use Rattle.band_planner.specs.Promises.Borders.{border_of}
 use Rattle.band_planner.specs.Promises.Opening.{far_told, RowsOpen, OpensRows}
 use Rattle.band_planner.specs.Promises.BorderCall.{borders_in, BordersSource, BordersLeaves}
-use Rattle.band_planner.proofs.OpeningLaws.{numbered, by_reason}
+use Rattle.band_planner.proofs.OpeningLaws.{answered, numbered, by_reason}
 
 -- ---- a source
 
@@ -55,9 +55,12 @@ module _ {fit : Bool} {source ws ns sizes : List ℕ} {o : Result RowsOpened Ref
     pub borders_far : {e : Refusal} → rows.far ≡ Some e → BordersSource fit source sizes ws ns (Err e) ws' ns'
     borders_far {e} f = reply_is (ap (λ (g : Option Refusal). eqb (far_told g).number 0) f ∙ ne_eqb e.number 0 (open_is.refuses e f)) (ap (λ (g : Option Refusal). borders_in (Err (far_told g))) (sym f)) (numbered refl (open_is.refuses e f))
 
-    pub borders_found : rows.far ≡ None → {r : Result Border Refusal} → borders_in r ≡ borders_in (Ok rows.border) → ((e : Refusal) → r ≡ Err e → e.number ≡ 0 → ⊥)
+    pub borders_answered : rows.far ≡ None → {r : Result Border Refusal} → borders_in r ≡ borders_in (Ok rows.border) → ((e : Refusal) → r ≡ Err e → e.number ≡ 0 → ⊥)
         → BordersSource fit source sizes ws ns r ws' ns'
-    borders_found f told n = reply_is (ap (λ (g : Option Refusal). eqb (far_told g).number 0) f) told n
+    borders_answered f told n = reply_is (ap (λ (g : Option Refusal). eqb (far_told g).number 0) f) told n
+
+    pub borders_found : rows.far ≡ None → BordersSource fit source sizes ws ns (Ok rows.border) ws' ns'
+    borders_found f = borders_answered f refl answered
 
 -- ---- what is lent
 

@@ -29,7 +29,7 @@ use Rattle.band_planner.specs.Promises.Borders.{border_of}
 use Rattle.band_planner.specs.Promises.Plans.{WritesPlan}
 use Rattle.band_planner.specs.Promises.Opening.{far_told, RowsOpen, OpensRows}
 use Rattle.band_planner.specs.Promises.Planning.{planned_of, plan_or_none, ChecksSource, CheckLeaves, PlansSource, PlannerLeaves}
-use Rattle.band_planner.proofs.OpeningLaws.{numbered, by_reason}
+use Rattle.band_planner.proofs.OpeningLaws.{answered, numbered, by_reason}
 
 -- ---- the planner's plan, or 59
 
@@ -99,9 +99,13 @@ module _ {fit : Bool} {source ws ns sizes : List ℕ} {o : Result RowsOpened Ref
     pub check_far : {e : Refusal} → rows.far ≡ Some e → (plan : List ℕ) → ChecksSource fit source sizes held plan ws ns (Err e) ws' ns'
     check_far {e} f plan = checks_as plan (is_far f ∙ sym (check_is program sizes held plan (far_is f) refl)) (numbered refl (open_is.refuses e f))
 
-    pub check_taken : rows.far ≡ None → (plan : List ℕ) {t : Bool} → t ≡ plan_right rows.rows (border_of rows.border) held plan → not t ≡ false
+    pub check_answered : rows.far ≡ None → (plan : List ℕ) {t : Bool} → t ≡ plan_right rows.rows (border_of rows.border) held plan → not t ≡ false
         → {r : Result (Unit {0}) Refusal} → refusal_told r ≡ no_refusal → ((e : Refusal) → r ≡ Err e → e.number ≡ 0 → ⊥) → ChecksSource fit source sizes held plan ws ns r ws' ns'
-    check_taken f plan {t} e q told n = checks_as plan (told ∙ sym (check_is program sizes held plan (none_far f) (fits_is plan e ∙ not-false t q))) n
+    check_answered f plan {t} e q told n = checks_as plan (told ∙ sym (check_is program sizes held plan (none_far f) (fits_is plan e ∙ not-false t q))) n
+
+    pub check_taken : rows.far ≡ None → (plan : List ℕ) {t : Bool} → t ≡ plan_right rows.rows (border_of rows.border) held plan → not t ≡ false
+        → (u : Unit {0}) → ChecksSource fit source sizes held plan ws ns (Ok u) ws' ns'
+    check_taken f plan e q u = check_answered f plan e q refl answered
 
     pub check_not_taken : rows.far ≡ None → (plan : List ℕ) {t : Bool} → t ≡ plan_right rows.rows (border_of rows.border) held plan → not t ≡ true
         → {e : Refusal} → e ≡ refusal 60 0 → ChecksSource fit source sizes held plan ws ns (Err e) ws' ns'
@@ -130,12 +134,21 @@ module _ {fit : Bool} {source ws ns sizes : List ℕ} {o : Result RowsOpened Ref
 
 -- ---- the calls
 
+-- the reply and the memory alone, where `CheckLeaves` also says that a refusal has a number
+pub record CheckLeft {N : Type 0} (form : NameForm N) (l : SourceLent N) (sizes : List ℕ) (held : ℕ) (plan : List ℕ) (r : Result (Unit {0}) Refusal) (words : List ℕ) (names : List N) : Type 0 where
+  pub is : record { answer = refusal_told r; words = words; names = names } ≡ plan_check_left form l sizes held plan
+
 module _ {N : Type 0} {form : NameForm N} {l : SourceLent N} {sizes : List ℕ} {held : ℕ} {words : List ℕ} {names : List N} (w : words ≡ words_after (source_fits form l) l.source l.words)
     (n : names ≡ names_left form (source_fits form l) l.source l.names) where
-  pub check_left : {plan : List ℕ} {r : Result (Unit {0}) Refusal} → refusal_told r ≡ check_plan_source (source_fits form l) l.source sizes held plan → ((e : Refusal) → r ≡ Err e → e.number ≡ 0 → ⊥)
-      → CheckLeaves form l sizes held plan r words names
+  pub check_left : {plan : List ℕ} {r : Result (Unit {0}) Refusal} → refusal_told r ≡ check_plan_source (source_fits form l) l.source sizes held plan → CheckLeft form l sizes held plan r words names
   unfolding plan_check_left
-  check_left e refuses = record { is = λ i. record { answer = e i; words = w i; names = n i }; refuses = refuses }
+  check_left e = record { is = λ i. record { answer = e i; words = w i; names = n i } }
+
+  pub check_leaves : {plan : List ℕ} {r : Result (Unit {0}) Refusal} → refusal_told r ≡ check_plan_source (source_fits form l) l.source sizes held plan → ((e : Refusal) → r ≡ Err e → e.number ≡ 0 → ⊥)
+      → CheckLeaves form l sizes held plan r words names
+  check_leaves {plan} {r} e refuses =
+      let left : CheckLeft form l sizes held plan r words names = check_left e in
+      record { is = left.is; refuses = refuses }
 
   pub plan_left : {room : List ℕ} {r : Result ℕ Refusal} {room' : List ℕ} → planned_of r room' ≡ planned_source (source_fits form l) l.source sizes held room → PlannerLeaves form l sizes held room r words names room'
   unfolding planner_left
@@ -145,7 +158,7 @@ module _ {N : Type 0} {form : NameForm N} {l : SourceLent N} {sizes : List ℕ} 
 module _ {N : Type 0} (form : NameForm N) (l : SourceLent N) (sizes : List ℕ) (held : ℕ) (entries : List ℕ) (e : source_fits form l ≡ false) where
   pub unlisted_check : {f : Refusal} → f ≡ refusal 1 0 → CheckLeaves form l sizes held entries (Err f) l.words l.names
   unfolding check_plan_source on_sizes words_after read_source
-  unlisted_check q = check_left (rw e) (rw e) (q ∙ rw e) (by_reason q)
+  unlisted_check q = check_leaves (rw e) (rw e) (q ∙ rw e) (by_reason q)
 
   pub unlisted_plan : {f : Refusal} → f ≡ refusal 1 0 → PlannerLeaves form l sizes held entries (Err f) l.words l.names entries
   unfolding planned_source on_sizes words_after read_source
@@ -169,7 +182,7 @@ module _ (l : SourceLent ℕ) (sizes : List ℕ) (held : ℕ) (entries : List �
   unfolding names_after
   check_listed n {r} {words} {names} x =
       let y = subst (λ (fit : Bool). ChecksSource fit l.source sizes held entries l.words l.names r words names) (fits_as n) x in
-      check_left y.words_are y.names_are y.reply y.refuses
+      check_leaves y.words_are y.names_are y.reply y.refuses
 
   pub plan_listed : not t ≡ false → {r : Result ℕ Refusal} {words names room : List ℕ}
       → PlansSource (rooms_fit (length l.words) (length l.names)) l.source sizes held l.words l.names entries r words names room → PlannerLeaves flat_names l sizes held entries r words names room

@@ -8,7 +8,7 @@
 mod telling;
 
 use api_comparison::compare;
-use tool_console::arguments::{Argument, Refusal, WORD, arguments, refuse};
+use tool_console::arguments::{Argument, Refusal, WORD, given_arguments, refuse};
 use tool_console::grids::grid_argument;
 use tool_console::rooms::{ROOM, room};
 use tool_console::shapes::{Sizes, cells_of, fields_of, shape_argument};
@@ -92,7 +92,7 @@ fn compare_files(
 
 // Takes the arguments.
 fn compare_grids(rt: &HostRuntime) -> Result<(), Refusal> {
-    let given = arguments(rt);
+    let given = given_arguments(rt);
     match given.as_slice() {
         [_, left, right] => compare_files(rt, *left, *right, None),
         [_, left, right, shape] => compare_files(rt, *left, *right, Some(*shape)),

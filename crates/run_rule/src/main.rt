@@ -25,7 +25,7 @@ use api_naming::Ran;
 use arguments::{Call, Order, file_argument, read_call, read_shape};
 use rows::write_grid;
 use run_steps::Report;
-use tool_console::arguments::{Refusal, arguments, refuse};
+use tool_console::arguments::{Refusal, given_arguments, refuse};
 use tool_console::grids::grid_argument;
 use tool_console::rooms::{LIST, ROOM, SCRATCH, room};
 use tool_console::shapes::{cells_of, fields_of, row};
@@ -244,7 +244,7 @@ fn run_in_shape(rt: &HostRuntime, call: Call, sizes: &[u32]) -> Result<(), Refus
 
 // Takes the shape.
 fn run_rule(rt: &HostRuntime) -> Result<(), Refusal> {
-    let given = arguments(rt);
+    let given = given_arguments(rt);
     let call = read_call(rt, given.as_slice())?;
     let sizes = read_shape(rt, &call)?;
     run_in_shape(rt, call, sizes.as_slice())

@@ -1,7 +1,11 @@
 // The arguments of a program, and why it goes no further.
-ghost use Rattle.std.specs.Prelude.{◌≡◌, ◌<◌, ◌≤◌, [], length, min};
+ghost use Rattle.std.specs.Prelude.{◌≡◌, ◌<◌, ◌≤◌, ◌↔◌, [], length, min, All, IfOk, IfSome, IfErr, IsErr, Err};
+ghost use Rattle.std.specs.IoError.{error_kind};
+ghost use Rattle.std.specs.declared.io.ErrorKind.TheVariants.{OutOfMemory};
+ghost use Rattle.tool_console.specs.declared.arguments.Refusal.TheVariants.{Said, Memory};
 
 use crate::texts::complain;
+use std::alloc::AllocError;
 use std::array::from_fn;
 use std::env::FillError;
 use std::fmt::Display;
@@ -18,12 +22,35 @@ const MOST: usize = 16;
 pub enum Refusal {
     // An argument or a file cannot be taken, which has been said.
     Said,
+    // There is no memory.
+    Memory,
+}
+
+impl From<AllocError> for Refusal {
+    ghost from_gives = { λ _ refusal. refusal ≡ Memory };
+
+    fn from(_error: AllocError) -> Refusal {
+        Refusal::Memory
+    }
 }
 
 // Says on standard error why a program goes no further.
-pub fn refuse<D: Display + Drop>(rt: &HostRuntime, why: D) -> Refusal {
+pub fn refuse<D: Display + Drop>(rt: &HostRuntime, why: D) -> Refusal
+    ensures said { result ≡ Said }
+{
     complain(rt, why);
     Refusal::Said
+}
+
+// What a `main` that asks for memory returns: what has been said is no error.
+pub fn end(outcome: Result<(), Refusal>) -> std::io::Result<()>
+    ensures memory { IsErr result ↔ outcome ≡ Err Memory }
+    ensures kind { IfErr result (λ error. error_kind error ≡ OutOfMemory) }
+{
+    match outcome {
+        Err(Refusal::Memory) => Err(std::io::Error::from(AllocError)),
+        Ok(()) | Err(Refusal::Said) => Ok(()),
+    }
 }
 
 // An argument that the program was started with, by its number. It is read where it is used, so that none takes room longer than that, and need not be UTF-8.
@@ -68,14 +95,41 @@ impl Given {
     }
 }
 
-// The arguments that the program was started with.
-pub fn arguments(rt: &HostRuntime) -> Given {
+// The arguments that the program was started with, as far as they are looked at. It asks for no memory: each is read where it is used.
+pub fn given_arguments(rt: &HostRuntime) -> Given {
     let all = from_fn(Argument);
     let count = all
         .iter()
         .take_while(|argument| argument.is_there(rt))
         .count();
     Given { all, count }
+}
+
+// The argument with a number, empty if it is longer than a path may be; nothing if it is missing.
+fn copied(rt: &HostRuntime, i: usize) -> Result<Option<Vec<u8>>, AllocError>
+    ensures short { IfOk result (λ some. IfSome some (λ argument. length argument.items ≤ 4096)) }
+{
+    let mut buffer = io::buffer();
+    match rt.arg(i, &mut buffer) {
+        Ok(n) => Ok(Some(buffer[..n].to_vec(rt.alloc())?)),
+        Err(FillError::TooLong) => Ok(Some(Vec::new(rt.alloc()))),
+        Err(FillError::NotPresent) => Ok(None),
+    }
+}
+
+// All arguments that the program was started with, its own name first, copied. They need not be UTF-8. One that is longer than a path may be, 4096 bytes, is
+// empty.
+pub fn arguments(rt: &HostRuntime) -> Result<Vec<Vec<u8>>, AllocError>
+    ensures short { IfOk result (λ all. All (λ argument. length argument.items ≤ 4096) all.items) }
+{
+    let mut all: Vec<Vec<u8>> = Vec::new(rt.alloc());
+    for i in 0..usize::MAX {
+        let Some(argument) = copied(rt, i)? else {
+            break;
+        };
+        all.push(argument)?;
+    }
+    Ok(all)
 }
 
 // An argument as a word, a number or a shape: no text, if it is longer than these may be.

@@ -1,5 +1,6 @@
 // A grid that is read from a text: whole numbers, with blanks and line breaks between them.
-ghost use Rattle.std.specs.Prelude.{◌≡◌, ◌≤◌, length, IfOk};
+ghost use Rattle.std.specs.Prelude.{◌≡◌, ◌≤◌, length, IfOk, IfErr};
+ghost use Rattle.tool_console.specs.declared.arguments.Refusal.TheVariants.{Said};
 
 use crate::arguments::{Argument, Refusal, refuse};
 use crate::numbers::Number;
@@ -103,6 +104,7 @@ fn read_parts(
 ) -> Result<usize, Refusal>
     ensures length { length grid.new ≡ length grid.old }
     ensures ok { IfOk result (λ n. n ≤ length grid.new) }
+    ensures said { IfErr result (λ refusal. refusal ≡ Said) }
 {
     let mut filling = Filling {
         count: 0,
@@ -138,6 +140,7 @@ pub fn read_grid(
 ) -> Result<usize, Refusal>
     ensures length { length grid.new ≡ length grid.old }
     ensures ok { IfOk result (λ n. n ≤ length grid.new) }
+    ensures said { IfErr result (λ refusal. refusal ≡ Said) }
 {
     let mut file = open_input(rt, path)?;
     read_parts(rt, &mut file, name, grid)
@@ -153,6 +156,7 @@ pub fn grid_argument(
 ) -> Result<usize, Refusal>
     ensures length { length grid.new ≡ length grid.old }
     ensures ok { IfOk result (λ n. n ≤ length grid.new) }
+    ensures said { IfErr result (λ refusal. refusal ≡ Said) }
 {
     let mut path = io::buffer();
     read_grid(rt, argument.read(rt, &mut path), name, grid)

@@ -1,5 +1,6 @@
 // The shape of a grid: its sizes, as `8x8`.
-ghost use Rattle.std.specs.Prelude.{◌≡◌, ◌≤◌, length, min};
+ghost use Rattle.std.specs.Prelude.{◌≡◌, ◌≤◌, length, min, IfErr};
+ghost use Rattle.tool_console.specs.declared.arguments.Refusal.TheVariants.{Said};
 
 use crate::arguments::{Refusal, refuse, word};
 use crate::numbers::Number;
@@ -58,7 +59,9 @@ fn sizes_in(text: &[u8]) -> Option<Sizes> {
 }
 
 // The shape that an argument is. If it is none, that is said, with the argument's name.
-pub fn shape_argument(rt: &HostRuntime, argument: &[u8], name: &str) -> Result<Sizes, Refusal> {
+pub fn shape_argument(rt: &HostRuntime, argument: &[u8], name: &str) -> Result<Sizes, Refusal>
+    ensures said { IfErr result (λ refusal. refusal ≡ Said) }
+{
     match sizes_in(word(argument)) {
         Some(sizes) => Ok(sizes),
         None => Err(refuse(

@@ -1,8 +1,13 @@
 // What no contract says.
-use crate::arguments::arguments;
+use crate::arguments::{Refusal, arguments, end, given_arguments, refuse};
+use crate::grids::{grid_argument, read_grid};
 use crate::numbers::{count_in, value_in};
 use crate::places::{Cell, Entry, Position};
 use crate::replies::Reply;
+use crate::shapes::shape_argument;
+use crate::texts::{fail, open_input, open_output, read_file};
+use std::alloc::AllocError;
+use std::io::{Error, ErrorKind};
 use std::test::Fail;
 
 #[test]
@@ -49,8 +54,45 @@ fn replies(rt: HostRuntime) -> Result<(), Fail> {
     Ok(())
 }
 
-// The arguments need no memory, and the program's own name is there.
+// What asks for memory gets it.
 #[test]
-fn memory(rt: HostRuntime) {
-    assert!(rt; !arguments(&rt).as_slice().is_empty());
+fn memory(rt: HostRuntime) -> Result<(), Fail> {
+    assert!(rt; !arguments(&rt)?.is_empty());
+    Ok(())
+}
+
+// The given arguments need no memory, and the program's own name is there.
+#[test]
+fn given(rt: HostRuntime) {
+    assert!(rt; !given_arguments(&rt).as_slice().is_empty());
+}
+
+// What cannot be taken has been said, and is no lack of memory.
+#[test]
+fn refusals(rt: HostRuntime) {
+    let mut text = [0u8; 4];
+    let mut grid = [0i32; 4];
+    let missing = Error::from(ErrorKind::NotFound);
+    assert_eq!(rt; refuse(&rt, "refused\n"), Refusal::Said);
+    assert_eq!(rt; fail(&rt, b"missing", &missing), Refusal::Said);
+    assert!(rt; matches!(open_input(&rt, b""), Err(Refusal::Said)));
+    assert!(rt; matches!(open_output(&rt, b""), Err(Refusal::Said)));
+    assert!(rt; matches!(read_file(&rt, b"", "RULE", &mut text), Err(Refusal::Said)));
+    assert!(rt; matches!(read_grid(&rt, b"", "GRID", &mut grid), Err(Refusal::Said)));
+    assert!(rt; matches!(shape_argument(&rt, b"8y8", "SHAPE"), Err(Refusal::Said)));
+    let given = given_arguments(&rt);
+    let read = match given.as_slice() {
+        [own, ..] => grid_argument(&rt, *own, "GRID", &mut grid),
+        [] => Ok(0),
+    };
+    assert_eq!(rt; read, Err(Refusal::Said));
+}
+
+// Only a lack of memory is an error of a program.
+#[test]
+fn ends(rt: HostRuntime) {
+    assert!(rt; end(Ok(())).is_ok());
+    assert!(rt; end(Err(Refusal::Said)).is_ok());
+    let lack = end(Err(Refusal::from(AllocError)));
+    assert!(rt; lack.is_err_and(|error| error.kind() == ErrorKind::OutOfMemory));
 }

@@ -1,5 +1,6 @@
 // Text that is written, and files that are opened and read.
-ghost use Rattle.std.specs.Prelude.{◌≤◌, length};
+ghost use Rattle.std.specs.Prelude.{◌≡◌, IfErr};
+ghost use Rattle.tool_console.specs.declared.arguments.Refusal.TheVariants.{Said};
 
 use crate::arguments::{Refusal, refuse};
 use std::fmt::Display;
@@ -77,7 +78,9 @@ fn words_of(text: &str) -> &str {
 }
 
 // Writes a line to standard error: what failed, as the caller names it, a colon and the error's text.
-pub fn fail(rt: &HostRuntime, what: &[u8], error: &Error) -> Refusal {
+pub fn fail(rt: &HostRuntime, what: &[u8], error: &Error) -> Refusal
+    ensures said { result ≡ Said }
+{
     complain_bytes(rt, what);
     complain(rt, ": ");
     if let Ok(text) = format!(in rt.alloc(); "{error}") {
@@ -94,6 +97,7 @@ fn opened<F: FnOnce(&str) -> Result<File>>(
     opening: F,
 ) -> std::result::Result<File, Refusal>
     requires { F.IsAlwaysCallable opening }
+    ensures said { IfErr result (λ refusal. refusal ≡ Said) }
 {
     if path.is_empty() {
         return Err(refuse(rt, "the name of a file is empty or too long\n"));
@@ -109,7 +113,9 @@ fn opened<F: FnOnce(&str) -> Result<File>>(
 }
 
 // Opens a file to read it, `-` for standard input.
-pub fn open_input(rt: &HostRuntime, path: &[u8]) -> std::result::Result<Source, Refusal> {
+pub fn open_input(rt: &HostRuntime, path: &[u8]) -> std::result::Result<Source, Refusal>
+    ensures said { IfErr result (λ refusal. refusal ≡ Said) }
+{
     if path == b"-".as_slice() {
         return Ok(Source::Standard(rt.stdin()));
     }
@@ -118,7 +124,9 @@ pub fn open_input(rt: &HostRuntime, path: &[u8]) -> std::result::Result<Source, 
 }
 
 // Opens a file to write it anew, `-` for standard output.
-pub fn open_output(rt: &HostRuntime, path: &[u8]) -> std::result::Result<Target, Refusal> {
+pub fn open_output(rt: &HostRuntime, path: &[u8]) -> std::result::Result<Target, Refusal>
+    ensures said { IfErr result (λ refusal. refusal ≡ Said) }
+{
     if path == b"-".as_slice() {
         return Ok(Target::Standard(rt.stdout()));
     }
@@ -132,7 +140,9 @@ pub fn read_file<'a>(
     path: &[u8],
     name: &str,
     room: &'a mut [u8],
-) -> std::result::Result<&'a [u8], Refusal> {
+) -> std::result::Result<&'a [u8], Refusal>
+    ensures said { IfErr result (λ refusal. refusal ≡ Said) }
+{
     let mut file = open_input(rt, path)?;
     let first = match file.read(room) {
         Ok(first) => first,

@@ -1,7 +1,7 @@
 use mathlib.Core.Path.{refl}
 use Rattle.run_admission.proofs.Results.{passed}
 use Rattle.band_planner.proofs.OpeningLaws.{answered}
-use Rattle.band_planner.proofs.PlanningLaws.{check_closed, check_far, check_taken, check_not_taken}
+use Rattle.band_planner.proofs.PlanningLaws.{check_closed, check_far, check_answered, check_not_taken}
 use Rattle.band_planner.proofs.planning.check_listed.Goals as goal
 
 pub returns-in_err-opened : goal.returns-in_err-opened
@@ -17,4 +17,4 @@ returns-then-not-plan_accepted c =
     check_not_taken c.open_rows.ensures c.in_ok-opened.was _ c.in_default.is _ c.plan_accepted.ensures c.if-not-plan_accepted.true-raw c.new.ensures
 
 pub returns : goal.returns
-returns c = check_taken c.open_rows.ensures c.in_ok-opened.was _ c.in_default.is _ c.plan_accepted.ensures c.if-not-plan_accepted.false-raw refl answered
+returns c = check_answered c.open_rows.ensures c.in_ok-opened.was _ c.in_default.is _ c.plan_accepted.ensures c.if-not-plan_accepted.false-raw refl answered
