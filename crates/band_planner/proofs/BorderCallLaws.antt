@@ -55,10 +55,12 @@ module _ {fit : Bool} {source ws ns sizes : List ℕ} {o : Result RowsOpened Ref
     pub borders_far : {e : Refusal} → rows.far ≡ Some e → BordersSource fit source sizes ws ns (Err e) ws' ns'
     borders_far {e} f = reply_is (ap (λ (g : Option Refusal). eqb (far_told g).number 0) f ∙ ne_eqb e.number 0 (open_is.refuses e f)) (ap (λ (g : Option Refusal). borders_in (Err (far_told g))) (sym f)) (numbered refl (open_is.refuses e f))
 
+    -- there is a border: any answer that tells it, and is no refusal without a number
     pub borders_answered : rows.far ≡ None → {r : Result Border Refusal} → borders_in r ≡ borders_in (Ok rows.border) → ((e : Refusal) → r ≡ Err e → e.number ≡ 0 → ⊥)
         → BordersSource fit source sizes ws ns r ws' ns'
     borders_answered f told n = reply_is (ap (λ (g : Option Refusal). eqb (far_told g).number 0) f) told n
 
+    -- the answer that the call gives
     pub borders_found : rows.far ≡ None → BordersSource fit source sizes ws ns (Ok rows.border) ws' ns'
     borders_found f = borders_answered f refl answered
 

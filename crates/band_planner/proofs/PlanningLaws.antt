@@ -99,10 +99,12 @@ module _ {fit : Bool} {source ws ns sizes : List ℕ} {o : Result RowsOpened Ref
     pub check_far : {e : Refusal} → rows.far ≡ Some e → (plan : List ℕ) → ChecksSource fit source sizes held plan ws ns (Err e) ws' ns'
     check_far {e} f plan = checks_as plan (is_far f ∙ sym (check_is program sizes held plan (far_is f) refl)) (numbered refl (open_is.refuses e f))
 
+    -- the plan is accepted: any answer that tells it, and is no refusal without a number
     pub check_answered : rows.far ≡ None → (plan : List ℕ) {t : Bool} → t ≡ plan_right rows.rows (border_of rows.border) held plan → not t ≡ false
         → {r : Result (Unit {0}) Refusal} → refusal_told r ≡ no_refusal → ((e : Refusal) → r ≡ Err e → e.number ≡ 0 → ⊥) → ChecksSource fit source sizes held plan ws ns r ws' ns'
     check_answered f plan {t} e q told n = checks_as plan (told ∙ sym (check_is program sizes held plan (none_far f) (fits_is plan e ∙ not-false t q))) n
 
+    -- the answer that the call gives
     pub check_taken : rows.far ≡ None → (plan : List ℕ) {t : Bool} → t ≡ plan_right rows.rows (border_of rows.border) held plan → not t ≡ false
         → (u : Unit {0}) → ChecksSource fit source sizes held plan ws ns (Ok u) ws' ns'
     check_taken f plan e q u = check_answered f plan e q refl answered
